@@ -1,0 +1,3 @@
+pub mod Identities
+pub mod NameExamples
+pub mod Sameness

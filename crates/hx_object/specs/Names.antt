@@ -1,0 +1,109 @@
+-- The grammar of names, of the keys of labels and annotations, and of label values, over bytes.
+-- The rules are those of the Kubernetes API ("Object Names and IDs", "Labels and Selectors"), but where a line says otherwise.
+--     is_dns_label          names of namespaces and of anchors
+--     is_dns_subdomain      names of the other kinds but Role and RoleBinding
+--     is_role_name          names of Roles and RoleBindings
+--     is_qualified_part     the name in a key, and a label value that isn't empty
+--     is_label_key, is_annotation_key, is_label_value
+--     is_name_of kind       the grammar of the kind's names
+use Rattle.std.specs.Prelude.{ℕ, ◌-◌, Bool, true, false, not, ◌&&◌, ◌||◌, nat_le, ◌==◌, List, [], ◌∷◌, length, slice_index, codes, if◌then◌else◌}
+use Rattle.std.specs.List.{list_all, list_any, slice_split, before_first, after_first}
+use Rattle.std.specs.Str.{bytes_eq}
+use Rattle.hx_object.specs.declared.kind.Kind.{Kind}
+use Rattle.hx_object.specs.declared.kind.Kind.TheVariants.{Namespace, SubnamespaceAnchor, Role, RoleBinding}
+
+-- `a` to `z`
+abbrev pub is_lower : ℕ → Bool
+is_lower byte = nat_le 97 byte && nat_le byte 122
+
+-- `A` to `Z`
+abbrev pub is_upper : ℕ → Bool
+is_upper byte = nat_le 65 byte && nat_le byte 90
+
+-- `0` to `9`
+abbrev pub is_digit : ℕ → Bool
+is_digit byte = nat_le 48 byte && nat_le byte 57
+
+-- a lowercase letter, a digit or a dash
+abbrev pub is_dns_byte : ℕ → Bool
+is_dns_byte byte = is_lower byte || is_digit byte || byte == 45
+
+-- between so many bytes and so many
+abbrev pub has_length : ℕ → ℕ → List ℕ → Bool
+has_length least most text = nat_le least (length text) && nat_le (length text) most
+
+-- the first and the last byte pass the test; of a text that isn't empty
+abbrev pub has_ends : (ℕ → Bool) → List ℕ → Bool
+has_ends passes text = passes (slice_index text 0) && passes (slice_index text (length text - 1))
+
+-- no dash; of the bytes of a label, a letter or a digit
+abbrev pub is_dns_end : ℕ → Bool
+is_dns_end byte = not (byte == 45)
+
+-- 1 to 63 lowercase letters, digits and dashes, with no dash at either end
+unfoldable pub is_dns_label : List ℕ → Bool
+is_dns_label name = has_length 1 63 name && (list_all is_dns_byte name && has_ends is_dns_end name)
+
+-- a part of a subdomain, whose length alone isn't bounded
+abbrev pub is_dns_part : (ℕ → Bool) → List ℕ → Bool
+is_dns_part is_letter [] = false
+is_dns_part is_letter (byte ∷ part) = list_all (λ b. is_letter b || is_digit b || b == 45) (byte ∷ part) && has_ends is_dns_end (byte ∷ part)
+
+-- 1 to 253 bytes: parts joined by points
+abbrev pub is_subdomain : (ℕ → Bool) → List ℕ → Bool
+is_subdomain is_letter name = has_length 1 253 name && list_all (is_dns_part is_letter) (slice_split (λ byte. byte == 46) name)
+
+-- of lowercase letters
+abbrev pub is_dns_subdomain : List ℕ → Bool
+is_dns_subdomain name = is_subdomain is_lower name
+
+-- from `!` to `~`, and neither `/` nor `%`
+abbrev pub is_role_byte : ℕ → Bool
+is_role_byte byte = nat_le 33 byte && nat_le byte 126 && not (byte == 47) && not (byte == 37)
+
+-- 1 to 253 such bytes, and neither `.` nor `..`
+abbrev pub is_role_name : List ℕ → Bool
+is_role_name name = has_length 1 253 name && list_all is_role_byte name && not (bytes_eq name (codes ".")) && not (bytes_eq name (codes ".."))
+
+-- a letter or a digit
+abbrev pub is_alphanumeric : ℕ → Bool
+is_alphanumeric byte = is_lower byte || is_upper byte || is_digit byte
+
+-- a letter, a digit, `-`, `_` or `.`
+abbrev pub is_qualified_byte : ℕ → Bool
+is_qualified_byte byte = is_alphanumeric byte || byte == 45 || byte == 95 || byte == 46
+
+-- 1 to 63 letters, digits, `-`, `_` and `.`, with a letter or digit at either end
+abbrev pub is_qualified_part : List ℕ → Bool
+is_qualified_part name = has_length 1 63 name && list_all is_qualified_byte name && has_ends is_alphanumeric name
+
+-- a `/` is in it
+abbrev pub has_slash : List ℕ → Bool
+has_slash key = list_any (λ byte. byte == 47) key
+
+-- a name, or a subdomain of such letters, `/` and a name
+abbrev pub is_key : (ℕ → Bool) → List ℕ → Bool
+is_key is_letter key =
+    if has_slash key then is_subdomain is_letter (before_first (λ byte. byte == 47) key) && is_qualified_part (after_first (λ byte. byte == 47) key)
+    else is_qualified_part key
+
+-- with a subdomain of lowercase letters, if any
+abbrev pub is_label_key : List ℕ → Bool
+is_label_key key = is_key is_lower key
+
+-- the subdomain of an annotation's key may have uppercase letters
+abbrev pub is_annotation_key : List ℕ → Bool
+is_annotation_key key = is_key (λ byte. is_lower byte || is_upper byte) key
+
+-- empty, or as the name in a key
+abbrev pub is_label_value : List ℕ → Bool
+is_label_value [] = true
+is_label_value (byte ∷ value) = is_qualified_part (byte ∷ value)
+
+-- the grammar of a kind's names. For Services it is wider than in Kubernetes
+abbrev pub is_name_of : Kind → List ℕ → Bool
+is_name_of Namespace name = is_dns_label name
+is_name_of SubnamespaceAnchor name = is_dns_label name
+is_name_of Role name = is_role_name name
+is_name_of RoleBinding name = is_role_name name
+is_name_of _ name = is_dns_subdomain name

@@ -1,0 +1,70 @@
+// The kinds of objects.
+ghost use Rattle.std.specs.Prelude.{◌≡◌};
+ghost use Rattle.hx_object.specs.Kinds.{number_of, resource_of};
+
+/// A kind of object: a resource of the Kubernetes core, RBAC or networking API, or of HNC's own group `hnc.x-k8s.io/v1alpha2`.
+///
+/// The order of the variants is the order of the kinds' numbers.
+#[derive(Clone, Copy, Debug, PartialEq, Eq, PartialOrd, Ord)]
+pub enum Kind {
+    Namespace,
+    HncConfiguration,
+    HierarchyConfiguration,
+    SubnamespaceAnchor,
+    HierarchicalResourceQuota,
+    Role,
+    RoleBinding,
+    ConfigMap,
+    Secret,
+    NetworkPolicy,
+    LimitRange,
+    Pod,
+    Service,
+    PersistentVolumeClaim,
+}
+
+impl Kind {
+    /// The kind's number, 1 to 14, by which identities are ordered and stored rows begin.
+    pub fn number(self) -> u8
+        ensures { result ≡ number_of self }
+    {
+        match self {
+            Kind::Namespace => 1,
+            Kind::HncConfiguration => 2,
+            Kind::HierarchyConfiguration => 3,
+            Kind::SubnamespaceAnchor => 4,
+            Kind::HierarchicalResourceQuota => 5,
+            Kind::Role => 6,
+            Kind::RoleBinding => 7,
+            Kind::ConfigMap => 8,
+            Kind::Secret => 9,
+            Kind::NetworkPolicy => 10,
+            Kind::LimitRange => 11,
+            Kind::Pod => 12,
+            Kind::Service => 13,
+            Kind::PersistentVolumeClaim => 14,
+        }
+    }
+
+    /// The name of the kind's resource as messages give it: the plural, and behind a point the API group where that isn't the core group.
+    pub fn resource(self) -> &'static str
+        ensures { result.now ≡ resource_of self }
+    {
+        match self {
+            Kind::Namespace => "namespaces",
+            Kind::HncConfiguration => "hncconfigurations.hnc.x-k8s.io",
+            Kind::HierarchyConfiguration => "hierarchyconfigurations.hnc.x-k8s.io",
+            Kind::SubnamespaceAnchor => "subnamespaceanchors.hnc.x-k8s.io",
+            Kind::HierarchicalResourceQuota => "hierarchicalresourcequotas.hnc.x-k8s.io",
+            Kind::Role => "roles.rbac.authorization.k8s.io",
+            Kind::RoleBinding => "rolebindings.rbac.authorization.k8s.io",
+            Kind::ConfigMap => "configmaps",
+            Kind::Secret => "secrets",
+            Kind::NetworkPolicy => "networkpolicies.networking.k8s.io",
+            Kind::LimitRange => "limitranges",
+            Kind::Pod => "pods",
+            Kind::Service => "services",
+            Kind::PersistentVolumeClaim => "persistentvolumeclaims",
+        }
+    }
+}

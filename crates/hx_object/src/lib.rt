@@ -1,0 +1,25 @@
+//! Kubernetes objects as values: their kinds, names, identities and contents.
+//!
+//! Contracts see a [`Text`] as its bytes, a [`List`] as the list of its items and [`Pairs`] as a list of pairs in ascending order of keys.
+//! An [`Object`] and its parts are plain records of these, so that a clause compares two of them by `≡`.
+#![tactic(auto)]
+
+mod kind;
+mod list;
+mod memory;
+mod names;
+mod object;
+mod pairs;
+#[cfg(test)]
+mod tests;
+mod text;
+
+pub use kind::Kind;
+pub use list::List;
+pub use memory::NoMemory;
+pub use names::is_dns_label;
+pub use object::{
+    AnchorStatus, Condition, Container, Id, Limit, Mode, ModeEntry, Need, Object, Payload, Usage,
+};
+pub use pairs::Pairs;
+pub use text::Text;

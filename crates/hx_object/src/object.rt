@@ -1,0 +1,173 @@
+// Objects and their identities.
+ghost use Rattle.std.specs.Prelude.{◌≡◌, IfOk, IsTrue, ◌↔◌};
+ghost use Rattle.hx_object.specs.Order.{id_cmp};
+
+use crate::{Kind, List, NoMemory, Pairs, Text};
+use std::cmp::Ordering;
+
+/// What an object is found by. `ns` is empty for the kinds that lie in no namespace.
+///
+/// Identities are ordered by kind number, namespace and name.
+#[derive(Clone, PartialEq, Eq, PartialOrd, Ord, Drop)]
+pub struct Id {
+    pub kind: Kind,
+    pub ns: Text,
+    pub name: Text,
+}
+
+/// A stored object, or one that is to be stored.
+#[derive(Clone, PartialEq, Eq, Drop)]
+pub struct Object {
+    pub id: Id,
+    pub labels: Pairs,
+    pub annotations: Pairs,
+    pub payload: Payload,
+    /// The version of the write that stored it, from 1 on. It is 0 before that.
+    pub version: u64,
+}
+
+/// What an object holds beside its metadata, by its kind.
+#[derive(Clone, PartialEq, Eq, Drop)]
+pub enum Payload {
+    Namespace {
+        terminating: bool,
+    },
+    /// Of an HNCConfiguration.
+    Config {
+        entries: List<ModeEntry>,
+    },
+    /// Of a HierarchyConfiguration: what was asked for, and the status that is reported.
+    Hierarchy {
+        parent: Option<Text>,
+        cascade: bool,
+        children: List<Text>,
+        conditions: List<Condition>,
+    },
+    /// Of a SubnamespaceAnchor.
+    Anchor {
+        status: Option<AnchorStatus>,
+    },
+    /// Of a HierarchicalResourceQuota.
+    Quota {
+        hard: List<Limit>,
+        status: List<Usage>,
+    },
+    /// Of every other kind: its members as compact JSON text, and what was read from them.
+    Plain {
+        members: Text,
+        need: Need,
+    },
+}
+
+/// How objects of one resource are propagated.
+#[derive(Clone, PartialEq, Eq, Drop)]
+pub struct ModeEntry {
+    pub group: Text,
+    pub resource: Text,
+    pub mode: Mode,
+}
+
+/// HNC's synchronization modes.
+#[derive(Clone, Copy, Debug, PartialEq, Eq)]
+pub enum Mode {
+    Propagate,
+    AllowPropagate,
+    Remove,
+    Ignore,
+}
+
+/// What is reported of a namespace's place in the tree.
+#[derive(Clone, Copy, Debug, PartialEq, Eq)]
+pub enum Condition {
+    InCycle,
+    ParentMissing,
+    IllegalParent,
+    Ancestor,
+    AnchorMissing,
+}
+
+/// What is reported of a SubnamespaceAnchor and the namespace that it asks for.
+#[derive(Clone, Copy, Debug, PartialEq, Eq)]
+pub enum AnchorStatus {
+    Missing,
+    Ok,
+    Conflict,
+    Forbidden,
+}
+
+/// A limit of a quota, as it was written and in thousandths.
+#[derive(Clone, PartialEq, Eq, Drop)]
+pub struct Limit {
+    pub resource: Text,
+    pub written: Text,
+    pub amount: u64,
+}
+
+/// A reported usage, in thousandths.
+#[derive(Clone, PartialEq, Eq, Drop)]
+pub struct Usage {
+    pub resource: Text,
+    pub hard: u64,
+    pub used: u128,
+}
+
+/// What the members of a Pod, a claim or a Secret say for quotas and propagation. It is empty for the other kinds.
+#[derive(Clone, PartialEq, Eq, Drop)]
+pub struct Need {
+    /// Whether a Pod has ended.
+    pub finished: bool,
+    /// Whether a Secret is a service account's token.
+    pub token: bool,
+    /// A claim's storage, in thousandths of bytes.
+    pub storage: u64,
+    pub containers: List<Container>,
+}
+
+/// A container's `requests.cpu`, `requests.memory`, `limits.cpu` and `limits.memory`, in thousandths.
+#[derive(Clone, PartialEq, Eq, Drop)]
+pub struct Container {
+    pub init: bool,
+    pub asks: [Option<u64>; 4],
+}
+
+impl Id {
+    /// The order of identities.
+    pub fn compare(&self, other: &Id) -> Ordering
+        ensures { result ≡ id_cmp self.now other.now }
+    {
+        self.cmp(other)
+    }
+
+    /// Whether the two are one identity.
+    pub fn is_same(&self, other: &Id) -> bool
+        ensures { IsTrue result ↔ (self.now ≡ other.now) }
+    {
+        self == other
+    }
+}
+
+impl Payload {
+    /// Whether the two are one payload.
+    #[tactic(auto, using(crate::proofs::Sameness::same_payload_from))]
+    pub fn is_same(&self, other: &Payload) -> bool
+        ensures { IsTrue result ↔ (self.now ≡ other.now) }
+    {
+        self == other
+    }
+}
+
+impl Object {
+    /// Another object that is equal to this one.
+    pub fn copy(&self) -> Result<Object, NoMemory>
+        ensures { IfOk result (λ o. o ≡ self.now) }
+    {
+        Ok(self.clone()?)
+    }
+
+    /// Whether the two are one object, versions included.
+    pub fn is_same(&self, other: &Object) -> bool
+        ensures { IsTrue result ↔ (self.now ≡ other.now) }
+    {
+        self.eq(other)
+    }
+}

@@ -1,0 +1,104 @@
+// Labels and annotations.
+ghost use Rattle.std.specs.Prelude.{◌≡◌, ◌↔◌, IsTrue, option_copied, []};
+ghost use Rattle.std.specs.Cmp.Lexicographic.{pointwise};
+ghost use Rattle.hx_object.specs.Pairs.{has_ascending_keys, value_of, same_pair, same_pairs_law, same_pairs_partial};
+
+use crate::Text;
+use std::alloc::{AllocError, Global};
+use std::marker::Model;
+
+/// Labels or annotations: pairs of a key and a value, in ascending order of keys by their bytes, each key once.
+///
+/// Contracts see the list of the pairs.
+#[derive(Drop)]
+pub struct Pairs {
+    items: Vec<(Text, Text)>,
+}
+
+impl Model for Pairs {
+    ghost use Rattle.std.specs.Prelude.{◌≡◌, List, ℕ, true};
+    ghost use Rattle.hx_object.specs.Pairs.{has_ascending_keys};
+
+    ghost Value = { List (List ℕ × List ℕ) };
+
+    ghost view = { λ p. p.items.items };
+
+    ghost invariant = { λ p. has_ascending_keys p.items.items ≡ true };
+}
+
+impl Pairs {
+    /// No pairs.
+    pub fn new(alloc: Global) -> Pairs
+        ensures { result ≡ [] }
+    {
+        Pairs {
+            items: Vec::new(alloc),
+        }
+    }
+
+    /// The pairs of a vector that is in order.
+    pub fn of(items: Vec<(Text, Text)>) -> Pairs
+        requires { IsTrue (has_ascending_keys items.items) }
+        ensures { result ≡ items.items }
+    {
+        Pairs { items }
+    }
+
+    /// The pairs in order.
+    pub fn as_slice(&self) -> &[(Text, Text)]
+        ensures pairs { result.now ≡ self.now }
+        ensures ascends { IsTrue (has_ascending_keys self.now) }
+    {
+        self.items.as_slice()
+    }
+
+    /// The value of a key.
+    pub fn get(&self, key: &str) -> Option<&Text>
+        ensures { option_copied result ≡ value_of self.now key.now }
+    {
+        value_in(self.items.as_slice(), key)
+    }
+
+    /// Whether the two are the same pairs.
+    #[tactic(auto, using(crate::proofs::Sameness::same_pairs_from))]
+    pub fn is_same(&self, other: &Pairs) -> bool
+        ensures { IsTrue result ↔ (self.now ≡ other.now) }
+    {
+        self == other
+    }
+}
+
+fn value_in<'a>(pairs: &'a [(Text, Text)], key: &str) -> Option<&'a Text>
+    ensures { option_copied result ≡ value_of pairs.now key.now }
+{
+    for pair in pairs {
+        if key == pair.0.as_str() {
+            return Some(&pair.1);
+        }
+    }
+    None
+}
+
+impl Clone for Pairs {
+    ghost is_clone = { λ v w. w ≡ v };
+
+    fn clone(&self) -> Result<Pairs, AllocError> {
+        Ok(Pairs {
+            items: self.items.clone()?,
+        })
+    }
+}
+
+impl PartialEq for Pairs {
+    ghost eq = { pointwise same_pair };
+
+    ghost laws = { same_pairs_partial };
+
+    fn eq(&self, other: &Self) -> bool {
+        self.items.as_slice() == other.items.as_slice()
+    }
+}
+
+impl Eq for Pairs {
+    ghost laws = { same_pairs_law };
+}
