@@ -1,0 +1,82 @@
+-- What a keeper of rows holds, and what its calls do to it.
+--     Rows, Kept            the rows by their keys;  with the schema and the last version
+--     row_of_entry, row_after      a row of the map;  the first one behind a key
+--     with_batch            what is held after a batch
+--     IsBatch, MayFollow    what a batch has to be;  and over what is held
+--     Lands                 the batch landed, where the rows are told
+--     meta_of               what `meta` says of what is held
+use Rattle.std.specs.Prelude.{◌≡◌, ℕ, ◌+◌, ◌-◌, ◌^◌, ◌≤◌, true, List, [], ◌∷◌, ◌++◌, IsUtf8, find as find_first}
+use Rattle.std.specs.Option.{option_map}
+use Rattle.std.specs.Ordering.{is_lt, eq_by_cmp}
+use Rattle.std.specs.declared.option.Option.{Option}
+use Rattle.std.specs.List.{AllByRecursion, IsDistinct}
+use Rattle.std.specs.FinMap as map
+use Rattle.hx_object.specs.Texts.{bytes_cmp}
+use Rattle.hx_ports.specs.declared.keeper.Row.{Row}
+use Rattle.hx_ports.specs.declared.keeper.Batch.{Batch}
+use Rattle.hx_ports.specs.declared.keeper.Meta.{Meta}
+
+-- the rows, from keys in the order of bytes to versions and bodies
+abbrev pub Rows : Type 0
+Rows = map.FinMap bytes_cmp (ℕ × List ℕ)
+
+-- what a keeper holds
+pub record Kept : Type 0 where
+  pub schema : ℕ
+  pub version : ℕ
+  pub rows : Rows
+
+-- a row, by its key and what the map has there
+abbrev pub row_of_entry : List ℕ × (ℕ × List ℕ) → Row
+row_of_entry e = record { key = e.0; version = e.1.0; body = e.1.1 }
+
+-- the first row whose key is greater
+abbrev pub row_after : List ℕ → Kept → Option Row
+row_after after kept = option_map row_of_entry (find_first (λ e. is_lt (bytes_cmp after e.0)) (map.entries kept.rows))
+
+abbrev pub with_puts : List Row → Rows → Rows
+with_puts [] rows = rows
+with_puts (put ∷ puts) rows = with_puts puts (map.insert rows put.key (put.version, put.body))
+
+abbrev pub with_cuts : List (List ℕ) → Rows → Rows
+with_cuts [] rows = rows
+with_cuts (cut ∷ cuts) rows = with_cuts cuts (map.remove rows cut)
+
+-- what is held after a batch: its version, and the rows with the puts and without the cuts
+abbrev pub with_batch : Batch → Kept → Kept
+with_batch batch kept = record { schema = kept.schema; version = batch.version; rows = with_cuts batch.cuts (with_puts batch.puts kept.rows) }
+
+-- the keys of rows
+abbrev pub keys_of : List Row → List (List ℕ)
+keys_of [] = []
+keys_of (row ∷ rows) = row.key ∷ keys_of rows
+
+-- the greatest version
+abbrev pub greatest_version : ℕ
+greatest_version = 2 ^ 63 - 1
+
+-- a row whose key and body are texts, and whose version isn't too great
+pub record IsRow (row : Row) : Type 0 where
+  pub key : IsUtf8 row.key
+  pub body : IsUtf8 row.body
+  pub version : row.version ≤ greatest_version
+
+-- a batch of such rows, no key of which stands twice
+pub record IsBatch (batch : Batch) : Type 0 where
+  pub distinct : IsDistinct (eq_by_cmp bytes_cmp) (keys_of batch.puts ++ batch.cuts)
+  pub version : batch.version ≤ greatest_version
+  pub puts : AllByRecursion IsRow batch.puts
+  pub cuts : AllByRecursion IsUtf8 batch.cuts
+
+-- a batch may be put to a keeper that holds this: its version is the next one, and what it cuts is there
+pub record MayFollow (batch : Batch) (kept : Kept) : Type 0 where
+  pub next : batch.version ≡ kept.version + 1
+  pub there : AllByRecursion (λ cut. map.contains_key kept.rows cut ≡ true) batch.cuts
+
+-- the batch landed, where the rows are told
+abbrev pub Lands : Batch → Option Kept → Option Kept → Type 0
+Lands batch old new = new ≡ option_map (with_batch batch) old
+
+-- what `meta` says of what is held
+abbrev pub meta_of : Kept → Meta
+meta_of kept = record { schema = kept.schema; version = kept.version; rows = map.len kept.rows }

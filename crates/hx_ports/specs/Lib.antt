@@ -1,0 +1,4 @@
+pub mod Calls
+pub mod Causes
+pub mod Keeping
+pub mod Rows

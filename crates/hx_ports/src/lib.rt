@@ -1,0 +1,20 @@
+//! The outside as traits with meaning: sources and sinks of bytes, and keepers of rows.
+//!
+//! Contracts see of each port what it holds, where it tells that, and counts of its own failures. A fault may be answered only where its count rose.
+//!
+//! `Std..` ports stand on any reader and writer. `Sure..` ports are in memory and never fail by themselves, and `Mem..` ports fail at the calls that a test names.
+#![tactic(auto)]
+
+mod keeper;
+mod mem;
+mod std_stream;
+mod stream;
+mod sure;
+#[cfg(test)]
+mod tests;
+
+pub use keeper::{Batch, KeepFault, Keeper, Meta, Row};
+pub use mem::{FailCommit, MemKeeper, MemSink, MemSource};
+pub use std_stream::{StdSink, StdSource};
+pub use stream::{ReadFault, Sink, Source, WriteFault};
+pub use sure::{SureKeeper, SureSink, SureSource};
