@@ -1,0 +1,5 @@
+pub mod Rows
+pub mod Replying
+pub mod Storing
+pub mod Histories
+pub mod Examples

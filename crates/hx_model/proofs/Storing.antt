@@ -1,0 +1,116 @@
+-- The stored rows of a state after an object is put.
+use Rattle.std.proofs.Common.{◌≡◌, ℕ, ◌+◌, ◌/◌, ◌%◌, Bool, true, false, cond, List, [], ◌∷◌, ◌++◌, map, Some, refl, sym, ap, ◌∙◌, arith, eq-eqb, true≢false, ◌==◌}
+use Rattle.std.specs.declared.cmp.Ordering.{Ordering}
+use Rattle.std.specs.declared.cmp.Ordering.TheVariants.{Less, Equal, Greater}
+use Rattle.std.specs.List.{AllByRecursion}
+use Rattle.std.specs.Cmp.{tied_itself}
+use Rattle.std.specs.Cmp.Lexicographic.{nat_list_cmp_total}
+use Rattle.std.specs.Ordering.{eq_by_cmp, is_eq}
+use Rattle.std.specs.FinMap as finite
+use Rattle.std.specs.FinMap.{find, IsAntisymmetric, nat_cmp-IsAntisymmetric, slice_cmp-IsAntisymmetric, same_map, get-from_entries, get-insert}
+use Rattle.std.specs.FinMap.Entries.{by_order}
+use Rattle.std.specs.Prelude.{T}
+use Rattle.hx_object.specs.Kinds.{number_of}
+use Rattle.hx_object.specs.Order.{id_cmp}
+use Rattle.hx_object.specs.Texts.{bytes_cmp}
+use Rattle.hx_object.specs.declared.object.Id.{Id}
+use Rattle.hx_object.specs.declared.object.Object.{Object}
+use Rattle.hx_model.specs.State.{Rows, put, rows_from}
+use Rattle.hx_model.specs.Texts.{key_text, object_text, stored_entry, rows_of_objects}
+use Rattle.hx_model.proofs.Rows.{id_total, exact_ids, same_kind}
+
+-- ---- keys
+
+-- a namespace in a key ends before the next slash
+abbrev pub HasNoSlash : List ℕ → Type 0
+HasNoSlash bytes = AllByRecursion (λ byte. (byte == 47) ≡ false) bytes
+
+not_slash : (byte : ℕ) → (byte == 47) ≡ false → byte ≡ 47 → ⊥
+not_slash byte other is = true≢false (sym (eq-eqb byte 47 is) ∙ other)
+
+same_parts : (xs ys us vs : List ℕ) → HasNoSlash xs → HasNoSlash ys → xs ++ (47 ∷ us) ≡ ys ++ (47 ∷ vs) → (xs ≡ ys) × (us ≡ vs)
+same_parts [] [] us vs p q e = (refl, cc)
+same_parts [] (y ∷ ys) us vs p q e = absurd (not_slash y q.0 (let h : y ≡ 47 = cc in h))
+same_parts (x ∷ xs) [] us vs p q e = absurd (not_slash x p.0 (let h : x ≡ 47 = cc in h))
+same_parts (x ∷ xs) (y ∷ ys) us vs p q e =
+    let head : x ≡ y = cc in
+    let tail : xs ++ (47 ∷ us) ≡ ys ++ (47 ∷ vs) = cc in
+    let rest = same_parts xs ys us vs p.1 q.1 tail in
+    (λ i. head i ∷ rest.0 i, rest.1)
+
+-- keys tell identities apart
+pub key_text-injective : (a b : Id) → HasNoSlash a.ns → HasNoSlash b.ns → key_text a ≡ key_text b → a ≡ b
+unfolding key_text
+key_text-injective a b p q e =
+    let m = number_of a.kind in
+    let n = number_of b.kind in
+    let whole : (48 + m / 10) ∷ (48 + m % 10) ∷ 47 ∷ (a.ns ++ (47 ∷ a.name)) ≡ (48 + n / 10) ∷ (48 + n % 10) ∷ 47 ∷ (b.ns ++ (47 ∷ b.name)) = e in
+    let tens : 48 + m / 10 ≡ 48 + n / 10 = cc in
+    let ones : 48 + m % 10 ≡ 48 + n % 10 = cc in
+    let rest : a.ns ++ (47 ∷ a.name) ≡ b.ns ++ (47 ∷ b.name) = cc in
+    let kinds = same_kind a.kind b.kind (omega arith) in
+    let parts = same_parts a.ns b.ns a.name b.name p q rest in
+    λ i. record { kind = kinds i; ns = parts.0 i; name = parts.1 i }
+
+-- ---- rows
+
+pub All-put : (P : Object → Type 0) (x : Object) (rows : Rows) → P x → AllByRecursion P rows → AllByRecursion P (put x rows)
+All-put P x [] p all = (p, tt)
+All-put P x (y ∷ rows) p all =
+    elim (id_cmp x.id y.id) as (λ o. AllByRecursion P (by_order o (x ∷ y ∷ rows) (x ∷ rows) (y ∷ put x rows))) [
+      | Less ↦ (p, all)
+      | Equal ↦ (p, all.1)
+      | Greater ↦ (all.0, All-put P x rows p all.1)
+    ]
+
+pub All-rows_from : (P : Object → Type 0) (xs : List Object) → AllByRecursion P xs → AllByRecursion P (rows_from xs)
+All-rows_from P [] all = tt
+All-rows_from P (x ∷ xs) all = All-put P x (rows_from xs) all.0 (All-rows_from P xs all.1)
+
+abbrev pub IsKeyed : Object → Type 0
+IsKeyed x = HasNoSlash x.id.ns
+
+same_bytes : IsAntisymmetric bytes_cmp
+same_bytes = slice_cmp-IsAntisymmetric nat_cmp-IsAntisymmetric
+
+shadowed : {A : Type 0} (b : Bool) (x y z : A) → cond b x z ≡ cond b x (cond b y z)
+shadowed true x y z = refl
+shadowed false x y z = refl
+
+swapped : {A : Type 0} (a b : Bool) (x y z : A) → (T a → T b → ⊥) → cond a x (cond b y z) ≡ cond b y (cond a x z)
+swapped true true x y z apart = absurd (apart tt tt)
+swapped true false x y z apart = refl
+swapped false b x y z apart = refl
+
+equal : (r : Ordering) → T (is_eq r) → r ≡ Equal
+equal Less p = absurd p
+equal Equal p = refl
+equal Greater p = absurd p
+
+greater_not_equal : (r : Ordering) → r ≡ Greater → r ≡ Equal → ⊥
+greater_not_equal r p q = cc
+
+-- what a look-up by key finds after an object is put
+find_stored-put : (q : List ℕ) (x : Object) (rows : Rows) → IsKeyed x → AllByRecursion IsKeyed rows
+    → find bytes_cmp q (map stored_entry (put x rows)) ≡ cond (eq_by_cmp bytes_cmp q (key_text x.id)) (Some (x.version, object_text x)) (find bytes_cmp q (map stored_entry rows))
+find_stored-put q x [] p all = refl
+find_stored-put q x (y ∷ rows) p all =
+    let F = find bytes_cmp q (map stored_entry rows) in
+    elim (id_cmp x.id y.id) as (λ r. id_cmp x.id y.id ≡ r → find bytes_cmp q (map stored_entry (by_order r (x ∷ y ∷ rows) (x ∷ rows) (y ∷ put x rows)))
+    ≡ cond (eq_by_cmp bytes_cmp q (key_text x.id)) (Some (x.version, object_text x)) (cond (eq_by_cmp bytes_cmp q (key_text y.id)) (Some (y.version, object_text y)) F)) [
+      | Less ↦ λ is. refl
+      | Equal ↦ λ is.
+          shadowed (eq_by_cmp bytes_cmp q (key_text x.id)) (Some (x.version, object_text x)) (Some (y.version, object_text y)) F
+          ∙ ap (λ id. cond (eq_by_cmp bytes_cmp q (key_text x.id)) (Some (x.version, object_text x)) (cond (eq_by_cmp bytes_cmp q (key_text id)) (Some (y.version, object_text y)) F)) (exact_ids x.id y.id is)
+      | Greater ↦ λ is.
+          ap (cond (eq_by_cmp bytes_cmp q (key_text y.id)) (Some (y.version, object_text y))) (find_stored-put q x rows p all.1)
+          ∙ swapped (eq_by_cmp bytes_cmp q (key_text y.id)) (eq_by_cmp bytes_cmp q (key_text x.id)) (Some (y.version, object_text y)) (Some (x.version, object_text x)) F
+          (λ a b. greater_not_equal _ is (sym (ap (id_cmp x.id) (key_text-injective x.id y.id p all.0 (sym (same_bytes q (key_text x.id) (equal _ b)) ∙ same_bytes q (key_text y.id) (equal _ a)))) ∙ tied_itself id_total x.id))
+    ] refl
+
+-- to put an object is to insert its row
+pub rows_of_objects-put : (x : Object) (rows : Rows) → IsKeyed x → AllByRecursion IsKeyed rows
+    → rows_of_objects (put x rows) ≡ finite.insert (rows_of_objects rows) (key_text x.id) (x.version, object_text x)
+rows_of_objects-put x rows p all = same_map nat_list_cmp_total same_bytes _ _ (λ q.
+    get-from_entries nat_list_cmp_total _ q ∙ find_stored-put q x rows p all
+    ∙ sym (get-insert nat_list_cmp_total _ (key_text x.id) (x.version, object_text x) q ∙ ap (cond (eq_by_cmp bytes_cmp q (key_text x.id)) (Some (x.version, object_text x))) (get-from_entries nat_list_cmp_total _ q)))

@@ -1,0 +1,6 @@
+pub mod First
+pub mod State
+pub mod Texts
+pub mod Replies
+pub mod Answers
+pub mod Machine

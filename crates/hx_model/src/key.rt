@@ -1,0 +1,35 @@
+// The keys of reconcilers' work, and what they write.
+use hx_object::{Id, Kind, Object, Text};
+
+/// A place that a reconciler looks after.
+#[derive(Drop)]
+pub enum Key {
+    /// The copy of a kind and name in a namespace.
+    Copy { ns: Text, kind: Kind, name: Text },
+    /// The tree labels of a namespace.
+    Tree { ns: Text },
+    /// The reports in a namespace's HierarchyConfiguration.
+    Report { ns: Text },
+    /// The subnamespace that an anchor asks for.
+    Child { ns: Text, name: Text },
+    /// The status of an anchor.
+    Anchor { ns: Text, name: Text },
+    /// The status of a quota.
+    Used { ns: Text, name: Text },
+    /// The removal of a terminating namespace.
+    Purge { ns: Text },
+}
+
+/// An identity that a write rests on, with its version when it was read, or `None` where it wasn't there.
+#[derive(Drop)]
+pub struct Guard {
+    pub id: Id,
+    pub version: Option<u64>,
+}
+
+/// A change of the stored objects.
+#[derive(Drop)]
+pub enum Write {
+    Put(Object),
+    Cut(Id),
+}

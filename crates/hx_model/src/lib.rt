@@ -1,0 +1,12 @@
+//! Requests, their answers, and the machine that gives them.
+//!
+//! The types here are what a cluster is asked and answers. The definitions in `specs/` say what it has to answer: states and their rows, the answer to each ask, the worlds and entries of the machine, and the texts of rows and replies.
+#![tactic(auto)]
+
+mod ask;
+mod key;
+mod refusal;
+
+pub use ask::{Answer, Ask};
+pub use key::{Guard, Key, Write};
+pub use refusal::Refusal;
