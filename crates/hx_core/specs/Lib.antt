@@ -1,0 +1,5 @@
+pub mod Standing
+pub mod Starting
+pub mod Serving
+pub mod Batches
+pub mod Inside

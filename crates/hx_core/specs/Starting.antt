@@ -1,0 +1,30 @@
+-- On which keepers a cluster starts.
+use Rattle.std.specs.Prelude.{◌≡◌, ◌≤◌, ℕ, Bool, true, false, not, ◌||◌, ◌==◌, Option}
+use Rattle.hx_ports.specs.Keeping.{Kept, meta_of}
+use Rattle.hx_ports.specs.declared.keeper.Meta.{Meta}
+use Rattle.hx_core.specs.declared.cluster.StartFault.{StartFault}
+use Rattle.hx_core.specs.declared.cluster.StartFault.TheVariants.{KeeperFault, Damaged, NoMemory}
+use Rattle.hx_core.specs.Standing.{current_schema}
+
+-- Nothing is loaded yet, so that a keeper is damaged where it is of another schema, or has a version or rows
+abbrev pub is_damaged : Meta → Bool
+is_damaged meta = not (meta.schema == current_schema) || (not (meta.version == 0) || not (meta.rows == 0))
+
+-- what is held is damaged
+abbrev pub IsDamaged : Kept → Type 0
+IsDamaged held = is_damaged (meta_of held) ≡ true
+
+abbrev pub IsUndamaged : Kept → Type 0
+IsUndamaged held = is_damaged (meta_of held) ≡ false
+
+-- a fact for a damaged row
+abbrev pub IfDamaged : StartFault → (ℕ → Type 0) → Type 0
+IfDamaged KeeperFault P = Unit {0}
+IfDamaged (Damaged row) P = P row
+IfDamaged NoMemory P = Unit {0}
+
+-- a keeper was asked, and holds what it held
+pub record IsUntouched (kept kept' : Option Kept) (broken broken' : Bool) (faults faults' : ℕ) : Type 0 where
+  pub same : kept' ≡ kept
+  pub whole : broken' ≡ broken
+  pub later : faults ≤ faults'

@@ -1,0 +1,11 @@
+//! The cluster: objects in memory over a keeper of their rows.
+//!
+//! Each call makes one entry of the machine that `hx_model` defines: what it answers, and what is stored afterwards, is what the machine says.
+#![tactic(auto)]
+
+mod cluster;
+mod prepare;
+mod text;
+
+pub use cluster::{Cluster, StartFault, Unstarted};
+pub use text::{key_of, write_object};
