@@ -1,0 +1,262 @@
+// The run of a script.
+ghost use Rattle.std.specs.Prelude.{◌≡◌, ◌≢◌, ◌≤◌, ◌<◌, ◌^◌, [], ◌∷◌, ◌++◌, ◌⊎◌, OnOk, OnErr, IsErrOf, IfSome, length};
+ghost use Rattle.std.specs.Io.KnownBytes.{Appends, IsAtEnd};
+ghost use Rattle.std.specs.Str.Lines.{strip_carriage_return};
+ghost use Rattle.hx_ports.specs.Causes.{Rose};
+ghost use Rattle.hx_core.specs.Serving.{IsServedAsk};
+ghost use Rattle.hnc.specs.Headline.{most_bytes};
+ghost use Rattle.hnc.specs.Lines.{asking, is_asking, script_lines};
+ghost use Rattle.hnc.specs.Running.{Does, Cuts, HasNoEnd, Feeds, CutsPiece, WritesFront, WriteCause, SaysTo, SaysFront, Serves, CutsAnswer};
+
+use crate::line::read_ask;
+use crate::reply::{answer_line, no_memory, not_served, store_failed};
+use hx_core::Cluster;
+use hx_model::{Answer, Ask, Refusal};
+use hx_object::NoMemory;
+use hx_ports::{Keeper, Sink, Source};
+use std::alloc::Global;
+
+/// How the run of a script ended.
+#[derive(Clone, Copy, Debug, PartialEq, Eq)]
+pub enum RunEnd {
+    /// The script was read to its end, and each line answered.
+    Done,
+    ReadFault,
+    /// A write failed, or took nothing of a piece that wasn't empty.
+    WriteFault,
+    /// The script has more than 2^40 bytes.
+    TooLong,
+    NoMemory,
+}
+
+/// A write failed, or took nothing of a piece that wasn't empty.
+#[derive(Clone, Copy, Debug, PartialEq, Eq)]
+pub struct Unwritten;
+
+/// Why no more lines are answered.
+#[derive(Clone, Copy, Debug, PartialEq, Eq)]
+pub enum Stop {
+    WriteFault,
+    NoMemory,
+}
+
+impl From<Unwritten> for Stop {
+    ghost use Rattle.hnc.specs.declared.script.Stop.TheVariants.{WriteFault};
+
+    ghost from_gives = { λ _ stop. stop ≡ WriteFault };
+
+    fn from(_fault: Unwritten) -> Stop {
+        Stop::WriteFault
+    }
+}
+
+impl From<NoMemory> for Stop {
+    ghost use Rattle.hnc.specs.declared.script.Stop.TheVariants.{NoMemory};
+
+    ghost from_gives = { λ _ stop. stop ≡ NoMemory };
+
+    fn from(_fault: NoMemory) -> Stop {
+        Stop::NoMemory
+    }
+}
+
+impl Stop {
+    fn end(self) -> RunEnd
+        ensures write { self ≡ Stop.WriteFault → result ≡ RunEnd.WriteFault }
+        ensures memory { self ≡ Stop.NoMemory → result ≡ RunEnd.NoMemory }
+    {
+        match self {
+            Stop::WriteFault => RunEnd::WriteFault,
+            Stop::NoMemory => RunEnd::NoMemory,
+        }
+    }
+}
+
+/// Writes all bytes.
+fn write_all<W: Sink>(sink: &mut W, bytes: &[u8]) -> Result<(), Unwritten>
+    ensures whole { OnOk result (Appends (W.written sink.old) (W.written sink.new) bytes.now) }
+    ensures cut { OnErr result (WritesFront bytes.now (W.written sink.old) (W.written sink.new)) }
+    ensures cause { WriteCause (W.write_faults sink.old) (W.write_faults sink.new) (W.stalls sink.old) (W.stalls sink.new) result }
+{
+    let mut at = 0;
+    while at < bytes.len() {
+        match sink.write(&bytes[at..]) {
+            Ok(0) => return Err(Unwritten),
+            Ok(count) => at += count,
+            Err(_) => return Err(Unwritten),
+        }
+    }
+    Ok(())
+}
+
+/// Writes the line of an answer or, where its text finds no memory, the one for want of memory.
+fn say<W: Sink>(alloc: Global, sink: &mut W, answer: &Answer) -> Result<(), Unwritten>
+    ensures says { OnOk result (SaysTo answer.now (W.written sink.old) (W.written sink.new)) }
+    ensures cut { OnErr result (SaysFront answer.now (W.written sink.old) (W.written sink.new)) }
+    ensures cause { WriteCause (W.write_faults sink.old) (W.write_faults sink.new) (W.stalls sink.old) (W.stalls sink.new) result }
+{
+    if let Answer::Refused(Refusal::StoreFailed) = answer {
+        return write_all(sink, store_failed().as_bytes());
+    }
+    match answer_line(alloc, answer) {
+        Ok(text) => write_all(sink, text.as_str().as_bytes()),
+        Err(_) => write_all(sink, no_memory().as_bytes()),
+    }
+}
+
+/// Makes one request, and writes the line of its answer.
+fn serve<W: Sink, K: Keeper>(
+    alloc: Global,
+    cluster: &mut Cluster<K>,
+    sink: &mut W,
+    ask: &Ask,
+) -> Result<(), Unwritten>
+    requires { IsServedAsk ask.now }
+    ensures serves { OnOk result (Serves ask.now cluster.old cluster.new (W.written sink.old) (W.written sink.new)) }
+    ensures cut { OnErr result (CutsAnswer ask.now cluster.old cluster.new (W.written sink.old) (W.written sink.new)) }
+    ensures cause { WriteCause (W.write_faults sink.old) (W.write_faults sink.new) (W.stalls sink.old) (W.stalls sink.new) result }
+{
+    let answer = cluster.request(ask);
+    let said = say(alloc, sink, &answer);
+    drop(answer);
+    said
+}
+
+/// Answers one line.
+fn answer_one<W: Sink, K: Keeper>(
+    alloc: Global,
+    cluster: &mut Cluster<K>,
+    sink: &mut W,
+    line: &[u8],
+) -> Result<(), Unwritten>
+    ensures does { OnOk result (Does (line.now ∷ []) cluster.old cluster.new (W.written sink.old) (W.written sink.new)) }
+    ensures cut { OnErr result (Cuts (line.now ∷ []) cluster.old cluster.new (W.written sink.old) (W.written sink.new)) }
+    ensures cause { WriteCause (W.write_faults sink.old) (W.write_faults sink.new) (W.stalls sink.old) (W.stalls sink.new) result }
+{
+    match read_ask(alloc, line) {
+        Err(_) => write_all(sink, no_memory().as_bytes()),
+        Ok(None) => write_all(sink, not_served().as_bytes()),
+        Ok(Some(ask)) => {
+            let served = serve(alloc, cluster, sink, &ask);
+            drop(ask);
+            served
+        }
+    }
+}
+
+/// The line without the carriage return at its end.
+fn without_return(line: &[u8]) -> &[u8]
+    ensures { result.now ≡ strip_carriage_return line.now }
+{
+    if let Some(13) = line.last().copied() {
+        &line[..line.len() - 1]
+    } else {
+        line
+    }
+}
+
+/// Whether a line is answered: an empty one and a comment aren't.
+fn is_asking(line: &[u8]) -> bool
+    ensures { result ≡ is_asking line.now }
+{
+    match line {
+        [] => false,
+        [byte, ..] => *byte != b'#',
+    }
+}
+
+/// Answers the line of a part between line feeds, where it asks something.
+fn answer_part<W: Sink, K: Keeper>(
+    alloc: Global,
+    cluster: &mut Cluster<K>,
+    sink: &mut W,
+    part: &[u8],
+) -> Result<(), Unwritten>
+    ensures does { OnOk result (Does (asking part.now) cluster.old cluster.new (W.written sink.old) (W.written sink.new)) }
+    ensures cut { OnErr result (Cuts (asking part.now) cluster.old cluster.new (W.written sink.old) (W.written sink.new)) }
+    ensures cause { WriteCause (W.write_faults sink.old) (W.write_faults sink.new) (W.stalls sink.old) (W.stalls sink.new) result }
+{
+    let line = without_return(part);
+    if !is_asking(line) {
+        return Ok(());
+    }
+    answer_one(alloc, cluster, sink, line)
+}
+
+/// Keeps a byte of a line that hasn't ended.
+fn keep(waiting: &mut Vec<u8>, byte: u8) -> Result<(), NoMemory>
+    ensures { OnOk result (waiting.new.items ≡ waiting.old.items ++ byte ∷ []) }
+{
+    waiting.push(byte)?;
+    Ok(())
+}
+
+/// Takes the next piece of the script: answers the lines that it ends, and keeps the rest.
+fn feed<W: Sink, K: Keeper>(
+    alloc: Global,
+    cluster: &mut Cluster<K>,
+    sink: &mut W,
+    waiting: &mut Vec<u8>,
+    piece: &[u8],
+) -> Result<(), Stop>
+    requires { HasNoEnd waiting.old.items }
+    ensures no_end { OnOk result (HasNoEnd waiting.new.items) }
+    ensures feeds { OnOk result (Feeds waiting.old.items piece.now waiting.new.items cluster.old cluster.new (W.written sink.old) (W.written sink.new)) }
+    ensures cut { OnErr result (CutsPiece waiting.old.items piece.now cluster.old cluster.new (W.written sink.old) (W.written sink.new)) }
+    ensures later { (W.write_faults sink.old ≤ W.write_faults sink.new) × (W.stalls sink.old ≤ W.stalls sink.new) }
+    ensures cause { IsErrOf result Stop.WriteFault → Rose (W.write_faults sink.old) (W.write_faults sink.new) ⊎ Rose (W.stalls sink.old) (W.stalls sink.new) }
+{
+    for byte in piece {
+        if *byte == b'\n' {
+            answer_part(alloc, cluster, sink, waiting.as_slice())?;
+            waiting.clear();
+        } else {
+            keep(waiting, *byte)?;
+        }
+    }
+    Ok(())
+}
+
+/// The most bytes of a script.
+const MOST_BYTES: u64 = 1 << 40;
+
+/// Reads a script to its end, and answers its lines in order.
+pub fn run_script<S: Source, W: Sink, K: Keeper>(
+    alloc: Global,
+    source: &mut S,
+    sink: &mut W,
+    cluster: &mut Cluster<K>,
+) -> RunEnd
+    ensures done { result ≡ RunEnd.Done → IfSome (S.left source.old) (λ script. Does (script_lines script) cluster.old cluster.new (W.written sink.old) (W.written sink.new)) }
+    ensures cut { result ≢ RunEnd.Done → IfSome (S.left source.old) (λ script. Cuts (script_lines script) cluster.old cluster.new (W.written sink.old) (W.written sink.new)) }
+
+    ensures whole { result ≡ RunEnd.Done → IfSome (S.left source.old) (λ script. length script ≤ most_bytes) }
+    ensures end { result ≡ RunEnd.Done → IsAtEnd (S.left source.new) }
+    ensures too_long { result ≡ RunEnd.TooLong → IfSome (S.left source.old) (λ script. most_bytes < length script) }
+    ensures read_fault { result ≡ RunEnd.ReadFault → Rose (S.read_faults source.old) (S.read_faults source.new) }
+    ensures write_fault { result ≡ RunEnd.WriteFault → Rose (W.write_faults sink.old) (W.write_faults sink.new) ⊎ Rose (W.stalls sink.old) (W.stalls sink.new) }
+{
+    let mut waiting = Vec::new(alloc);
+    let mut piece = [0u8; 4096];
+    let mut total = 0;
+    'reading: loop {
+        let count = match source.read(&mut piece) {
+            Ok(count) => count,
+            Err(_) => return RunEnd::ReadFault,
+        };
+        if count == 0 {
+            break;
+        }
+        if MOST_BYTES - total < count as u64 {
+            return RunEnd::TooLong;
+        }
+        total += count as u64;
+        if let Err(stop) = feed(alloc, cluster, sink, &mut waiting, &piece[..count]) {
+            return stop.end();
+        }
+    }
+    match answer_part(alloc, cluster, sink, waiting.as_slice()) {
+        Ok(()) => RunEnd::Done,
+        Err(Unwritten) => RunEnd::WriteFault,
+    }
+}
