@@ -1,3 +1,4 @@
 pub mod Identities
 pub mod NameExamples
 pub mod Sameness
+pub mod Sizes

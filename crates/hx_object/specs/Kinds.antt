@@ -3,6 +3,7 @@
 --     group_of       the API group, empty for the core group
 --     plural_of      the resource's plural
 --     resource_of    the plural, and behind a point the group where it isn't the core group
+--     name_of, api_version_of      how bodies name the kind
 --     is_in_cluster  whether objects of the kind lie in no namespace
 use Rattle.std.specs.Prelude.{ℕ, Bool, true, false, List, [], ◌∷◌, ◌++◌, codes}
 use Rattle.hx_object.specs.declared.kind.Kind.{Kind}
@@ -60,6 +61,34 @@ plural_of LimitRange = codes "limitranges"
 plural_of Pod = codes "pods"
 plural_of Service = codes "services"
 plural_of PersistentVolumeClaim = codes "persistentvolumeclaims"
+
+-- the kind as bodies name it
+abbrev pub name_of : Kind → List ℕ
+name_of Namespace = codes "Namespace"
+name_of HncConfiguration = codes "HNCConfiguration"
+name_of HierarchyConfiguration = codes "HierarchyConfiguration"
+name_of SubnamespaceAnchor = codes "SubnamespaceAnchor"
+name_of HierarchicalResourceQuota = codes "HierarchicalResourceQuota"
+name_of Role = codes "Role"
+name_of RoleBinding = codes "RoleBinding"
+name_of ConfigMap = codes "ConfigMap"
+name_of Secret = codes "Secret"
+name_of NetworkPolicy = codes "NetworkPolicy"
+name_of LimitRange = codes "LimitRange"
+name_of Pod = codes "Pod"
+name_of Service = codes "Service"
+name_of PersistentVolumeClaim = codes "PersistentVolumeClaim"
+
+-- the `apiVersion` of a kind's bodies: the version, behind the group and a slash where that isn't the core group
+abbrev pub api_version_of : Kind → List ℕ
+api_version_of HncConfiguration = codes "hnc.x-k8s.io/v1alpha2"
+api_version_of HierarchyConfiguration = codes "hnc.x-k8s.io/v1alpha2"
+api_version_of SubnamespaceAnchor = codes "hnc.x-k8s.io/v1alpha2"
+api_version_of HierarchicalResourceQuota = codes "hnc.x-k8s.io/v1alpha2"
+api_version_of Role = codes "rbac.authorization.k8s.io/v1"
+api_version_of RoleBinding = codes "rbac.authorization.k8s.io/v1"
+api_version_of NetworkPolicy = codes "networking.k8s.io/v1"
+api_version_of _ = codes "v1"
 
 -- a point and the group, or nothing for the core group
 abbrev pub behind_point : List ℕ → List ℕ

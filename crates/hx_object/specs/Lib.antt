@@ -3,3 +3,7 @@ pub mod Names
 pub mod Order
 pub mod Pairs
 pub mod Texts
+pub mod Canonical
+pub mod Json
+pub mod Sizes
+pub mod Faults

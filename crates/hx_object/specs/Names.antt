@@ -6,8 +6,8 @@
 --     is_qualified_part     the name in a key, and a label value that isn't empty
 --     is_label_key, is_annotation_key, is_label_value
 --     is_name_of kind       the grammar of the kind's names
-use Rattle.std.specs.Prelude.{ℕ, ◌-◌, Bool, true, false, not, ◌&&◌, ◌||◌, nat_le, ◌==◌, List, [], ◌∷◌, length, slice_index, codes, if◌then◌else◌}
-use Rattle.std.specs.List.{list_all, list_any, slice_split, before_first, after_first}
+use Rattle.std.specs.Prelude.{ℕ, ◌+◌, ◌-◌, Bool, true, false, not, ◌&&◌, ◌||◌, nat_eq, nat_le, ◌==◌, List, length, take, drop, slice_index, codes, Option, Some, None}
+use Rattle.std.specs.List.{list_all, slice_split, position}
 use Rattle.std.specs.Str.{bytes_eq}
 use Rattle.hx_object.specs.declared.kind.Kind.{Kind}
 use Rattle.hx_object.specs.declared.kind.Kind.TheVariants.{Namespace, SubnamespaceAnchor, Role, RoleBinding}
@@ -44,61 +44,74 @@ is_dns_end byte = not (byte == 45)
 unfoldable pub is_dns_label : List ℕ → Bool
 is_dns_label name = has_length 1 63 name && (list_all is_dns_byte name && has_ends is_dns_end name)
 
--- a part of a subdomain, whose length alone isn't bounded
-abbrev pub is_dns_part : (ℕ → Bool) → List ℕ → Bool
-is_dns_part is_letter [] = false
-is_dns_part is_letter (byte ∷ part) = list_all (λ b. is_letter b || is_digit b || b == 45) (byte ∷ part) && has_ends is_dns_end (byte ∷ part)
+-- a lowercase letter, or where any case will do an uppercase one
+abbrev pub is_letter : Bool → ℕ → Bool
+is_letter any_case byte = is_lower byte || (any_case && is_upper byte)
+
+-- such a letter, a digit or a dash
+abbrev pub is_part_byte : Bool → ℕ → Bool
+is_part_byte any_case byte = is_letter any_case byte || (is_digit byte || byte == 45)
+
+-- a part of a subdomain: one or more such bytes, with no dash at either end
+unfoldable pub is_dns_part : Bool → List ℕ → Bool
+is_dns_part any_case part = nat_le 1 (length part) && (list_all (is_part_byte any_case) part && has_ends is_dns_end part)
 
 -- 1 to 253 bytes: parts joined by points
-abbrev pub is_subdomain : (ℕ → Bool) → List ℕ → Bool
-is_subdomain is_letter name = has_length 1 253 name && list_all (is_dns_part is_letter) (slice_split (λ byte. byte == 46) name)
+unfoldable pub is_subdomain : Bool → List ℕ → Bool
+is_subdomain any_case name = has_length 1 253 name && list_all (is_dns_part any_case) (slice_split (λ byte. byte == 46) name)
 
 -- of lowercase letters
 abbrev pub is_dns_subdomain : List ℕ → Bool
-is_dns_subdomain name = is_subdomain is_lower name
+is_dns_subdomain name = is_subdomain false name
 
 -- from `!` to `~`, and neither `/` nor `%`
 abbrev pub is_role_byte : ℕ → Bool
-is_role_byte byte = nat_le 33 byte && nat_le byte 126 && not (byte == 47) && not (byte == 37)
+is_role_byte byte = nat_le 33 byte && (nat_le byte 126 && (not (byte == 47) && not (byte == 37)))
+
+-- `.` or `..`
+abbrev pub is_points : List ℕ → Bool
+is_points name = bytes_eq name (codes ".") || bytes_eq name (codes "..")
 
 -- 1 to 253 such bytes, and neither `.` nor `..`
-abbrev pub is_role_name : List ℕ → Bool
-is_role_name name = has_length 1 253 name && list_all is_role_byte name && not (bytes_eq name (codes ".")) && not (bytes_eq name (codes ".."))
+unfoldable pub is_role_name : List ℕ → Bool
+is_role_name name = has_length 1 253 name && (list_all is_role_byte name && not (is_points name))
 
 -- a letter or a digit
 abbrev pub is_alphanumeric : ℕ → Bool
-is_alphanumeric byte = is_lower byte || is_upper byte || is_digit byte
+is_alphanumeric byte = is_lower byte || (is_upper byte || is_digit byte)
 
 -- a letter, a digit, `-`, `_` or `.`
 abbrev pub is_qualified_byte : ℕ → Bool
-is_qualified_byte byte = is_alphanumeric byte || byte == 45 || byte == 95 || byte == 46
+is_qualified_byte byte = is_alphanumeric byte || (byte == 45 || (byte == 95 || byte == 46))
 
 -- 1 to 63 letters, digits, `-`, `_` and `.`, with a letter or digit at either end
-abbrev pub is_qualified_part : List ℕ → Bool
-is_qualified_part name = has_length 1 63 name && list_all is_qualified_byte name && has_ends is_alphanumeric name
+unfoldable pub is_qualified_part : List ℕ → Bool
+is_qualified_part name = has_length 1 63 name && (list_all is_qualified_byte name && has_ends is_alphanumeric name)
 
--- a `/` is in it
-abbrev pub has_slash : List ℕ → Bool
-has_slash key = list_any (λ byte. byte == 47) key
+-- where the first `/` is
+abbrev pub first_slash : List ℕ → Option ℕ
+first_slash key = position (λ byte. byte == 47) key
 
--- a name, or a subdomain of such letters, `/` and a name
-abbrev pub is_key : (ℕ → Bool) → List ℕ → Bool
-is_key is_letter key =
-    if has_slash key then is_subdomain is_letter (before_first (λ byte. byte == 47) key) && is_qualified_part (after_first (λ byte. byte == 47) key)
-    else is_qualified_part key
+-- a name, or a subdomain, `/` and a name, by where the first `/` is
+abbrev pub is_key_cut_at : Bool → List ℕ → Option ℕ → Bool
+is_key_cut_at any_case key None = is_qualified_part key
+is_key_cut_at any_case key (Some slash) = is_subdomain any_case (take slash key) && is_qualified_part (drop (slash + 1) key)
 
--- with a subdomain of lowercase letters, if any
+-- a name, or a subdomain, `/` and a name
+unfoldable pub is_key : Bool → List ℕ → Bool
+is_key any_case key = is_key_cut_at any_case key (first_slash key)
+
+-- the subdomain, if any, has lowercase letters
 abbrev pub is_label_key : List ℕ → Bool
-is_label_key key = is_key is_lower key
+is_label_key key = is_key false key
 
 -- the subdomain of an annotation's key may have uppercase letters
 abbrev pub is_annotation_key : List ℕ → Bool
-is_annotation_key key = is_key (λ byte. is_lower byte || is_upper byte) key
+is_annotation_key key = is_key true key
 
 -- empty, or as the name in a key
 abbrev pub is_label_value : List ℕ → Bool
-is_label_value [] = true
-is_label_value (byte ∷ value) = is_qualified_part (byte ∷ value)
+is_label_value value = nat_eq (length value) 0 || is_qualified_part value
 
 -- the grammar of a kind's names. For Services it is wider than in Kubernetes
 abbrev pub is_name_of : Kind → List ℕ → Bool

@@ -1,6 +1,6 @@
 // The kinds of objects.
 ghost use Rattle.std.specs.Prelude.{◌≡◌};
-ghost use Rattle.hx_object.specs.Kinds.{number_of, resource_of};
+ghost use Rattle.hx_object.specs.Kinds.{number_of, resource_of, is_in_cluster, name_of, api_version_of};
 
 /// A kind of object: a resource of the Kubernetes core, RBAC or networking API, or of HNC's own group `hnc.x-k8s.io/v1alpha2`.
 ///
@@ -46,6 +46,13 @@ impl Kind {
         }
     }
 
+    /// Whether objects of the kind lie in no namespace.
+    pub fn is_in_cluster(self) -> bool
+        ensures { result ≡ is_in_cluster self }
+    {
+        matches!(self, Kind::Namespace | Kind::HncConfiguration)
+    }
+
     /// The name of the kind's resource as messages give it: the plural, and behind a point the API group where that isn't the core group.
     pub fn resource(self) -> &'static str
         ensures { result.now ≡ resource_of self }
@@ -65,6 +72,49 @@ impl Kind {
             Kind::Pod => "pods",
             Kind::Service => "services",
             Kind::PersistentVolumeClaim => "persistentvolumeclaims",
+        }
+    }
+
+    /// The kind as bodies name it.
+    pub fn name(self) -> &'static str
+        ensures { result.now ≡ name_of self }
+    {
+        match self {
+            Kind::Namespace => "Namespace",
+            Kind::HncConfiguration => "HNCConfiguration",
+            Kind::HierarchyConfiguration => "HierarchyConfiguration",
+            Kind::SubnamespaceAnchor => "SubnamespaceAnchor",
+            Kind::HierarchicalResourceQuota => "HierarchicalResourceQuota",
+            Kind::Role => "Role",
+            Kind::RoleBinding => "RoleBinding",
+            Kind::ConfigMap => "ConfigMap",
+            Kind::Secret => "Secret",
+            Kind::NetworkPolicy => "NetworkPolicy",
+            Kind::LimitRange => "LimitRange",
+            Kind::Pod => "Pod",
+            Kind::Service => "Service",
+            Kind::PersistentVolumeClaim => "PersistentVolumeClaim",
+        }
+    }
+
+    /// The `apiVersion` of the kind's bodies: the version, behind the API group and a slash where that isn't the core group.
+    pub fn api_version(self) -> &'static str
+        ensures { result.now ≡ api_version_of self }
+    {
+        match self {
+            Kind::HncConfiguration
+            | Kind::HierarchyConfiguration
+            | Kind::SubnamespaceAnchor
+            | Kind::HierarchicalResourceQuota => "hnc.x-k8s.io/v1alpha2",
+            Kind::Role | Kind::RoleBinding => "rbac.authorization.k8s.io/v1",
+            Kind::NetworkPolicy => "networking.k8s.io/v1",
+            Kind::Namespace
+            | Kind::ConfigMap
+            | Kind::Secret
+            | Kind::LimitRange
+            | Kind::Pod
+            | Kind::Service
+            | Kind::PersistentVolumeClaim => "v1",
         }
     }
 }

@@ -4,12 +4,14 @@
 //! An [`Object`] and its parts are plain records of these, so that a clause compares two of them by `≡`.
 #![tactic(auto)]
 
+mod faults;
 mod kind;
 mod list;
 mod memory;
 mod names;
 mod object;
 mod pairs;
+mod size;
 #[cfg(test)]
 mod tests;
 mod text;
@@ -19,7 +21,8 @@ pub use list::List;
 pub use memory::NoMemory;
 pub use names::is_dns_label;
 pub use object::{
-    AnchorStatus, Condition, Container, Id, Limit, Mode, ModeEntry, Need, Object, Payload, Usage,
+    AnchorStatus, Condition, Container, Id, Limit, Mode, ModeEntry, Need, Object, ObjectFault,
+    Payload, Usage,
 };
 pub use pairs::Pairs;
 pub use text::Text;

@@ -130,6 +130,19 @@ pub struct Container {
     pub asks: [Option<u64>; 4],
 }
 
+/// Why an object is refused. Where several hold, the first of them is given.
+#[derive(Clone, Copy, Debug, PartialEq, Eq)]
+pub enum ObjectFault {
+    /// The namespace or the name breaks its grammar.
+    BadName,
+    /// A key of a label or an annotation, or a label's value, breaks its grammar.
+    BadLabel,
+    /// There are more than 256 labels that count.
+    TooManyLabels,
+    /// The object is larger than 65,536 bytes.
+    TooLarge,
+}
+
 impl Id {
     /// The order of identities.
     pub fn compare(&self, other: &Id) -> Ordering

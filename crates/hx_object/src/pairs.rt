@@ -44,6 +44,18 @@ impl Pairs {
         Pairs { items }
     }
 
+    /// Whether pairs are in order.
+    pub fn has_ascending_keys(items: &[(Text, Text)]) -> bool
+        ensures { result ≡ has_ascending_keys items.now }
+    {
+        for i in 1..items.len() {
+            if items[i - 1].0 >= items[i].0 {
+                return false;
+            }
+        }
+        true
+    }
+
     /// The pairs in order.
     pub fn as_slice(&self) -> &[(Text, Text)]
         ensures pairs { result.now ≡ self.now }

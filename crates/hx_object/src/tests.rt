@@ -1,6 +1,7 @@
 // The public functions at examples.
 use crate::{
-    Container, Id, Kind, List, Need, NoMemory, Object, Pairs, Payload, Text, is_dns_label,
+    Container, Id, Kind, List, Need, NoMemory, Object, ObjectFault, Pairs, Payload, Text,
+    is_dns_label,
 };
 use std::alloc::Global;
 use std::cmp::Ordering;
@@ -139,5 +140,74 @@ fn copies_are_the_same(rt: HostRuntime) -> Result<(), Fail> {
         ..one.copy()?
     };
     assert!(rt; !newer.is_same(&one));
+    Ok(())
+}
+
+/// So many labels.
+fn numbered(alloc: Global, count: u32) -> Result<Pairs, NoMemory> {
+    let mut items = Vec::new(alloc);
+    for number in 0..count {
+        let key = Text::of_string(format!(in alloc; "k{number:03}")?);
+        items.push((key, Text::of(alloc, "")?))?;
+    }
+    if Pairs::has_ascending_keys(items.as_slice()) {
+        return Ok(Pairs::of(items));
+    }
+    Ok(Pairs::new(alloc))
+}
+
+/// A pair whose value has so many bytes.
+fn pair(alloc: Global, key: &str, size: u32) -> Result<Pairs, NoMemory> {
+    let mut value = String::new(alloc);
+    for _ in 0..size {
+        value.push('a')?;
+    }
+    let items = [(Text::of(alloc, key)?, Text::of_string(value))];
+    Ok(Pairs::of(Vec::from_array(alloc, items)?))
+}
+
+/// The fault of an anchor of these parts.
+fn fault_of(
+    alloc: Global,
+    name: &str,
+    labels: Pairs,
+    annotations: Pairs,
+) -> Result<Option<ObjectFault>, NoMemory> {
+    let id = Id {
+        kind: Kind::SubnamespaceAnchor,
+        ns: Text::of(alloc, "a")?,
+        name: Text::of(alloc, name)?,
+    };
+    let payload = Payload::Anchor { status: None };
+    Ok(Object::new(id, labels, annotations, payload, 1).err())
+}
+
+#[test]
+fn faults_are_found(rt: HostRuntime) -> Result<(), Fail> {
+    let alloc = rt.alloc();
+    let none = Pairs::new(alloc);
+    assert_eq!(rt; fault_of(alloc, "b", pairs(alloc)?, none)?, None);
+    for (name, key, count, want) in [
+        ("B", "a/", 257, Some(ObjectFault::BadName)),
+        ("b", "a/", 257, Some(ObjectFault::BadLabel)),
+        ("b", "A.b/c", 257, Some(ObjectFault::TooManyLabels)),
+        ("b", "A.b/c", 256, None),
+    ] {
+        let found = fault_of(alloc, name, numbered(alloc, count)?, pair(alloc, key, 1)?)?;
+        assert!(rt; found == want);
+    }
+    Ok(())
+}
+
+#[test]
+fn sizes_at_their_edge(rt: HostRuntime) -> Result<(), Fail> {
+    let alloc = rt.alloc();
+    let none = Pairs::new(alloc);
+    let found = fault_of(alloc, "b", none, pair(alloc, "a", 65_533)?)?;
+    assert!(rt; found == None);
+    // A label of the tree doesn't count.
+    let labels = pair(alloc, "a.tree.hnc.x-k8s.io/depth", 1)?;
+    let found = fault_of(alloc, "b", labels, pair(alloc, "a", 65_534)?)?;
+    assert!(rt; found == Some(ObjectFault::TooLarge));
     Ok(())
 }

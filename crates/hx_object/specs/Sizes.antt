@@ -1,0 +1,84 @@
+-- The size of an object, and what of it counts.
+--     is_counted    a label that counts: neither one of the tree nor one that a reconciler writes
+--     size_of       the size in bytes
+use Rattle.std.specs.Prelude.{ℕ, ◌+◌, Bool, not, ◌&&◌, ◌||◌, nat_lt, nat_eq, List, [], codes, length, filter, sum_by, fold, min, Option}
+use Rattle.std.specs.List.{ends_with}
+use Rattle.std.specs.Str.{bytes_eq}
+use Rattle.json.specs.Print.{quoted}
+use Rattle.serde_json.specs.Data.{object}
+use Rattle.serde_json.specs.Written.{compact_text}
+use Rattle.hx_object.specs.Json.{specified_members, entry_data}
+use Rattle.hx_object.specs.declared.object.Limit.{Limit}
+use Rattle.hx_object.specs.declared.object.ModeEntry.{ModeEntry}
+use Rattle.hx_object.specs.declared.object.Object.{Object}
+use Rattle.hx_object.specs.declared.object.Payload.{Payload}
+use Rattle.hx_object.specs.declared.object.Payload.TheVariants.{Namespace as NamespaceOf, Config, Hierarchy, Anchor, Quota, Plain}
+
+-- ---- labels
+
+abbrev pub tree_suffix : List ℕ
+tree_suffix = codes ".tree.hnc.x-k8s.io/depth"
+
+-- at least one byte, and then the suffix of the tree's labels
+unfoldable pub is_tree_key : List ℕ → Bool
+is_tree_key key = nat_lt (length tree_suffix) (length key) && ends_with nat_eq key tree_suffix
+
+-- a reconciler writes the label
+unfoldable pub is_reconciled_key : List ℕ → Bool
+is_reconciled_key key = bytes_eq key (codes "hnc.x-k8s.io/included-namespace") || bytes_eq key (codes "hnc.x-k8s.io/inherited-from")
+
+-- neither a label of the tree nor one that a reconciler writes
+unfoldable pub is_counted : List ℕ × List ℕ → Bool
+is_counted pair = not (is_tree_key pair.0) && not (is_reconciled_key pair.0)
+
+abbrev pub counted : List (List ℕ × List ℕ) → List (List ℕ × List ℕ)
+counted labels = filter is_counted labels
+
+-- ---- sizes
+
+abbrev pub pair_size : List ℕ × List ℕ → ℕ
+pair_size pair = length pair.0 + length pair.1
+
+-- the texts of what a request gives, by the payload
+unfoldable pub config_size : List ModeEntry → ℕ
+config_size entries = length (compact_text (object (specified_members (Config entries))))
+
+unfoldable pub hierarchy_size : Option (List ℕ) → Bool → ℕ
+hierarchy_size parent cascade = length (compact_text (object (specified_members (Hierarchy parent cascade [] []))))
+
+unfoldable pub quota_size : List Limit → ℕ
+quota_size hard = length (compact_text (object (specified_members (Quota hard []))))
+
+-- for a plain kind the text is kept as it is
+abbrev pub specified_size : Payload → ℕ
+specified_size (Plain members need) = length members
+specified_size (NamespaceOf terminating) = 2
+specified_size (Anchor status) = 2
+specified_size (Config entries) = config_size entries
+specified_size (Hierarchy parent cascade children conditions) = hierarchy_size parent cascade
+specified_size (Quota hard status) = quota_size hard
+
+-- the bytes of counted labels, of annotations, and of the text of what a request gives
+unfoldable pub size_of : Object → ℕ
+size_of x = sum_by pair_size (counted x.labels) + (sum_by pair_size x.annotations + specified_size x.payload)
+
+abbrev pub greatest_size : ℕ
+greatest_size = 65536
+
+-- ---- how it is counted
+
+-- a size, as far as it is counted: to one more than the greatest
+abbrev pub capped : ℕ → ℕ
+capped size = min size 65537
+
+-- the sum of sizes, counted so far
+abbrev pub capped_sum : {X : Type 0} → (X → ℕ) → List X → ℕ
+capped_sum size items = fold (λ sum x. capped (sum + size x)) 0 items
+
+-- what an entry of a HNCConfiguration has, with the comma or bracket behind it
+unfoldable pub entry_size : ModeEntry → ℕ
+entry_size entry = length (compact_text (entry_data entry)) + 1
+
+-- what a limit has as a member, with the comma or brace behind it
+unfoldable pub limit_size : Limit → ℕ
+limit_size limit = length (quoted limit.resource) + (length (quoted limit.written) + 2)
