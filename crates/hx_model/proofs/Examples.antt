@@ -9,7 +9,9 @@ use Rattle.hx_model.specs.declared.ask.Answer.TheVariants.{One, Refused as Refus
 use Rattle.hx_model.specs.declared.refusal.Refusal.TheVariants.{NotFound, Exists, NotServed}
 use Rattle.hx_model.specs.declared.key.Write.TheVariants.{Put}
 use Rattle.hx_model.specs.State.{put, cut, ascends, rows_from, stamped, opening_state, state_after}
-use Rattle.hx_model.specs.Texts.{key_text, object_text, namespace_id, new_namespace}
+use Rattle.hx_object.specs.Json.{object_text}
+use Rattle.serde_json.proofs.OnLiterals.{serde_json_on_literals}
+use Rattle.hx_model.specs.Texts.{key_text, namespace_id, new_namespace}
 use Rattle.hx_model.specs.Replies.{status_text, message_about}
 use Rattle.hx_model.specs.Machine.{History, Refused, Request, LostRequest, KeeperFault, opening_world, IsLegal, IsHistory, replay, loses_to_fault}
 
@@ -34,16 +36,16 @@ unfolding key_text
 key_of_role = refl
 
 pub text_of_acme : object_text (stored acme 1) ≡ codes "{\"apiVersion\":\"v1\",\"kind\":\"Namespace\",\"metadata\":{\"name\":\"acme\",\"resourceVersion\":\"1\"},\"status\":{\"phase\":\"Active\"}}"
-unfolding object_text digits
+unfolding object_text digits serde_json_on_literals
 text_of_acme = refl
 
 pub status_of_exists : status_text (Exists Namespace acme)
     ≡ codes "{\"apiVersion\":\"v1\",\"code\":409,\"kind\":\"Status\",\"message\":\"namespaces \\\"acme\\\" already exists\",\"metadata\":{},\"reason\":\"AlreadyExists\",\"status\":\"Failure\"}"
-unfolding status_text message_about
+unfolding status_text message_about digits serde_json_on_literals
 status_of_exists = refl
 
 pub status_of_not_served : status_text NotServed ≡ codes "{\"apiVersion\":\"v1\",\"code\":501,\"kind\":\"Status\",\"message\":\"not served\",\"metadata\":{},\"reason\":\"NotImplemented\",\"status\":\"Failure\"}"
-unfolding status_text
+unfolding status_text digits serde_json_on_literals
 status_of_not_served = refl
 
 -- ---- rows

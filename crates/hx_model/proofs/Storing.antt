@@ -16,7 +16,8 @@ use Rattle.hx_object.specs.Texts.{bytes_cmp}
 use Rattle.hx_object.specs.declared.object.Id.{Id}
 use Rattle.hx_object.specs.declared.object.Object.{Object}
 use Rattle.hx_model.specs.State.{Rows, put, rows_from}
-use Rattle.hx_model.specs.Texts.{key_text, object_text, stored_entry, rows_of_objects}
+use Rattle.hx_object.specs.Json.{object_text}
+use Rattle.hx_model.specs.Texts.{key_text, stored_entry, rows_of_objects}
 use Rattle.hx_model.proofs.Rows.{id_total, exact_ids, same_kind}
 
 -- ---- keys

@@ -1,12 +1,11 @@
 -- The texts that are stored: the key and the body of each object's row.
 --     key_text        the kind's number in two digits, `/`, the namespace or nothing, `/`, the name
---     object_text     the JSON text of an object
 --     stored_entry    the key, the version and the body of an object's row
 --     rows_of         the stored rows of a state, in the order of their keys by bytes
 -- The order of keys isn't that of identities: of the namespaces `a` and `a-b` identities put `a` first, and keys `a-b`, since `-` is less than `/`.
 use Rattle.std.specs.Prelude.{ℕ, ◌+◌, ◌/◌, ◌%◌, false, List, [], ◌∷◌, ◌++◌, map, codes}
-use Rattle.std.specs.Fmt.{decimal}
 use Rattle.std.specs.FinMap as finite
+use Rattle.hx_object.specs.Json.{object_text}
 use Rattle.hx_object.specs.Kinds.{number_of}
 use Rattle.hx_object.specs.Texts.{bytes_cmp}
 use Rattle.hx_object.specs.declared.kind.Kind.TheVariants.{Namespace}
@@ -30,11 +29,6 @@ namespace_id name = record { kind = Namespace; ns = []; name = name }
 -- a namespace as a request gives it: without labels or annotations, and without a version yet
 abbrev pub new_namespace : List ℕ → Object
 new_namespace name = record { id = namespace_id name; labels = []; annotations = []; payload = NamespacePayload false; version = 0 }
-
--- the text of an active namespace without labels and annotations, which are the only objects that are served so far
-unfoldable pub object_text : Object → List ℕ
-object_text x =
-    codes "{\"apiVersion\":\"v1\",\"kind\":\"Namespace\",\"metadata\":{\"name\":\"" ++ (x.id.name ++ (codes "\",\"resourceVersion\":\"" ++ (decimal x.version ++ codes "\"},\"status\":{\"phase\":\"Active\"}}")))
 
 -- the row of an object: its key, its version and its text
 abbrev pub stored_entry : Object → List ℕ × (ℕ × List ℕ)

@@ -20,16 +20,16 @@ pub enum Refusal {
 }
 
 impl Refusal {
-    /// The three digits of the HTTP status.
-    pub fn code(&self) -> &'static str
-        ensures { result.now ≡ code_of self.now }
+    /// The HTTP status.
+    pub fn code(&self) -> u16
+        ensures { result ≡ code_of self.now }
     {
         match self {
-            Refusal::NotFound { .. } => "404",
-            Refusal::Exists { .. } => "409",
-            Refusal::StoreFailed => "500",
-            Refusal::NotServed => "501",
-            Refusal::NoMemory => "503",
+            Refusal::NotFound { .. } => 404,
+            Refusal::Exists { .. } => 409,
+            Refusal::StoreFailed => 500,
+            Refusal::NotServed => 501,
+            Refusal::NoMemory => 503,
         }
     }
 
