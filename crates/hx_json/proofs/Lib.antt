@@ -1,0 +1,11 @@
+pub mod RoundTrip
+pub mod Canonical
+pub mod Parts
+pub mod Versions
+pub mod Legal
+mod ReadExamples
+pub mod Putting
+pub mod NoFloat
+pub mod Ordered
+mod LegalExample
+mod WrittenExamples

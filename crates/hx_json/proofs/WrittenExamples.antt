@@ -1,0 +1,72 @@
+-- Texts of objects, lists and refusals, each written out by hand.
+use Rattle.std.specs.Prelude.{codes}
+use Rattle.std.proofs.Common.{◌≡◌, ℕ, true, false, List, [], ◌∷◌, Some, None, refl}
+use Rattle.std.specs.Fmt.{digits}
+use Rattle.serde_json.proofs.OnLiterals.{serde_json_on_literals}
+use Rattle.hx_object.specs.Json.{object_text}
+use Rattle.hx_object.specs.declared.kind.Kind.{Kind}
+use Rattle.hx_object.specs.declared.kind.Kind.TheVariants.{Namespace, HncConfiguration, HierarchyConfiguration, SubnamespaceAnchor, HierarchicalResourceQuota, Role, ConfigMap}
+use Rattle.hx_object.specs.declared.object.Object.{Object}
+use Rattle.hx_object.specs.declared.object.Payload.{Payload}
+use Rattle.hx_object.specs.declared.object.Payload.TheVariants.{Namespace as NamespaceOf, Config, Hierarchy, Anchor, Quota, Plain}
+use Rattle.hx_object.specs.declared.object.Mode.TheVariants.{Remove}
+use Rattle.hx_object.specs.declared.object.AnchorStatus.TheVariants.{Ok}
+use Rattle.hx_object.specs.declared.object.Condition.TheVariants.{Ancestor}
+use Rattle.hx_object.specs.declared.object.Need.{Need}
+use Rattle.hx_model.specs.Json.{list_text}
+use Rattle.hx_model.specs.Replies.{status_text, message_about}
+use Rattle.hx_model.specs.declared.refusal.Refusal.TheVariants.{NotFound}
+
+-- an object without labels and annotations
+abbrev bare : Kind → List ℕ → List ℕ → Payload → Object
+bare kind ns name payload = record { id = record { kind = kind; ns = ns; name = name }; labels = []; annotations = []; payload = payload; version = 7 }
+
+abbrev nothing : Need
+nothing = record { finished = false; token = false; storage = 0; containers = [] }
+
+abbrev tree : Payload
+tree = Hierarchy (Some (codes "top")) true (codes "low" ∷ []) (Ancestor ∷ [])
+
+pub text_of_tree : object_text (bare HierarchyConfiguration (codes "mid") (codes "hierarchy") tree) ≡ codes "{\"apiVersion\":\"hnc.x-k8s.io/v1alpha2\",\"kind\":\"HierarchyConfiguration\",\"metadata\":{\"name\":\"hierarchy\",\"namespace\":\"mid\",\"resourceVersion\":\"7\"},\"spec\":{\"allowCascadingDeletion\":true,\"parent\":\"top\"},\"status\":{\"children\":[\"low\"],\"conditions\":[{\"message\":\"an ancestor is halted\",\"reason\":\"AncestorHaltActivities\",\"status\":\"True\",\"type\":\"ActivitiesHalted\"}]}}"
+unfolding object_text digits serde_json_on_literals
+text_of_tree = refl
+
+pub text_of_root : object_text (bare HierarchyConfiguration (codes "top") (codes "hierarchy") (Hierarchy None false [] [])) ≡ codes "{\"apiVersion\":\"hnc.x-k8s.io/v1alpha2\",\"kind\":\"HierarchyConfiguration\",\"metadata\":{\"name\":\"hierarchy\",\"namespace\":\"top\",\"resourceVersion\":\"7\"},\"spec\":{}}"
+unfolding object_text digits serde_json_on_literals
+text_of_root = refl
+
+pub text_of_config : object_text (bare HncConfiguration [] (codes "config") (Config (record { group = codes "apps"; resource = codes "things"; mode = Remove } ∷ []))) ≡ codes "{\"apiVersion\":\"hnc.x-k8s.io/v1alpha2\",\"kind\":\"HNCConfiguration\",\"metadata\":{\"name\":\"config\",\"resourceVersion\":\"7\"},\"spec\":{\"resources\":[{\"group\":\"apps\",\"mode\":\"Remove\",\"resource\":\"things\"}]}}"
+unfolding object_text digits serde_json_on_literals
+text_of_config = refl
+
+pub text_of_anchor : object_text (bare SubnamespaceAnchor (codes "top") (codes "mid") (Anchor (Some Ok))) ≡ codes "{\"apiVersion\":\"hnc.x-k8s.io/v1alpha2\",\"kind\":\"SubnamespaceAnchor\",\"metadata\":{\"name\":\"mid\",\"namespace\":\"top\",\"resourceVersion\":\"7\"},\"status\":{\"status\":\"Ok\"}}"
+unfolding object_text digits serde_json_on_literals
+text_of_anchor = refl
+
+-- the limits of a quota
+pub text_of_quota : object_text (bare HierarchicalResourceQuota (codes "top") (codes "q") (Quota (record { resource = codes "cpu"; written = codes "1"; amount = 1000 } ∷ record { resource = codes "pods"; written = codes "3"; amount = 3000 } ∷ []) [])) ≡ codes "{\"apiVersion\":\"hnc.x-k8s.io/v1alpha2\",\"kind\":\"HierarchicalResourceQuota\",\"metadata\":{\"name\":\"q\",\"namespace\":\"top\",\"resourceVersion\":\"7\"},\"spec\":{\"hard\":{\"cpu\":\"1\",\"pods\":\"3\"}}}"
+unfolding object_text digits serde_json_on_literals
+text_of_quota = refl
+
+abbrev role : Object
+role = record { id = record { kind = Role; ns = codes "top"; name = codes "r" }; labels = (codes "app", codes "web") ∷ (codes "tier", []) ∷ []; annotations = []; payload = Plain (codes "{\"rules\":[]}") nothing; version = 12 }
+
+pub text_of_role : object_text role ≡ codes "{\"apiVersion\":\"rbac.authorization.k8s.io/v1\",\"kind\":\"Role\",\"metadata\":{\"labels\":{\"app\":\"web\",\"tier\":\"\"},\"name\":\"r\",\"namespace\":\"top\",\"resourceVersion\":\"12\"},\"rules\":[]}"
+unfolding object_text digits serde_json_on_literals
+text_of_role = refl
+
+-- a quote in a value, and a member that goes first
+abbrev config_map : Object
+config_map = record { id = record { kind = ConfigMap; ns = codes "top"; name = codes "m" }; labels = []; annotations = (codes "note", codes "a\"b") ∷ []; payload = Plain (codes "{\"a\":1,\"data\":{}}") nothing; version = 1 }
+
+pub text_of_config_map : object_text config_map ≡ codes "{\"a\":1,\"apiVersion\":\"v1\",\"data\":{},\"kind\":\"ConfigMap\",\"metadata\":{\"annotations\":{\"note\":\"a\\\"b\"},\"name\":\"m\",\"namespace\":\"top\",\"resourceVersion\":\"1\"}}"
+unfolding object_text digits serde_json_on_literals
+text_of_config_map = refl
+
+pub text_of_list : list_text Namespace (bare Namespace [] (codes "top") (NamespaceOf true) ∷ []) 40 ≡ codes "{\"apiVersion\":\"v1\",\"items\":[{\"apiVersion\":\"v1\",\"kind\":\"Namespace\",\"metadata\":{\"name\":\"top\",\"resourceVersion\":\"7\"},\"status\":{\"phase\":\"Terminating\"}}],\"kind\":\"NamespaceList\",\"metadata\":{\"resourceVersion\":\"40\"}}"
+unfolding list_text digits serde_json_on_literals
+text_of_list = refl
+
+pub text_of_refusal : status_text (NotFound Role (codes "r")) ≡ codes "{\"apiVersion\":\"v1\",\"code\":404,\"kind\":\"Status\",\"message\":\"roles.rbac.authorization.k8s.io \\\"r\\\" not found\",\"metadata\":{},\"reason\":\"NotFound\",\"status\":\"Failure\"}"
+unfolding status_text message_about digits serde_json_on_literals
+text_of_refusal = refl

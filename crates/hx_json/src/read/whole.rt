@@ -1,0 +1,65 @@
+// Bodies that are JSON of whole numbers.
+ghost use Rattle.std.specs.Prelude.{◌≡◌, IfOk, IfErr};
+ghost use Rattle.serde_json.specs.View.{view, items_view, members_view};
+ghost use Rattle.serde_json.specs.Written.{has_float, items_have_float, members_have_float};
+ghost use Rattle.hx_json.specs.Reading.{IsFaultOf, IsWhole, Place};
+
+use crate::JsonFault;
+use serde_json::{Map, Value};
+use std::alloc::Global;
+
+/// The value of a body.
+pub fn read_whole(alloc: Global, body: &[u8]) -> Result<Value, JsonFault>
+    ensures ok { IfOk result (λ v. IsWhole body.now (view v)) }
+    ensures fault { IfErr result (λ f. (p : Place) → IsFaultOf p body.now f) }
+{
+    let value = match Value::from_slice(alloc, body) {
+        Ok(value) => value,
+        Err(error) => {
+            if error.is_memory() {
+                return Err(JsonFault::NoMemory);
+            }
+            return Err(JsonFault::NotJson);
+        }
+    };
+    if holds_float(&value) {
+        return Err(JsonFault::NotWhole);
+    }
+    Ok(value)
+}
+
+#[cycle(holds_float)]
+fn holds_float(value: &Value) -> bool
+    ensures { result ≡ has_float (view value.now) }
+{
+    match value {
+        Value::Null | Value::Bool(_) | Value::String(_) => false,
+        Value::Number(number) => number.is_f64(),
+        Value::Array(items) => items_hold_float(items),
+        Value::Object(members) => members_hold_float(members),
+    }
+}
+
+#[cycle(holds_float)]
+fn items_hold_float(items: &Vec<Value>) -> bool
+    ensures { result ≡ items_have_float (items_view items.now.items) }
+{
+    for item in items {
+        if holds_float(item) {
+            return true;
+        }
+    }
+    false
+}
+
+#[cycle(holds_float)]
+fn members_hold_float(members: &Map<String, Value>) -> bool
+    ensures { result ≡ members_have_float (members_view members.now.entries) }
+{
+    for (_, member) in members.iter() {
+        if holds_float(member) {
+            return true;
+        }
+    }
+    false
+}
