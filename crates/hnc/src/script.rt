@@ -3,7 +3,7 @@ ghost use Rattle.std.specs.Prelude.{◌≡◌, ◌≢◌, ◌≤◌, ◌<◌, �
 ghost use Rattle.std.specs.Io.KnownBytes.{Appends, IsAtEnd};
 ghost use Rattle.std.specs.Str.Lines.{strip_carriage_return};
 ghost use Rattle.hx_ports.specs.Causes.{Rose};
-ghost use Rattle.hx_core.specs.Serving.{IsServedAsk};
+ghost use Rattle.hx_core.specs.Serving.{IsServedAsk, IsLegalAnswer};
 ghost use Rattle.hnc.specs.Headline.{most_bytes};
 ghost use Rattle.hnc.specs.Lines.{asking, is_asking, script_lines};
 ghost use Rattle.hnc.specs.Running.{Does, Cuts, HasNoEnd, Feeds, CutsPiece, WritesFront, WriteCause, SaysTo, SaysFront, Serves, CutsAnswer};
@@ -91,6 +91,7 @@ fn write_all<W: Sink>(sink: &mut W, bytes: &[u8]) -> Result<(), Unwritten>
 
 /// Writes the line of an answer or, where its text finds no memory, the one for want of memory.
 fn say<W: Sink>(alloc: Global, sink: &mut W, answer: &Answer) -> Result<(), Unwritten>
+    requires { IsLegalAnswer answer.now }
     ensures says { OnOk result (SaysTo answer.now (W.written sink.old) (W.written sink.new)) }
     ensures cut { OnErr result (SaysFront answer.now (W.written sink.old) (W.written sink.new)) }
     ensures cause { WriteCause (W.write_faults sink.old) (W.write_faults sink.new) (W.stalls sink.old) (W.stalls sink.new) result }

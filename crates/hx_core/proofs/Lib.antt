@@ -1,2 +1,3 @@
 pub mod Making
 pub mod Storing
+pub mod Legality

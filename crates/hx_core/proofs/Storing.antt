@@ -19,7 +19,8 @@ use Rattle.hx_model.specs.declared.ask.Answer.{Answer}
 use Rattle.hx_model.specs.declared.ask.Answer.TheVariants.{One, Refused as Refusing}
 use Rattle.hx_model.specs.declared.refusal.Refusal.TheVariants.{StoreFailed, NoMemory as NoRoom}
 use Rattle.hx_model.specs.State.{State, row_of, rows_from, put, stamped}
-use Rattle.hx_model.specs.Texts.{rows_of_objects, key_text, object_text}
+use Rattle.hx_object.specs.Json.{object_text}
+use Rattle.hx_model.specs.Texts.{rows_of_objects, key_text}
 use Rattle.hx_model.specs.Answers.{answer_to, shown, not_found, already_there}
 use Rattle.hx_model.specs.Machine.{opening_world, request_entry}
 use Rattle.hx_model.proofs.Rows.{row_of-rows_from, rows_from-push}

@@ -4,7 +4,8 @@ use Rattle.hx_object.specs.declared.object.Object.{Object}
 use Rattle.hx_ports.specs.Keeping.{IsBatch}
 use Rattle.hx_ports.specs.declared.keeper.Row.{Row}
 use Rattle.hx_ports.specs.declared.keeper.Batch.{Batch}
-use Rattle.hx_model.specs.Texts.{key_text, object_text}
+use Rattle.hx_object.specs.Json.{object_text}
+use Rattle.hx_model.specs.Texts.{key_text}
 
 -- the row of an object
 abbrev pub row_of : Object → Row

@@ -1,12 +1,13 @@
 // The cluster.
 ghost use Rattle.std.specs.Prelude.{◌≡◌, ◌≤◌, ◌<◌, [], ◌∷◌, ◌++◌, IfOk, IfErr, IfSome, false, true, is_some, option_copied, vec_len, vec_capacity};
+ghost use Rattle.std.specs.List.{AllByRecursion};
 ghost use Rattle.hx_ports.specs.Causes.{Rose};
 ghost use Rattle.hx_model.specs.State.{row_of, same_id};
 ghost use Rattle.hx_model.specs.Answers.{shown, already_there};
 ghost use Rattle.hx_model.specs.Machine.{opening_world, request_entry};
 ghost use Rattle.hx_core.specs.Standing.{StandsFor, Makes};
 ghost use Rattle.hx_core.specs.Starting.{IsDamaged, IfDamaged, IsUndamaged, IsUntouched};
-ghost use Rattle.hx_core.specs.Serving.{IsServedAsk};
+ghost use Rattle.hx_core.specs.Serving.{IsServed, IsServedAsk, IsLegalAnswer};
 ghost use Rattle.hx_core.specs.Inside.{IsOrNoMemory};
 
 use crate::prepare::{Prepared, prepare};
@@ -96,7 +97,8 @@ impl<K: Keeper> Cluster<K> {
     /// Answers one ask. All that the answer needs is made before the keeper is asked.
     pub fn request(&mut self, ask: &Ask) -> Answer
         requires { IsServedAsk ask.now }
-        ensures { Makes self.old (request_entry ask.now result ∷ []) self.new }
+        ensures makes { Makes self.old (request_entry ask.now result ∷ []) self.new }
+        ensures legal { IsLegalAnswer result }
     {
         match ask {
             Ask::Get { id } => get(self.objects.as_slice(), id),
@@ -123,7 +125,8 @@ impl<K: Keeper> Cluster<K> {
     /// Stores an object that isn't there.
     fn create(&mut self, object: &Object) -> Answer
         requires { IsServedAsk (Ask.Create object.now) }
-        ensures { Makes self.old (request_entry (Ask.Create object.now) result ∷ []) self.new }
+        ensures makes { Makes self.old (request_entry (Ask.Create object.now) result ∷ []) self.new }
+        ensures legal { IsLegalAnswer result }
     {
         if contains(self.objects.as_slice(), &object.id) {
             return already_there(&object.id);
@@ -208,7 +211,9 @@ fn is_same_id(a: &Id, b: &Id) -> bool
 
 /// The answer that shows an object.
 fn get(objects: &[Object], id: &Id) -> Answer
-    ensures { IsOrNoMemory result (shown (row_of objects.now id.now) false id.now) }
+    requires { AllByRecursion IsServed objects.now }
+    ensures answer { IsOrNoMemory result (shown (row_of objects.now id.now) false id.now) }
+    ensures legal { IsLegalAnswer result }
 {
     match find_object(objects, id) {
         None => match id.name.clone() {

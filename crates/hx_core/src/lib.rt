@@ -4,8 +4,8 @@
 #![tactic(auto)]
 
 mod cluster;
+mod key;
 mod prepare;
-mod text;
 
 pub use cluster::{Cluster, StartFault, Unstarted};
-pub use text::{key_of, write_object};
+pub use key::key_of;

@@ -1,10 +1,12 @@
 // What a write needs, made before the keeper is asked.
 ghost use Rattle.std.specs.Prelude.{◌≡◌, ◌≤◌, IfOk, IsUtf8};
+ghost use Rattle.hx_object.specs.Faults.{IsLegal};
 ghost use Rattle.hx_ports.specs.Keeping.{greatest_version, IsBatch};
 ghost use Rattle.hx_model.specs.State.{stamped};
 ghost use Rattle.hx_core.specs.Batches.{row_of, batch_of, IsPrepared};
 
-use crate::text::{key_of, write_object};
+use crate::key::key_of;
+use hx_json::write_object;
 use hx_object::{List, NoMemory, Object};
 use hx_ports::{Batch, Row};
 use std::alloc::Global;
@@ -19,7 +21,8 @@ pub struct Prepared {
 
 /// Prepares the write of one object with a new version.
 pub fn prepare(alloc: Global, object: &Object, version: u64) -> Result<Prepared, NoMemory>
-    requires { version ≤ greatest_version }
+    requires legal { IsLegal (stamped object.now version) }
+    requires version { version ≤ greatest_version }
     ensures { IfOk result (λ p. IsPrepared (stamped object.now version) p.stored p.reply p.batch) }
 {
     let stored = with_version(object, version)?;
@@ -43,7 +46,8 @@ fn with_version(object: &Object, version: u64) -> Result<Object, NoMemory>
 
 /// The batch that puts one object.
 fn batch_of(alloc: Global, object: &Object) -> Result<Batch, NoMemory>
-    requires { object.now.version ≤ greatest_version }
+    requires legal { IsLegal object.now }
+    requires version { object.now.version ≤ greatest_version }
     ensures batch { IfOk result (λ batch. batch ≡ batch_of object.now) }
     ensures texts { IfOk result (λ batch. IsBatch batch) }
 {
@@ -57,6 +61,7 @@ fn batch_of(alloc: Global, object: &Object) -> Result<Batch, NoMemory>
 
 /// The row of an object.
 fn row_of(alloc: Global, object: &Object) -> Result<Row, NoMemory>
+    requires { IsLegal object.now }
     ensures row { IfOk result (λ row. row ≡ row_of object.now) }
     ensures texts { IfOk result (λ row. IsUtf8 row.key × IsUtf8 row.body) }
 {

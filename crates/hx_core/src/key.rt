@@ -1,22 +1,10 @@
-// The texts that are stored.
+// The keys of stored rows.
 ghost use Rattle.std.specs.Prelude.{◌≡◌, IfOk};
-ghost use Rattle.hx_model.specs.Texts.{key_text, object_text, two_digits};
+ghost use Rattle.hx_model.specs.Texts.{key_text, two_digits};
 ghost use Rattle.hx_object.specs.Kinds.{number_of};
 
-use hx_object::{Id, Kind, NoMemory, Object, Text};
+use hx_object::{Id, Kind, NoMemory, Text};
 use std::alloc::Global;
-
-/// The JSON text of an object: compact, with members in byte order of their names.
-#[tactic(auto, unfolding(hx_model::specs::Texts::object_text))]
-pub fn write_object(alloc: Global, object: &Object) -> Result<Text, NoMemory>
-    ensures { IfOk result (λ text. text ≡ object_text object.now) }
-{
-    let name = object.id.name.as_str();
-    let version = object.version;
-    Ok(Text::of_string(format!(in alloc;
-        "{{\"apiVersion\":\"v1\",\"kind\":\"Namespace\",\"metadata\":{{\"name\":\"{name}\",\"resourceVersion\":\"{version}\"}},\"status\":{{\"phase\":\"Active\"}}}}"
-    )?))
-}
 
 /// The key of an object's row.
 #[tactic(auto, unfolding(hx_model::specs::Texts::key_text))]
