@@ -34,10 +34,12 @@ row_of_entry e = record { key = e.0; version = e.1.0; body = e.1.1 }
 abbrev pub row_after : List ℕ → Kept → Option Row
 row_after after kept = option_map row_of_entry (find_first (λ e. is_lt (bytes_cmp after e.0)) (map.entries kept.rows))
 
+-- the rows with those of a batch, the first one first
 abbrev pub with_puts : List Row → Rows → Rows
 with_puts [] rows = rows
 with_puts (put ∷ puts) rows = with_puts puts (map.insert rows put.key (put.version, put.body))
 
+-- the rows without those of some keys
 abbrev pub with_cuts : List (List ℕ) → Rows → Rows
 with_cuts [] rows = rows
 with_cuts (cut ∷ cuts) rows = with_cuts cuts (map.remove rows cut)

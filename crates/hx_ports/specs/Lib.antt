@@ -2,3 +2,4 @@ pub mod Calls
 pub mod Causes
 pub mod Keeping
 pub mod Rows
+pub mod Shown

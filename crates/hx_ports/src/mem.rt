@@ -45,11 +45,13 @@ pub struct MemSource {
 }
 
 impl MemSource {
+    ghost use Rattle.hx_ports.specs.Shown.{reads_of};
+
     /// The reads whose numbers stand in `fails` fail; the first one is number 1.
     pub fn new(bytes: Vec<u8>, piece: usize, fails: Vec<u64>) -> Self
         requires { 0 < piece }
         ensures left { ⟦<MemSource as Source>⟧.left result ≡ Some bytes.items }
-        ensures plan { result.plan ≡ record { numbers = fails; calls = 0 } }
+        ensures plan { reads_of result ≡ record { numbers = fails; calls = 0 } }
         ensures faults { ⟦<MemSource as Source>⟧.read_faults result ≡ 0 }
     {
         MemSource {
@@ -67,6 +69,8 @@ impl MemSource {
 }
 
 impl Source for MemSource {
+    ghost use Rattle.hx_ports.specs.Shown.{reads_of};
+
     ghost left = { λ s. ⟦<SureSource as Source>⟧.left s.source };
 
     ghost read_faults = { λ s. s.faults };
@@ -74,8 +78,8 @@ impl Source for MemSource {
     fn read(&mut self, into: &mut [u8]) -> Result<usize, ReadFault>
         ensures bound { ReadsAtMost result into.new }
         ensures bytes { ReadConsumes (⟦<MemSource as Source>⟧.left self.old) (⟦<MemSource as Source>⟧.left self.new) result into.new }
-        ensures cause { HasCause self.old.faults self.new.faults result }
-        ensures plan { FailsByPlan self.old.plan self.new.plan result }
+        ensures cause { HasCause (⟦<MemSource as Source>⟧.read_faults self.old) (⟦<MemSource as Source>⟧.read_faults self.new) result }
+        ensures plan { FailsByPlan (reads_of self.old) (reads_of self.new) result }
     {
         if self.plan.next_fails() {
             self.faults = self.faults.saturating_add(1);
@@ -96,11 +100,13 @@ pub struct MemSink {
 }
 
 impl MemSink {
+    ghost use Rattle.hx_ports.specs.Shown.{writes_of};
+
     /// The writes whose numbers stand in `fails` fail; the first one is number 1.
     pub fn new(into: Vec<u8>, piece: usize, fails: Vec<u64>) -> Self
         requires { 0 < piece }
         ensures written { ⟦<MemSink as Sink>⟧.written result ≡ Some into.items }
-        ensures plan { result.plan ≡ record { numbers = fails; calls = 0 } }
+        ensures plan { writes_of result ≡ record { numbers = fails; calls = 0 } }
         ensures faults { ⟦<MemSink as Sink>⟧.write_faults result ≡ 0 }
         ensures stalls { ⟦<MemSink as Sink>⟧.stalls result ≡ 0 }
     {
@@ -132,6 +138,8 @@ impl MemSink {
 }
 
 impl Sink for MemSink {
+    ghost use Rattle.hx_ports.specs.Shown.{most_taken, writes_of};
+
     ghost written = { λ s. ⟦<SureSink as Sink>⟧.written s.sink };
 
     ghost write_faults = { λ s. s.faults };
@@ -141,10 +149,10 @@ impl Sink for MemSink {
     fn write(&mut self, from: &[u8]) -> Result<usize, WriteFault>
         ensures bound { WritesAtMost result from.now }
         ensures bytes { WriteAppends (⟦<MemSink as Sink>⟧.written self.old) (⟦<MemSink as Sink>⟧.written self.new) result from.now }
-        ensures cause { HasCause self.old.faults self.new.faults result }
+        ensures cause { HasCause (⟦<MemSink as Sink>⟧.write_faults self.old) (⟦<MemSink as Sink>⟧.write_faults self.new) result }
         ensures stall { NoneOnlyAtStall (⟦<MemSink as Sink>⟧.stalls self.old) (⟦<MemSink as Sink>⟧.stalls self.new) result from.now }
-        ensures plan { FailsByPlan self.old.plan self.new.plan result }
-        ensures piece { IfOk result (λ n. n ≤ self.old.piece) }
+        ensures plan { FailsByPlan (writes_of self.old) (writes_of self.new) result }
+        ensures piece { IfOk result (λ n. n ≤ most_taken self.old) }
     {
         if self.plan.next_fails() {
             self.faults = self.faults.saturating_add(1);
@@ -174,6 +182,8 @@ pub struct MemKeeper {
 }
 
 impl MemKeeper {
+    ghost use Rattle.hx_ports.specs.Shown.{commits_of, failing_of, read_calls};
+
     /// `fail_reads` numbers the calls of `attach`, `meta` and `load` together, from 1 on, and `fail_commits` those of `commit`.
     ///
     /// A commit that lands and finds no memory answers `NoMemory`.
@@ -184,9 +194,9 @@ impl MemKeeper {
         fail_reads: Vec<u64>,
     ) -> Self
         ensures kept { ⟦<MemKeeper as Keeper>⟧.kept result ≡ told rows.items meta }
-        ensures reads { result.reads ≡ record { numbers = fail_reads; calls = 0 } }
-        ensures fail_commits { result.fail_commits ≡ fail_commits }
-        ensures commits { result.commits ≡ 0 }
+        ensures reads { read_calls result ≡ record { numbers = fail_reads; calls = 0 } }
+        ensures fail_commits { failing_of result ≡ fail_commits.items }
+        ensures commits { commits_of result ≡ 0 }
         ensures whole { ⟦<MemKeeper as Keeper>⟧.broken result ≡ false }
         ensures faults { ⟦<MemKeeper as Keeper>⟧.keeper_faults result ≡ 0 }
     {
@@ -261,6 +271,8 @@ impl MemKeeper {
 }
 
 impl Keeper for MemKeeper {
+    ghost use Rattle.hx_ports.specs.Shown.{commits_of, failing_of, kept_by, read_calls};
+
     ghost kept = { λ k. ⟦<SureKeeper as Keeper>⟧.kept k.keeper };
 
     ghost broken = { λ k. k.broken };
@@ -268,11 +280,11 @@ impl Keeper for MemKeeper {
     ghost keeper_faults = { λ k. k.faults };
 
     fn attach(&mut self, path: &str) -> Result<(), KeepFault>
-        ensures same { self.new.keeper ≡ self.old.keeper }
-        ensures whole { self.new.broken ≡ self.old.broken }
-        ensures cause { KeeperCause self.old.faults self.new.faults result }
+        ensures same { kept_by self.new ≡ kept_by self.old }
+        ensures whole { ⟦<MemKeeper as Keeper>⟧.broken self.new ≡ ⟦<MemKeeper as Keeper>⟧.broken self.old }
+        ensures cause { KeeperCause (⟦<MemKeeper as Keeper>⟧.keeper_faults self.old) (⟦<MemKeeper as Keeper>⟧.keeper_faults self.new) result }
         ensures fault { ¬ IsErrOf result KeepFault.NoMemory }
-        ensures plan { FailsByPlan self.old.reads self.new.reads result }
+        ensures plan { FailsByPlan (read_calls self.old) (read_calls self.new) result }
     {
         self.count_read()?;
         self.keeper.attach(path)
@@ -280,11 +292,11 @@ impl Keeper for MemKeeper {
 
     fn meta(&mut self) -> Result<Meta, KeepFault>
         ensures meta { IfOk result (λ meta. IfSome (⟦<MemKeeper as Keeper>⟧.kept self.old) (λ held. meta ≡ meta_of held)) }
-        ensures same { self.new.keeper ≡ self.old.keeper }
-        ensures whole { self.new.broken ≡ self.old.broken }
-        ensures cause { KeeperCause self.old.faults self.new.faults result }
+        ensures same { kept_by self.new ≡ kept_by self.old }
+        ensures whole { ⟦<MemKeeper as Keeper>⟧.broken self.new ≡ ⟦<MemKeeper as Keeper>⟧.broken self.old }
+        ensures cause { KeeperCause (⟦<MemKeeper as Keeper>⟧.keeper_faults self.old) (⟦<MemKeeper as Keeper>⟧.keeper_faults self.new) result }
         ensures fault { ¬ IsErrOf result KeepFault.NoMemory }
-        ensures plan { FailsByPlan self.old.reads self.new.reads result }
+        ensures plan { FailsByPlan (read_calls self.old) (read_calls self.new) result }
     {
         self.count_read()?;
         self.keeper.meta()
@@ -292,26 +304,26 @@ impl Keeper for MemKeeper {
 
     fn load(&mut self, after: &[u8]) -> Result<Option<Row>, KeepFault>
         ensures row { IfOk result (λ row. IfSome (⟦<MemKeeper as Keeper>⟧.kept self.old) (λ held. row ≡ row_after after.now held)) }
-        ensures same { self.new.keeper ≡ self.old.keeper }
-        ensures whole { self.new.broken ≡ self.old.broken }
-        ensures cause { KeeperCause self.old.faults self.new.faults result }
-        ensures planned { IsTrue (is_planned self.old.reads) ↔ IsErrOf result KeepFault.Fault }
-        ensures counted { self.new.reads ≡ after_call self.old.reads }
+        ensures same { kept_by self.new ≡ kept_by self.old }
+        ensures whole { ⟦<MemKeeper as Keeper>⟧.broken self.new ≡ ⟦<MemKeeper as Keeper>⟧.broken self.old }
+        ensures cause { KeeperCause (⟦<MemKeeper as Keeper>⟧.keeper_faults self.old) (⟦<MemKeeper as Keeper>⟧.keeper_faults self.new) result }
+        ensures planned { IsTrue (is_planned (read_calls self.old)) ↔ IsErrOf result KeepFault.Fault }
+        ensures counted { read_calls self.new ≡ after_call (read_calls self.old) }
     {
         self.count_read()?;
         self.keeper.load(after)
     }
 
     fn commit(&mut self, batch: &Batch) -> Result<(), KeepFault>
-        ensures ok { OnOk result (Lands batch.now (⟦<MemKeeper as Keeper>⟧.kept self.old) (⟦<MemKeeper as Keeper>⟧.kept self.new) × (self.old.broken ≡ false) × (self.new.broken ≡ false)) }
-        ensures refused { IsErrOf result KeepFault.NoMemory → (⟦<MemKeeper as Keeper>⟧.kept self.new ≡ ⟦<MemKeeper as Keeper>⟧.kept self.old) × (self.old.broken ≡ false) × (self.new.broken ≡ false) }
-        ensures breaks { IsErrOf result KeepFault.Fault → self.new.broken ≡ true }
-        ensures torn { IsErrOf result KeepFault.Fault → (⟦<MemKeeper as Keeper>⟧.kept self.new ≡ ⟦<MemKeeper as Keeper>⟧.kept self.old) ⊎ (Lands batch.now (⟦<MemKeeper as Keeper>⟧.kept self.old) (⟦<MemKeeper as Keeper>⟧.kept self.new) × (self.old.broken ≡ false)) }
-        ensures cause { KeeperCause self.old.faults self.new.faults result }
-        ensures plan { CommitsByPlan self.old.broken (landing self.old.fail_commits.items (next_number self.old.commits)) batch.now (⟦<MemKeeper as Keeper>⟧.kept self.old) (⟦<MemKeeper as Keeper>⟧.kept self.new) result }
-        ensures counted { self.new.commits ≡ next_number self.old.commits }
-        ensures closed { self.old.broken ≡ true → self.new.keeper ≡ self.old.keeper }
-        ensures lost { landing self.old.fail_commits.items (next_number self.old.commits) ≡ Some false → self.new.keeper ≡ self.old.keeper }
+        ensures ok { OnOk result (Lands batch.now (⟦<MemKeeper as Keeper>⟧.kept self.old) (⟦<MemKeeper as Keeper>⟧.kept self.new) × (⟦<MemKeeper as Keeper>⟧.broken self.old ≡ false) × (⟦<MemKeeper as Keeper>⟧.broken self.new ≡ false)) }
+        ensures refused { IsErrOf result KeepFault.NoMemory → (⟦<MemKeeper as Keeper>⟧.kept self.new ≡ ⟦<MemKeeper as Keeper>⟧.kept self.old) × (⟦<MemKeeper as Keeper>⟧.broken self.old ≡ false) × (⟦<MemKeeper as Keeper>⟧.broken self.new ≡ false) }
+        ensures breaks { IsErrOf result KeepFault.Fault → ⟦<MemKeeper as Keeper>⟧.broken self.new ≡ true }
+        ensures torn { IsErrOf result KeepFault.Fault → (⟦<MemKeeper as Keeper>⟧.kept self.new ≡ ⟦<MemKeeper as Keeper>⟧.kept self.old) ⊎ (Lands batch.now (⟦<MemKeeper as Keeper>⟧.kept self.old) (⟦<MemKeeper as Keeper>⟧.kept self.new) × (⟦<MemKeeper as Keeper>⟧.broken self.old ≡ false)) }
+        ensures cause { KeeperCause (⟦<MemKeeper as Keeper>⟧.keeper_faults self.old) (⟦<MemKeeper as Keeper>⟧.keeper_faults self.new) result }
+        ensures plan { CommitsByPlan (⟦<MemKeeper as Keeper>⟧.broken self.old) (landing (failing_of self.old) (next_number (commits_of self.old))) batch.now (⟦<MemKeeper as Keeper>⟧.kept self.old) (⟦<MemKeeper as Keeper>⟧.kept self.new) result }
+        ensures counted { commits_of self.new ≡ next_number (commits_of self.old) }
+        ensures closed { ⟦<MemKeeper as Keeper>⟧.broken self.old ≡ true → kept_by self.new ≡ kept_by self.old }
+        ensures lost { landing (failing_of self.old) (next_number (commits_of self.old)) ≡ Some false → kept_by self.new ≡ kept_by self.old }
     {
         self.commits = self.commits.saturating_add(1);
         if self.broken {

@@ -41,6 +41,8 @@ impl SureSource {
 }
 
 impl Source for SureSource {
+    ghost use Rattle.hx_ports.specs.Shown.{bytes_left, most_given};
+
     ghost left = { λ s. Some (drop s.at s.bytes.items) };
 
     ghost read_faults = { λ s. 0 };
@@ -48,7 +50,7 @@ impl Source for SureSource {
     fn read(&mut self, into: &mut [u8]) -> Result<usize, ReadFault>
         ensures bound { ReadsAtMost result into.new }
         ensures bytes { ReadConsumes (⟦<SureSource as Source>⟧.left self.old) (⟦<SureSource as Source>⟧.left self.new) result into.new }
-        ensures count { result ≡ Ok (min (vec_len self.old.bytes - self.old.at) (min self.old.piece (length into.new))) }
+        ensures count { result ≡ Ok (min (bytes_left self.old) (min (most_given self.old) (length into.new))) }
     {
         let left = self.bytes.len() - self.at;
         let count = left.min(self.piece.min(into.len()));
@@ -89,6 +91,8 @@ impl SureSink {
 }
 
 impl Sink for SureSink {
+    ghost use Rattle.hx_ports.specs.Shown.{room_of};
+
     ghost written = { λ s. Some s.into.items };
 
     ghost write_faults = { λ s. 0 };
@@ -96,7 +100,7 @@ impl Sink for SureSink {
     ghost stalls = { λ s. s.stalls };
 
     fn write(&mut self, from: &[u8]) -> Result<usize, WriteFault>
-        ensures count { result ≡ Ok (min (vec_capacity self.old.into - vec_len self.old.into) (length from.now)) }
+        ensures count { result ≡ Ok (min (room_of self.old) (length from.now)) }
         ensures bytes { WriteAppends (⟦<SureSink as Sink>⟧.written self.old) (⟦<SureSink as Sink>⟧.written self.new) result from.now }
         ensures stall { NoneOnlyAtStall self.old.stalls self.new.stalls result from.now }
     {
@@ -209,6 +213,8 @@ fn cut_row(rows: &mut Vec<Row>, key: &List<u8>)
 }
 
 impl Keeper for SureKeeper {
+    ghost use Rattle.hx_ports.specs.Shown.{given_meta, held_rows, tells_rows};
+
     ghost kept = { λ k. if k.tells then Some (kept_of k.rows.items k.meta) else None };
 
     ghost broken = { λ _. false };
@@ -225,7 +231,7 @@ impl Keeper for SureKeeper {
 
     fn meta(&mut self) -> Result<Meta, KeepFault>
         ensures meta { IsOkAnd result (λ meta. IfSome (⟦<SureKeeper as Keeper>⟧.kept self.old) (λ held. meta ≡ meta_of held)) }
-        ensures untold { self.old.tells ≡ false → result ≡ Ok self.old.meta }
+        ensures untold { tells_rows self.old ≡ false → result ≡ Ok (given_meta self.old) }
         ensures same { self.new ≡ self.old }
     {
         let mut meta = self.meta;
@@ -237,7 +243,7 @@ impl Keeper for SureKeeper {
 
     fn load(&mut self, after: &[u8]) -> Result<Option<Row>, KeepFault>
         ensures row { IfOk result (λ row. IfSome (⟦<SureKeeper as Keeper>⟧.kept self.old) (λ held. row ≡ row_after after.now held)) }
-        ensures first { IfOk result (λ row. row ≡ find (λ row. is_lt (bytes_cmp after.now row.key)) self.old.rows.items) }
+        ensures first { IfOk result (λ row. row ≡ find (λ row. is_lt (bytes_cmp after.now row.key)) (held_rows self.old)) }
         ensures memory { OnErr result (IsErrOf result KeepFault.NoMemory) }
         ensures same { self.new ≡ self.old }
     {
@@ -249,10 +255,10 @@ impl Keeper for SureKeeper {
 
     fn commit(&mut self, batch: &Batch) -> Result<(), KeepFault>
         ensures lands { OnOk result (Lands batch.now (⟦<SureKeeper as Keeper>⟧.kept self.old) (⟦<SureKeeper as Keeper>⟧.kept self.new)) }
-        ensures entries { OnOk result (entries_of self.new.rows.items ≡ after_cuts batch.now.cuts (after_puts batch.now.puts (entries_of self.old.rows.items))) }
-        ensures meta { OnOk result ((self.new.meta ≡ record self.old.meta { version = batch.now.version }) × (self.new.tells ≡ self.old.tells)) }
+        ensures entries { OnOk result (entries_of (held_rows self.new) ≡ after_cuts batch.now.cuts (after_puts batch.now.puts (entries_of (held_rows self.old)))) }
+        ensures meta { OnOk result ((given_meta self.new ≡ record (given_meta self.old) { version = batch.now.version }) × (tells_rows self.new ≡ tells_rows self.old)) }
         ensures memory { OnErr result (IsErrOf result KeepFault.NoMemory) }
-        ensures same { OnErr result (self.new.rows.items ≡ self.old.rows.items × (self.new.meta ≡ self.old.meta) × (self.new.tells ≡ self.old.tells)) }
+        ensures same { OnErr result (held_rows self.new ≡ held_rows self.old × (given_meta self.new ≡ given_meta self.old) × (tells_rows self.new ≡ tells_rows self.old)) }
     {
         let puts = match batch.puts.clone() {
             Ok(puts) => puts.into_vec(),

@@ -1,0 +1,72 @@
+-- What the ports in memory show beside what they hold.
+--     bytes_left, most_given     how many bytes a source has left, and the most that one read gives
+--     room_of                    how many bytes a sink still takes
+--     held_rows, given_meta, tells_rows      the rows of a keeper, what it was told of them, and whether it tells them
+--     reads_of, writes_of        which reads of a source fail, and which writes of a sink
+--     most_taken                 the most that one write of a sink takes
+--     read_calls                 which calls of a keeper fail, beside its commits
+--     failing_of, commits_of     the commits of a keeper that fail, and how many there were
+--     kept_by                    the keeper that holds the rows
+use Rattle.std.specs.Prelude.{ℕ, ◌-◌, Bool, List, vec_len, vec_capacity}
+use Rattle.hx_ports.specs.declared.mem.FailCommit.{FailCommit}
+use Rattle.hx_ports.specs.declared.mem.MemKeeper.{MemKeeper}
+use Rattle.hx_ports.specs.declared.mem.MemSink.{MemSink}
+use Rattle.hx_ports.specs.declared.mem.MemSource.{MemSource}
+use Rattle.hx_ports.specs.declared.mem.Plan.{Plan}
+use Rattle.hx_ports.specs.declared.keeper.Meta.{Meta}
+use Rattle.hx_ports.specs.declared.keeper.Row.{Row}
+use Rattle.hx_ports.specs.declared.sure.SureKeeper.{SureKeeper}
+use Rattle.hx_ports.specs.declared.sure.SureSink.{SureSink}
+use Rattle.hx_ports.specs.declared.sure.SureSource.{SureSource}
+
+-- how many bytes are left
+abbrev pub bytes_left : SureSource → ℕ
+bytes_left s = vec_len s.bytes - s.at
+
+-- the most bytes that one read gives
+abbrev pub most_given : SureSource → ℕ
+most_given s = s.piece
+
+-- how many bytes are still taken
+abbrev pub room_of : SureSink → ℕ
+room_of s = vec_capacity s.into - vec_len s.into
+
+-- the rows, in order or not
+abbrev pub held_rows : SureKeeper → List Row
+held_rows k = k.rows.items
+
+-- the schema and the version, and the number of rows that was given
+abbrev pub given_meta : SureKeeper → Meta
+given_meta k = k.meta
+
+-- the keeper tells its rows
+abbrev pub tells_rows : SureKeeper → Bool
+tells_rows k = k.tells
+
+-- which reads fail, and how many there were
+abbrev pub reads_of : MemSource → Plan
+reads_of s = s.plan
+
+-- which writes fail, and how many there were
+abbrev pub writes_of : MemSink → Plan
+writes_of s = s.plan
+
+-- the most bytes that one write takes
+abbrev pub most_taken : MemSink → ℕ
+most_taken s = s.piece
+
+-- which calls fail, beside commits, and how many there were
+abbrev pub read_calls : MemKeeper → Plan
+read_calls k = k.reads
+
+-- the commits that fail
+abbrev pub failing_of : MemKeeper → List FailCommit
+failing_of k = k.fail_commits.items
+
+-- how many commits there were
+abbrev pub commits_of : MemKeeper → ℕ
+commits_of k = k.commits
+
+-- the keeper that holds the rows
+abbrev pub kept_by : MemKeeper → SureKeeper
+kept_by k = k.keeper
