@@ -5,7 +5,9 @@
 --     resource_of    the plural, and behind a point the group where it isn't the core group
 --     name_of, api_version_of      how bodies name the kind
 --     is_in_cluster  whether objects of the kind lie in no namespace
-use Rattle.std.specs.Prelude.{ℕ, Bool, true, false, List, [], ◌∷◌, ◌++◌, codes}
+--     kind_of_plural the kind of a plural
+use Rattle.std.specs.Prelude.{ℕ, Bool, true, false, List, [], ◌∷◌, ◌++◌, codes, find, Option}
+use Rattle.std.specs.Str.{bytes_eq}
 use Rattle.hx_object.specs.declared.kind.Kind.{Kind}
 use Rattle.hx_object.specs.declared.kind.Kind.TheVariants.{Namespace, HncConfiguration, HierarchyConfiguration, SubnamespaceAnchor, HierarchicalResourceQuota, Role, RoleBinding, ConfigMap, Secret, NetworkPolicy, LimitRange, Pod, Service, PersistentVolumeClaim}
 
@@ -104,3 +106,13 @@ abbrev pub is_in_cluster : Kind → Bool
 is_in_cluster Namespace = true
 is_in_cluster HncConfiguration = true
 is_in_cluster _ = false
+
+-- all kinds, in the order of their numbers
+abbrev pub all_kinds : List Kind
+all_kinds =
+    Namespace ∷ HncConfiguration ∷ HierarchyConfiguration ∷ SubnamespaceAnchor ∷ HierarchicalResourceQuota ∷ Role ∷ RoleBinding
+    ∷ ConfigMap ∷ Secret ∷ NetworkPolicy ∷ LimitRange ∷ Pod ∷ Service ∷ PersistentVolumeClaim ∷ []
+
+-- the kind whose objects are listed under a plural
+abbrev pub kind_of_plural : List ℕ → Option Kind
+kind_of_plural plural = find (λ kind. bytes_eq plural (plural_of kind)) all_kinds

@@ -1,11 +1,11 @@
 // The kinds of objects.
 ghost use Rattle.std.specs.Prelude.{◌≡◌};
-ghost use Rattle.hx_object.specs.Kinds.{number_of, resource_of, is_in_cluster, name_of, api_version_of};
+ghost use Rattle.hx_object.specs.Kinds.{number_of, resource_of, is_in_cluster, kind_of_plural, name_of, api_version_of};
 
 /// A kind of object: a resource of the Kubernetes core, RBAC or networking API, or of HNC's own group `hnc.x-k8s.io/v1alpha2`.
 ///
 /// The order of the variants is the order of the kinds' numbers.
-#[derive(Clone, Copy, Debug, PartialEq, Eq, PartialOrd, Ord)]
+#[derive(Clone, Copy, Debug, PartialEq, Eq, PartialOrd, Ord, Hash)]
 pub enum Kind {
     Namespace,
     HncConfiguration,
@@ -43,6 +43,29 @@ impl Kind {
             Kind::Pod => 12,
             Kind::Service => 13,
             Kind::PersistentVolumeClaim => 14,
+        }
+    }
+
+    /// The kind whose objects are listed under a plural.
+    pub fn of_plural(plural: &str) -> Option<Kind>
+        ensures { result ≡ kind_of_plural plural.now }
+    {
+        match plural {
+            "namespaces" => Some(Kind::Namespace),
+            "hncconfigurations" => Some(Kind::HncConfiguration),
+            "hierarchyconfigurations" => Some(Kind::HierarchyConfiguration),
+            "subnamespaceanchors" => Some(Kind::SubnamespaceAnchor),
+            "hierarchicalresourcequotas" => Some(Kind::HierarchicalResourceQuota),
+            "roles" => Some(Kind::Role),
+            "rolebindings" => Some(Kind::RoleBinding),
+            "configmaps" => Some(Kind::ConfigMap),
+            "secrets" => Some(Kind::Secret),
+            "networkpolicies" => Some(Kind::NetworkPolicy),
+            "limitranges" => Some(Kind::LimitRange),
+            "pods" => Some(Kind::Pod),
+            "services" => Some(Kind::Service),
+            "persistentvolumeclaims" => Some(Kind::PersistentVolumeClaim),
+            _ => None,
         }
     }
 

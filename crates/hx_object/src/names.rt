@@ -5,6 +5,15 @@ ghost use Rattle.hx_object.specs.Names.{is_dns_label, is_dns_subdomain, is_subdo
 
 use crate::Kind;
 
+impl Kind {
+    /// Whether the bytes may name an object of the kind.
+    pub fn is_name(self, name: &[u8]) -> bool
+        ensures { result ≡ is_name_of self name.now }
+    {
+        is_name_of(self, name)
+    }
+}
+
 /// Whether the bytes are a DNS label (RFC 1123): 1 to 63 lowercase letters, digits and dashes, with no dash at either end.
 #[tactic(auto, unfolding(crate::specs::Names::is_dns_label))]
 pub fn is_dns_label(name: &[u8]) -> bool

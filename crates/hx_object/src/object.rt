@@ -1,5 +1,6 @@
 // Objects and their identities.
 ghost use Rattle.std.specs.Prelude.{◌≡◌, IfOk, IsTrue, ◌↔◌};
+ghost use Rattle.hx_object.specs.Json.{mode_text};
 ghost use Rattle.hx_object.specs.Order.{id_cmp};
 
 use crate::{Kind, List, NoMemory, Pairs, Text};
@@ -8,7 +9,7 @@ use std::cmp::Ordering;
 /// What an object is found by. `ns` is empty for the kinds that lie in no namespace.
 ///
 /// Identities are ordered by kind number, namespace and name.
-#[derive(Clone, PartialEq, Eq, PartialOrd, Ord, Drop)]
+#[derive(Clone, PartialEq, Eq, PartialOrd, Ord, Hash, Drop)]
 pub struct Id {
     pub kind: Kind,
     pub ns: Text,
@@ -141,6 +142,20 @@ pub enum ObjectFault {
     TooManyLabels,
     /// The object is larger than 65,536 bytes.
     TooLarge,
+}
+
+impl Mode {
+    /// The mode as bodies name it.
+    pub fn name(self) -> &'static str
+        ensures { result.now ≡ mode_text self }
+    {
+        match self {
+            Mode::Propagate => "Propagate",
+            Mode::AllowPropagate => "AllowPropagate",
+            Mode::Remove => "Remove",
+            Mode::Ignore => "Ignore",
+        }
+    }
 }
 
 impl Id {

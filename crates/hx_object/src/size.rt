@@ -2,18 +2,27 @@
 ghost use Rattle.std.specs.Prelude.{◌≡◌, ◌+◌, nat_lt, length};
 ghost use Rattle.json.specs.Print.{quoted, escape, escape_byte, escape_letter};
 ghost use Rattle.hx_object.specs.Sizes.{greatest_size, capped, capped_sum, pair_size, counted, config_size, hierarchy_size, quota_size, specified_size, size_of, entry_size, limit_size};
-ghost use Rattle.hx_object.specs.Json.{entry_data, mode_text};
+ghost use Rattle.hx_object.specs.Json.{entry_data};
 ghost use Rattle.serde_json.specs.Written.{compact_text};
 ghost use Rattle.serde_json.specs.Data.{object};
 
 use crate::Text;
 use crate::faults::is_counted;
-use crate::object::{Limit, Mode, ModeEntry, Object, Payload};
+use crate::object::{Limit, ModeEntry, Object, Payload};
 
 /// What an object may have in bytes.
 const GREATEST_SIZE: usize = 65_536;
 
 const CAP: usize = GREATEST_SIZE + 1;
+
+impl Object {
+    /// The size in bytes: of labels that count and annotations, with their keys, and of the text of what a request gives. It is counted to 65,537, one more than an object may have.
+    pub fn size(&self) -> usize
+        ensures { result ≡ capped (size_of self.now) }
+    {
+        size(self)
+    }
+}
 
 pub(crate) fn is_too_large(object: &Object) -> bool
     ensures { result ≡ nat_lt greatest_size (size_of object.now) }
@@ -129,19 +138,8 @@ fn entry_size(entry: &ModeEntry) -> usize
     );
     add(
         texts,
-        r#"{"group":,"mode":"","resource":},"#.len() + mode_size(entry.mode),
+        r#"{"group":,"mode":"","resource":},"#.len() + entry.mode.name().len(),
     )
-}
-
-fn mode_size(mode: Mode) -> usize
-    ensures { result ≡ length (mode_text mode) }
-{
-    match mode {
-        Mode::Propagate => "Propagate".len(),
-        Mode::AllowPropagate => "AllowPropagate".len(),
-        Mode::Remove => "Remove".len(),
-        Mode::Ignore => "Ignore".len(),
-    }
 }
 
 /// Each limit has a comma or the last brace behind it.
