@@ -1,103 +1,132 @@
--- How a list of rows changes where a row is put or cut, as its map does.
-use Rattle.std.proofs.Common.{◌≡◌, ℕ, suc, ◌+◌, ◌-◌, ◌<◌, ◌≤◌, Bool, true, false, cond, not, List, [], ◌∷◌, ◌++◌, map, length, get_or, take, drop, None, Some, refl, sym, ap, subst, ◌∙◌, arith, add-one, append_assoc, length-drop}
-use Rattle.std.specs.declared.option.Option.{Option}
-use Rattle.std.proofs.lemmas.List.{set_split, map-append, length-map}
-use Rattle.std.proofs.Math.Seq.{drop-cons, take-suc}
-use Rattle.std.specs.List.{filter, drop-map, take-map}
-use Rattle.std.specs.Cmp.{IsTotalOrder}
-use Rattle.std.specs.Cmp.Lexicographic.{nat_list_cmp_total, texts_ties, slice_partial_cmp, lists_agrees}
+-- How rows by their keys change where a row is put or cut, as their map does, and when rows in a list ascend.
+use Rattle.std.proofs.Common.{◌≡◌, ℕ, suc, ◌+◌, ◌-◌, ◌<◌, ◌≤◌, Bool, true, false, cond, List, [], ◌∷◌, ◌++◌, map, length, get_or, take, drop, None, Some, refl, sym, ap, subst, ◌∙◌, arith, add-one}
+use Rattle.std.proofs.lemmas.List.{length-map, take_at as take_at_seam, take-append-drop, length-take, length-drop, drop-drop, map-append, append-nil}
+use Rattle.std.proofs.Math.Seq.{drop-cons}
+use Rattle.std.specs.BTreeMap.{BTreeMap, is_at, get as held_at}
+use Rattle.std.specs.BTreeMap.Range.{entries_between}
+use Rattle.std.specs.Cmp.{eq_by_cmp_equiv, tied_itself}
+use Rattle.std.specs.Cmp.Lexicographic.{nat_list_cmp_total, slice_partial_cmp, lists_agrees}
+use Rattle.std.specs.FinMap.{IsAntisymmetric, nat_cmp-IsAntisymmetric, slice_cmp-IsAntisymmetric, same_map, get, contains_key, empty, get-from_entries, get-insert, get-remove, get-from_sorted, entries-from_sorted, len-entries, len, entries, is_sorted, from_sorted, from_entries, find, put, insert as map_insert, remove as map_remove}
+use Rattle.std.specs.FinMap.Entries.{by_order, below_all, is_sorted-put}
+use Rattle.std.specs.List.{filter, drop-map, AllByRecursion}
+use Rattle.std.specs.List.Sorted.{IsStrictlySortedBy}
+use Rattle.std.specs.Map.{lookup, keys_of}
+use Rattle.std.specs.Option.{option_map}
+use Rattle.std.specs.Ordering.{eq_by_cmp, nat_cmp, is_eq, is_lt, is_ge, is_some_and}
+use Rattle.std.specs.Prelude.{T, Ok, Err, OnOk, OnErr, IfSome, find as find_first, ◌&&◌, is_some}
 use Rattle.std.specs.declared.cmp.Ordering.{Ordering}
 use Rattle.std.specs.declared.cmp.Ordering.TheVariants.{Less, Equal, Greater}
-use Rattle.std.specs.Ordering.{eq_by_cmp, nat_cmp, is_lt, is_ge, is_some_and}
-use Rattle.std.specs.Prelude.{insert, slice_set, T, IfSome, find as find_first, ◌&&◌}
-use Rattle.std.specs.FinMap.{IsAntisymmetric, nat_cmp-IsAntisymmetric, slice_cmp-IsAntisymmetric, put, same_map, get-from_entries, get-insert, get-remove, get-from_sorted, entries-from_sorted, len-entries, len, entries, is_sorted, from_sorted, from_entries, insert as map_insert, remove as map_remove}
-use Rattle.std.specs.FinMap.Entries.{find-put, find-where_key, where_key, by_order, below_all, is_sorted-put, is_sorted-where_key}
+use Rattle.std.specs.declared.ops.Bound.TheVariants.{Excluded, Unbounded}
+use Rattle.std.specs.declared.option.Option.{Option}
+use Rattle.std.specs.declared.result.Result.{Result}
 use Rattle.hx_object.specs.Texts.{bytes_cmp}
-use Rattle.hx_ports.specs.declared.keeper.Row.{Row}
-use Rattle.hx_ports.specs.Rows.{entries_of, entry_of, rows_of, kept_of, Entry, passes, without, after_puts, after_cuts, IsAscending}
-use Rattle.hx_ports.specs.Keeping.{with_puts, with_cuts, meta_of, Lands, row_of_entry, row_after}
-use Rattle.hx_ports.specs.declared.keeper.Batch.{Batch}
 use Rattle.hx_ports.specs.declared.keeper.Meta.{Meta}
-use Rattle.std.specs.Option.{option_map}
-use Rattle.std.proofs.lemmas.List.{take_at as take_at_seam, take-append-drop, length-take, drop-drop}
+use Rattle.hx_ports.specs.declared.keeper.Row.{Row}
+use Rattle.hx_ports.specs.declared.sure.Before.{Before}
+use Rattle.hx_ports.specs.Keeping.{Kept, Rows, meta_of, first_behind, row_of_entry, with_cuts}
+use Rattle.hx_ports.specs.Rows.{Entry, entry_of, entries_of, rows_in, rows_of}
+use Rattle.hx_ports.specs.Undone.{had_back, put_back, all_put_back}
 
 same_bytes : IsAntisymmetric bytes_cmp
 same_bytes = slice_cmp-IsAntisymmetric nat_cmp-IsAntisymmetric
 
-module _ {K X : Type 0} {R : K → K → Ordering} (o : IsTotalOrder R) (same : IsAntisymmetric R) where
-  -- to put an entry into the list is to insert it into the map
-  pub from_entries-put : (es : List (K × X)) (k : K) (v : X) → from_entries {R = R} (put R k v es) ≡ map_insert (from_entries es) k v
-  from_entries-put es k v = same_map o same _ _ (λ q. get-from_entries o _ q ∙ find-put R o q k v es ∙ sym (get-insert o _ k v q ∙ ap (cond (eq_by_cmp R q k) (Some v)) (get-from_entries o es q)))
+both : (a b : Bool) → T a → T b → T (a && b)
+both true b p q = q
+both false b p q = p
+
+tied : (r : Ordering) → is_eq r ≡ true → r ≡ Equal
+tied Less e = cc
+tied Equal e = refl
+tied Greater e = cc
+
+-- a look-up among the entries is one in the map
+pub found : (q : List ℕ) (es : List Entry) → find bytes_cmp q es ≡ lookup (is_at (bytes_cmp q)) es
+found q [] = refl
+found q (e ∷ es) = ap (cond (eq_by_cmp bytes_cmp q e.0) (Some e.1)) (found q es)
+
+pub get-rows_in : (held : BTreeMap (List ℕ) (ℕ × List ℕ)) (q : List ℕ) → get (rows_in held) q ≡ held_at bytes_cmp held q
+get-rows_in held q = get-from_entries nat_list_cmp_total held.entries q ∙ found q held.entries
+
+-- each key has what it had, but that one key has a row, or has none
+abbrev pub Changes : BTreeMap (List ℕ) (ℕ × List ℕ) → BTreeMap (List ℕ) (ℕ × List ℕ) → List ℕ → Option (ℕ × List ℕ) → Type 0
+Changes old new key had = (q : List ℕ) → held_at bytes_cmp new q ≡ cond (is_at (bytes_cmp key) q) had (held_at bytes_cmp old q)
+
+turned : (q key : List ℕ) → is_at (bytes_cmp key) q ≡ eq_by_cmp bytes_cmp q key
+turned q key = (eq_by_cmp_equiv nat_list_cmp_total).symm key q
+
+get-changed : (old new : BTreeMap (List ℕ) (ℕ × List ℕ)) (key : List ℕ) (had : Option (ℕ × List ℕ)) → Changes old new key had → (q : List ℕ) → get (rows_in new) q ≡ cond (eq_by_cmp bytes_cmp q key) had (get (rows_in old) q)
+get-changed old new key had is q = get-rows_in new q ∙ is q ∙ (λ i. cond (turned q key i) had (sym (get-rows_in old q) i))
+
+-- a row is put
+pub put-rows_in : (old new : BTreeMap (List ℕ) (ℕ × List ℕ)) (key : List ℕ) (row : ℕ × List ℕ) → Changes old new key (Some row) → rows_in new ≡ map_insert (rows_in old) key row
+put-rows_in old new key row is = same_map nat_list_cmp_total same_bytes _ _ (λ q. get-changed old new key (Some row) is q ∙ sym (get-insert nat_list_cmp_total (rows_in old) key row q))
+
+-- a row is cut
+pub cut-rows_in : (old new : BTreeMap (List ℕ) (ℕ × List ℕ)) (key : List ℕ) → Changes old new key None → rows_in new ≡ map_remove (rows_in old) key
+cut-rows_in old new key is = same_map nat_list_cmp_total same_bytes _ _ (λ q. get-changed old new key None is q ∙ sym (get-remove nat_list_cmp_total (rows_in old) key q))
+
+-- a key has what it had once a row that was put there is taken back
+back_at : (rows : Rows) (key : List ℕ) (row : ℕ × List ℕ) (had : Option (ℕ × List ℕ)) → get rows key ≡ had → had_back key had (map_insert rows key row) ≡ rows
+back_at rows key row None is = same_map nat_list_cmp_total same_bytes _ _ (λ q.
+    get-remove nat_list_cmp_total (map_insert rows key row) key q ∙ ap (cond (eq_by_cmp bytes_cmp q key) None) (get-insert nat_list_cmp_total rows key row q) ∙ own q (eq_by_cmp bytes_cmp q key) refl)
+  where
+    own : (q : List ℕ) (b : Bool) → eq_by_cmp bytes_cmp q key ≡ b → cond b None (cond b (Some row) (get rows q)) ≡ get rows q
+    own q true e = sym is ∙ ap (get rows) (sym (same_bytes q key (tied _ e)))
+    own q false e = refl
+back_at rows key row (Some had) is =
+    rw (there) (same_map nat_list_cmp_total same_bytes _ _ (λ q.
+    get-insert nat_list_cmp_total (map_insert rows key row) key had q ∙ ap (cond (eq_by_cmp bytes_cmp q key) (Some had)) (get-insert nat_list_cmp_total rows key row q) ∙ own q (eq_by_cmp bytes_cmp q key) refl))
+  where
+    there : contains_key (map_insert rows key row) key ≡ true
+    there = ap is_some (get-insert nat_list_cmp_total rows key row key ∙ ap (λ r. cond (is_eq r) (Some row) (get rows key)) (tied_itself nat_list_cmp_total key))
+
+    own : (q : List ℕ) (b : Bool) → eq_by_cmp bytes_cmp q key ≡ b → cond b (Some had) (cond b (Some row) (get rows q)) ≡ get rows q
+    own q true e = sym is ∙ ap (get rows) (sym (same_bytes q key (tied _ e)))
+    own q false e = refl
+
+-- the last one that was noted is taken back first
+pub all_put_back-push : (log : List Before) (before : Before) (rows : Rows) → all_put_back (log ++ before ∷ []) rows ≡ all_put_back log (put_back before rows)
+all_put_back-push [] before rows = refl
+all_put_back-push (b ∷ log) before rows = ap (put_back b) (all_put_back-push log before rows)
+
+-- what was noted of a put takes it back
+pub put_row-back : (old new : BTreeMap (List ℕ) (ℕ × List ℕ)) (log noted : List Before) (before : Before) (key : List ℕ) (row : ℕ × List ℕ) → noted ≡ log ++ before ∷ [] → before.key ≡ key → before.had ≡ held_at bytes_cmp old key → Changes old new key (Some row)
+    → all_put_back noted (rows_in new) ≡ all_put_back log (rows_in old)
+put_row-back old new log noted before key row is same had put =
+    let back = (λ i. had_back (same i) (had i) (put-rows_in old new key row put i)) ∙ back_at (rows_in old) key row (held_at bytes_cmp old key) (get-rows_in old key) in
+    ap (λ l. all_put_back l (rows_in new)) is ∙ all_put_back-push log before (rows_in new) ∙ ap (all_put_back log) back
+
+-- the last of what is left is taken back
+pub put_rows_back-step : (left rest : List Before) (before : Before) (rows old new : Rows) → left ≡ rest ++ before ∷ [] → new ≡ put_back before old → all_put_back left old ≡ rows → all_put_back rest new ≡ rows
+put_rows_back-step left rest before rows old new is back so_far = ap (all_put_back rest) back ∙ sym (all_put_back-push rest before old) ∙ ap (λ l. all_put_back l old) (sym is) ∙ so_far
+
+-- the map with the entries, the last one first
+abbrev pub onto : List Entry → Rows → Rows
+onto [] rows = rows
+onto (e ∷ es) rows = map_insert (onto es rows) e.0 e.1
+
+pub onto-push : (es : List Entry) (e : Entry) (rows : Rows) → onto (es ++ e ∷ []) rows ≡ onto es (map_insert rows e.0 e.1)
+onto-push [] e rows = refl
+onto-push (f ∷ es) e rows = ap (λ m. map_insert m f.0 f.1) (onto-push es e rows)
+
+pub onto-empty : (es : List Entry) → onto es empty ≡ from_entries es
+onto-empty [] = refl
+onto-empty (e ∷ es) = ap (λ m. map_insert m e.0 e.1) (onto-empty es)
+
+-- keys that ascend are those of entries that do
+pub sorted-keys : (es : List Entry) → IsStrictlySortedBy bytes_cmp (keys_of es) → T (is_sorted bytes_cmp es)
+unfolding IsStrictlySortedBy
+sorted-keys [] h = tt
+sorted-keys (e ∷ es) h = both _ _ (below es h.0) (sorted-keys es h.1)
+  where
+    below : (fs : List Entry) → AllByRecursion (λ y. bytes_cmp e.0 y ≡ Less) (keys_of fs) → T (below_all bytes_cmp e.0 fs)
+    below [] h = tt
+    below (f ∷ fs) h = both _ _ (subst (λ r. T (is_lt r)) (sym h.0) tt) (below fs h.1)
 
 -- the entries from i on begin with that of the row at i
 pub drop_at : (rows : List Row) (i : ℕ) (row : Row) → i < length rows → row ≡ get_or rows i row → drop i (entries_of rows) ≡ entry_of row ∷ drop (suc i) (entries_of rows)
 drop_at rows i row h is =
     drop-map entry_of i rows ∙ ap (map entry_of) (drop-cons rows i row h) ∙ ap (λ r. entry_of r ∷ map entry_of (drop (suc i) rows)) (sym is) ∙ ap (λ l. entry_of row ∷ l) (sym (drop-map entry_of (suc i) rows))
-
-pub take_at : (rows : List Row) (i : ℕ) (row : Row) → i < length rows → row ≡ get_or rows i row → take (suc i) (entries_of rows) ≡ take i (entries_of rows) ++ entry_of row ∷ []
-take_at rows i row h is =
-    take-map entry_of (suc i) rows ∙ ap (map entry_of) (take-suc rows i row h) ∙ map-append entry_of (take i rows) (get_or rows i row ∷ []) ∙ ap (λ l. l ++ entry_of (get_or rows i row) ∷ []) (sym (take-map entry_of i rows)) ∙ ap (λ r. take i (entries_of rows) ++ entry_of r ∷ []) (sym is)
-
--- the row is put among the entries from i on
-abbrev pub PutFrom : List Row → List ℕ → ℕ → Type 0
-PutFrom rows key i = (v : ℕ × List ℕ) → put bytes_cmp key v (entries_of rows) ≡ take i (entries_of rows) ++ put bytes_cmp key v (drop i (entries_of rows))
-
-pub PutFrom-next : (rows : List Row) (key : List ℕ) (i : ℕ) (row : Row) → i < length rows → row ≡ get_or rows i row → bytes_cmp key row.key ≡ Greater → PutFrom rows key i → PutFrom rows key (i + 1)
-PutFrom-next rows key i row h is above from v =
-    let rest = drop (suc i) (entries_of rows) in
-    let a = from v ∙ ap (λ l. take i (entries_of rows) ++ put bytes_cmp key v l) (drop_at rows i row h is) in
-    let b = a ∙ ap (λ r. take i (entries_of rows) ++ by_order r ((key, v) ∷ entry_of row ∷ rest) ((row.key, v) ∷ rest) (entry_of row ∷ put bytes_cmp key v rest)) above in
-    let d = b ∙ sym (append_assoc (take i (entries_of rows)) (entry_of row ∷ []) (put bytes_cmp key v rest)) ∙ ap (λ l. l ++ put bytes_cmp key v rest) (sym (take_at rows i row h is)) in
-    rw (add-one i) d
-
-pub PutFrom-less : (rows : List Row) (key : List ℕ) (i : ℕ) (row : Row) → i < length rows → row ≡ get_or rows i row → bytes_cmp key row.key ≡ Less → PutFrom rows key i
-    → (v : ℕ × List ℕ) → put bytes_cmp key v (entries_of rows) ≡ insert (entries_of rows) i (key, v)
-PutFrom-less rows key i row h is below from v =
-    let rest = drop (suc i) (entries_of rows) in
-    let a = from v ∙ ap (λ l. take i (entries_of rows) ++ put bytes_cmp key v l) (drop_at rows i row h is) in
-    let b = a ∙ ap (λ r. take i (entries_of rows) ++ by_order r ((key, v) ∷ entry_of row ∷ rest) ((row.key, v) ∷ rest) (entry_of row ∷ put bytes_cmp key v rest)) below in
-    b ∙ ap (λ l. take i (entries_of rows) ++ (key, v) ∷ l) (sym (drop_at rows i row h is))
-
-pub PutFrom-equal : (rows : List Row) (key : List ℕ) (i : ℕ) (row : Row) → i < length rows → row ≡ get_or rows i row → bytes_cmp key row.key ≡ Equal → PutFrom rows key i
-    → (v : ℕ × List ℕ) → put bytes_cmp key v (entries_of rows) ≡ slice_set (entries_of rows) i (key, v)
-PutFrom-equal rows key i row h is tied from v =
-    let rest = drop (suc i) (entries_of rows) in
-    let a = from v ∙ ap (λ l. take i (entries_of rows) ++ put bytes_cmp key v l) (drop_at rows i row h is) in
-    let b = a ∙ ap (λ r. take i (entries_of rows) ++ by_order r ((key, v) ∷ entry_of row ∷ rest) ((row.key, v) ∷ rest) (entry_of row ∷ put bytes_cmp key v rest)) tied in
-    let long : i < length (entries_of rows) = rw length-map h in
-    b ∙ ap (λ k. take i (entries_of rows) ++ (k, v) ∷ rest) (sym (same_bytes key row.key tied)) ∙ sym (set_split (entries_of rows) i (key, v) long)
-
-pub filtered : (key : List ℕ) (rows : List Row) → entries_of (filter (λ row. passes key row.key) rows) ≡ where_key bytes_cmp (passes key) (entries_of rows)
-filtered key [] = refl
-filtered key (row ∷ rows) = elim (passes key row.key) as (λ b. entries_of (cond b (row ∷ filter (λ r. passes key r.key) rows) (filter (λ r. passes key r.key) rows)) ≡ cond b (entry_of row ∷ where_key bytes_cmp (passes key) (entries_of rows)) (where_key bytes_cmp (passes key) (entries_of rows))) [
-  | true ↦ ap (λ l. entry_of row ∷ l) (filtered key rows)
-  | false ↦ filtered key rows
-]
-
-turned : (q key : List ℕ) (x : Option (ℕ × List ℕ)) → cond (passes key q) x None ≡ cond (eq_by_cmp bytes_cmp q key) None x
-turned q key x = rw (texts_ties q key) (elim (eq_by_cmp bytes_cmp q key) as (λ b. cond (not b) x None ≡ cond b None x) [ true ↦ refl | false ↦ refl ])
-
--- to cut the entries of a key is to remove it from the map
-pub from_entries-without : (es : List Entry) (key : List ℕ) → from_entries {R = bytes_cmp} (without key es) ≡ map_remove (from_entries es) key
-from_entries-without es key = same_map nat_list_cmp_total same_bytes _ _ (λ q.
-    get-from_entries nat_list_cmp_total _ q ∙ find-where_key bytes_cmp (passes key) q (λ x tied. ap (passes key) (sym (same_bytes q x tied))) es
-    ∙ turned q key _ ∙ sym (get-remove nat_list_cmp_total (from_entries es) key q ∙ ap (cond (eq_by_cmp bytes_cmp q key) None) (get-from_entries nat_list_cmp_total es q)))
-
-pub from_entries-after_puts : (puts : List Row) (es : List Entry) → from_entries {R = bytes_cmp} (after_puts puts es) ≡ with_puts puts (from_entries es)
-from_entries-after_puts [] es = refl
-from_entries-after_puts (row ∷ rows) es = from_entries-after_puts rows _ ∙ ap (with_puts rows) (from_entries-put nat_list_cmp_total same_bytes es row.key (row.version, row.body))
-
-pub from_entries-after_cuts : (keys : List (List ℕ)) (es : List Entry) → from_entries {R = bytes_cmp} (after_cuts keys es) ≡ with_cuts keys (from_entries es)
-from_entries-after_cuts [] es = refl
-from_entries-after_cuts (key ∷ keys) es = from_entries-after_cuts keys _ ∙ ap (with_cuts keys) (from_entries-without es key)
-
-pub sorted-after_puts : (puts : List Row) (es : List Entry) → T (is_sorted bytes_cmp es) → T (is_sorted bytes_cmp (after_puts puts es))
-sorted-after_puts [] es h = h
-sorted-after_puts (row ∷ rows) es h = sorted-after_puts rows _ (is_sorted-put bytes_cmp nat_list_cmp_total row.key (row.version, row.body) es h)
-
-pub sorted-after_cuts : (keys : List (List ℕ)) (es : List Entry) → T (is_sorted bytes_cmp es) → T (is_sorted bytes_cmp (after_cuts keys es))
-sorted-after_cuts [] es h = h
-sorted-after_cuts (key ∷ keys) es h = sorted-after_cuts keys _ (is_sorted-where_key bytes_cmp (passes key) es h)
 
 -- where the entries ascend, the map has them in their order
 pub entries-from_entries : (es : List Entry) → T (is_sorted bytes_cmp es) → entries (from_entries {R = bytes_cmp} es) ≡ es
@@ -105,40 +134,11 @@ entries-from_entries es h =
     let e = same_map nat_list_cmp_total same_bytes (from_entries es) (from_sorted es) (λ q. get-from_entries nat_list_cmp_total es q ∙ sym (get-from_sorted bytes_cmp es q h)) in
     ap entries e ∙ entries-from_sorted bytes_cmp es h
 
--- rows that are told ascend after a batch too
-pub ascends-batch : (tells : Bool) (old new : List Row) (puts : List Row) (cuts : List (List ℕ)) → entries_of new ≡ after_cuts cuts (after_puts puts (entries_of old)) → IsAscending tells old → IsAscending tells new
-ascends-batch false old new puts cuts e h = tt
-ascends-batch true old new puts cuts e h = subst (λ es. T (is_sorted bytes_cmp es)) (sym e) (sorted-after_cuts cuts _ (sorted-after_puts puts _ h))
-
-pub entries_of-insert : (rows : List Row) (i : ℕ) (row : Row) → entries_of (insert rows i row) ≡ insert (entries_of rows) i (entry_of row)
-entries_of-insert rows i row =
-    map-append entry_of (take i rows) (row ∷ drop i rows) ∙ ap (λ l. l ++ entry_of row ∷ entries_of (drop i rows)) (sym (take-map entry_of i rows)) ∙ ap (λ l. take i (entries_of rows) ++ entry_of row ∷ l) (sym (drop-map entry_of i rows))
-
 -- what a read from the middle of the bytes gives
 pub read_piece : (bytes into piece : List ℕ) (at n : ℕ) → n + at ≤ length bytes → n ≤ length into → piece ≡ take n (drop at bytes) → drop at bytes ≡ take n (piece ++ drop n into) ++ drop (at + n) bytes
 read_piece bytes into piece at n fits room is =
     let long : length piece ≡ n = ap length is ∙ (simp (length-take, length-drop) (omega arith)) in
     sym (take-append-drop n (drop at bytes)) ∙ ap (λ l. l ++ drop n (drop at bytes)) (sym is ∙ sym (take_at_seam piece (drop n into) n long)) ∙ ap (λ l. take n (piece ++ drop n into) ++ l) (drop-drop n at bytes)
-
--- the map of rows that ascend has their entries
-pub entries-rows_of : (rows : List Row) → T (is_sorted bytes_cmp (entries_of rows)) → entries (rows_of rows) ≡ entries_of rows
-entries-rows_of rows h = entries-from_entries (entries_of rows) h
-
--- what `meta` says of rows that are told
-pub len-rows_of : (rows : List Row) → T (is_sorted bytes_cmp (entries_of rows)) → len (rows_of rows) ≡ length rows
-len-rows_of rows h = len-entries _ ∙ ap length (entries-rows_of rows h) ∙ length-map rows entry_of
-
--- what is told of rows has their entries
-pub entries-told : (tells : Bool) (rows : List Row) (meta : Meta) → IsAscending tells rows → (shown : List Row) → shown ≡ rows
-    → IfSome (cond tells (Some (kept_of rows meta)) None) (λ held. entries held.rows ≡ entries_of shown)
-entries-told false rows meta h shown e = tt
-entries-told true rows meta h shown e = entries-rows_of rows h ∙ ap entries_of (sym e)
-
--- what `meta` says of rows that are told
-pub meta-told : (tells : Bool) (rows : List Row) (meta : Meta) → IsAscending tells rows → (count : ℕ) → count ≡ length rows
-    → IfSome (cond tells (Some (kept_of rows meta)) None) (λ held. ◌≡◌ {A = Meta} (record { schema = meta.schema; version = meta.version; rows = count }) (meta_of held))
-meta-told false rows meta h count e = tt
-meta-told true rows meta h count e = λ i. record { schema = meta.schema; version = meta.version; rows = (e ∙ sym (len-rows_of rows h)) i }
 
 same_tests : (a b : Bool) → (T a → T b) → (T b → T a) → a ≡ b
 same_tests true true f g = refl
@@ -207,29 +207,74 @@ ascends-next rows i e f b low h is_e is_f so_far is below =
 pub ascends-all : (rows : List Row) (i : ℕ) → length rows ≤ i → SoFar rows (i - 1) → true ≡ is_sorted bytes_cmp (entries_of rows)
 ascends-all rows i h so_far = sym (so_far ∙ sorted-short (drop (i - 1) (entries_of rows)) (simp (length-drop, length-map) (omega arith)))
 
--- the first row that passes, from a place on
-pub find-drop : (p : Row → Bool) (rows : List Row) (i : ℕ) (row : Row) (b : Bool) → i < length rows → row ≡ get_or rows i row → b ≡ p row → find_first p rows ≡ find_first p (drop i rows) → find_first p rows ≡ cond b (Some row) (find_first p (drop (i + 1) rows))
-find-drop p rows i row b h is passed so_far =
-    rw (add-one i) (so_far ∙ ap (find_first p) (drop-cons rows i row h ∙ ap (λ r. r ∷ drop (suc i) rows) (sym is)) ∙ ap (λ t. cond t (Some row) (find_first p (drop (suc i) rows))) (sym passed))
+-- the map of rows that are kept by their keys has their entries
+pub entries-rows_in : (held : BTreeMap (List ℕ) (ℕ × List ℕ)) → IsStrictlySortedBy bytes_cmp (keys_of held.entries) → entries (rows_in held) ≡ held.entries
+entries-rows_in held h = entries-from_entries held.entries (sorted-keys held.entries h)
 
--- the row behind a key, among rows and among their entries
-pub find-rows : (p : List ℕ → Bool) (rows : List Row) → find_first (λ row. p row.key) rows ≡ option_map row_of_entry (find_first (λ e. p e.0) (entries_of rows))
-find-rows p [] = refl
-find-rows p (row ∷ rows) = elim (p row.key) as (λ b. cond b (Some row) (find_first (λ row. p row.key) rows) ≡ option_map row_of_entry (cond b (Some (entry_of row)) (find_first (λ e. p e.0) (entries_of rows)))) [
-  | true ↦ refl
-  | false ↦ find-rows p rows
-]
+pub len-rows_in : (held : BTreeMap (List ℕ) (ℕ × List ℕ)) → IsStrictlySortedBy bytes_cmp (keys_of held.entries) → len (rows_in held) ≡ length held.entries
+len-rows_in held h = len-entries _ ∙ ap length (entries-rows_in held h)
 
--- what `load` gives of rows that are told
-pub load-told : (tells : Bool) (rows : List Row) (meta : Meta) → IsAscending tells rows → (after : List ℕ) (row : Option Row) → row ≡ find_first (λ row. is_lt (bytes_cmp after row.key)) rows
-    → IfSome (cond tells (Some (kept_of rows meta)) None) (λ held. row ≡ row_after after held)
-load-told false rows meta h after row e = tt
-load-told true rows meta h after row e = e ∙ find-rows (λ key. is_lt (bytes_cmp after key)) rows ∙ ap (λ es. option_map row_of_entry (find_first (λ e. is_lt (bytes_cmp after e.0)) es)) (sym (entries-rows_of rows h))
+-- the first of some entries
+abbrev pub first_of : List Entry → Option Entry
+first_of [] = None
+first_of (e ∷ es) = Some e
 
--- what is told after a batch
-pub lands : (tells : Bool) (old new : List Row) (before after : Meta) (batch : Batch) → after.schema ≡ before.schema → after.version ≡ batch.version → entries_of new ≡ after_cuts batch.cuts (after_puts batch.puts (entries_of old))
-    → Lands batch (cond tells (Some (kept_of old before)) None) (cond tells (Some (kept_of new after)) None)
-lands false old new before after batch s v e = refl
-lands true old new before after batch s v e =
-    let rows : rows_of new ≡ with_cuts batch.cuts (with_puts batch.puts (rows_of old)) = ap (from_entries {R = bytes_cmp}) e ∙ from_entries-after_cuts batch.cuts _ ∙ ap (with_cuts batch.cuts) (from_entries-after_puts batch.puts _) in
-    λ i. Some (record { schema = s i; version = v i; rows = rows i })
+find-filter : (p : Entry → Bool) (es : List Entry) → find_first p es ≡ first_of (filter p es)
+find-filter p [] = refl
+find-filter p (e ∷ es) = elim (p e) as (λ b. cond b (Some e) (find_first p es) ≡ first_of (cond b (e ∷ filter p es) (filter p es))) [ true ↦ refl | false ↦ find-filter p es ]
+
+and-true : (b : Bool) → b ≡ (b && true)
+and-true true = refl
+and-true false = refl
+
+-- the first row behind a key is the first of those that lie there
+pub first_behind-is : (held : BTreeMap (List ℕ) (ℕ × List ℕ)) (after key : List ℕ) (there shown : List Entry) → IsStrictlySortedBy bytes_cmp (keys_of held.entries) → key ≡ after
+    → there ≡ entries_between bytes_cmp (Excluded key) Unbounded held.entries → there ≡ shown → first_behind after (rows_in held) ≡ option_map row_of_entry (first_of shown)
+first_behind-is held after key there shown h same between is =
+    let plain = ap (find_first (λ e. is_lt (bytes_cmp key e.0))) (entries-rows_in held h) ∙ (λ i. find_first (λ e. and-true (is_lt (bytes_cmp key e.0)) i) held.entries) in
+    ap (λ k. first_behind k (rows_in held)) (sym same) ∙ ap (option_map row_of_entry) (plain ∙ find-filter _ held.entries ∙ ap first_of (sym between ∙ is))
+
+-- the copies of the entries so far, once none are left
+pub copied : (held : BTreeMap (List ℕ) (ℕ × List ℕ)) (rows : List Row) (rest : List Entry) → IsStrictlySortedBy bytes_cmp (keys_of held.entries) → entries_of rows ++ rest ≡ held.entries → rest ≡ [] → entries (rows_in held) ≡ entries_of rows
+copied held rows rest h so_far none = entries-rows_in held h ∙ sym so_far ∙ ap (λ l. entries_of rows ++ l) none ∙ append-nil (entries_of rows)
+
+-- the last of the rows that are left goes into the map
+pub map_rows-step : (all old new : List Row) (row : Row) (before after : BTreeMap (List ℕ) (ℕ × List ℕ)) → old ≡ new ++ row ∷ [] → Changes before after row.key (Some (row.version, row.body))
+    → onto (entries_of old) (rows_in before) ≡ rows_of all → onto (entries_of new) (rows_in after) ≡ rows_of all
+map_rows-step all old new row before after is put so_far =
+    ap (onto (entries_of new)) (put-rows_in before after row.key (row.version, row.body) put) ∙ sym (onto-push (entries_of new) (entry_of row) (rows_in before))
+    ∙ ap (λ es. onto es (rows_in before)) (sym (map-append entry_of new (row ∷ [])) ∙ ap entries_of (sym is)) ∙ so_far
+
+-- the next key is cut
+pub cut_rows-step : (keys : List (List ℕ)) (i : ℕ) (key : List ℕ) (rows : Rows) (before after : BTreeMap (List ℕ) (ℕ × List ℕ)) → i < length keys → key ≡ get_or keys i key → Changes before after key None
+    → with_cuts (drop i keys) (rows_in before) ≡ rows → with_cuts (drop (i + 1) keys) (rows_in after) ≡ rows
+cut_rows-step keys i key rows before after h is cut so_far =
+    rw (add-one i) (ap (with_cuts (drop (suc i) keys)) (cut-rows_in before after key cut) ∙ ap (λ ks. with_cuts ks (rows_in before)) (sym (drop-cons keys i key h ∙ ap (λ k. k ∷ drop (suc i) keys) (sym is))) ∙ so_far)
+
+-- a call that fails only where a key has nothing
+pub succeeded : {A E P : Type 0} (result : Result A E) (had : Option (ℕ × List ℕ)) → OnOk result P → OnErr result (had ≡ None) → is_some had ≡ true → P
+succeeded (Ok a) had done absent there = done
+succeeded (Err e) had done absent there = absurd (subst T (sym there ∙ ap is_some absent) tt)
+
+-- a key has what was noted of it
+pub put_back-put : (old new : BTreeMap (List ℕ) (ℕ × List ℕ)) (before : Before) (row : ℕ × List ℕ) → before.had ≡ Some row → is_some (held_at bytes_cmp old before.key) ≡ true → Changes old new before.key (Some row) → rows_in new ≡ put_back before (rows_in old)
+put_back-put old new before row had there put =
+    put-rows_in old new before.key row put
+    ∙ sym (ap (λ h. had_back before.key h (rows_in old)) had ∙ ap (λ b. cond b (map_insert (rows_in old) before.key row) (rows_in old)) (ap is_some (get-rows_in old before.key) ∙ there))
+
+pub put_back-gone : (old : BTreeMap (List ℕ) (ℕ × List ℕ)) (before : Before) (row : ℕ × List ℕ) → before.had ≡ Some row → is_some (held_at bytes_cmp old before.key) ≡ false → rows_in old ≡ put_back before (rows_in old)
+put_back-gone old before row had gone =
+    sym (ap (λ h. had_back before.key h (rows_in old)) had ∙ ap (λ b. cond b (map_insert (rows_in old) before.key row) (rows_in old)) (ap is_some (get-rows_in old before.key) ∙ gone))
+
+pub put_back-cut : (old new : BTreeMap (List ℕ) (ℕ × List ℕ)) (before : Before) → before.had ≡ None → Changes old new before.key None → rows_in new ≡ put_back before (rows_in old)
+put_back-cut old new before had cut = cut-rows_in old new before.key cut ∙ sym (ap (λ h. had_back before.key h (rows_in old)) had)
+
+-- what is held by a map of rows
+abbrev held_kept : Meta → BTreeMap (List ℕ) (ℕ × List ℕ) → Kept
+held_kept meta held = record { schema = meta.schema; version = meta.version; rows = rows_in held }
+
+-- what `meta` says of rows that are told
+pub meta-told : (tells : Bool) (held : BTreeMap (List ℕ) (ℕ × List ℕ)) (meta : Meta) → IsStrictlySortedBy bytes_cmp (keys_of held.entries) → (count : ℕ) → count ≡ length held.entries
+    → IfSome (cond tells (Some (held_kept meta held)) None) (λ kept. ◌≡◌ {A = Meta} (record { schema = meta.schema; version = meta.version; rows = count }) (meta_of kept))
+meta-told false held meta h count e = tt
+meta-told true held meta h count e = λ i. record { schema = meta.schema; version = meta.version; rows = (e ∙ sym (len-rows_in held h)) i }

@@ -1,6 +1,7 @@
 -- What a keeper of rows holds, and what its calls do to it.
 --     Rows, Kept            the rows by their keys;  with the schema and the last version
---     row_of_entry, row_after      a row of the map;  the first one behind a key
+--     row_of_entry          a row of the map
+--     first_behind, row_after      the first row behind a key;  of what is held
 --     with_batch            what is held after a batch
 --     IsBatch, MayFollow    what a batch has to be;  and over what is held
 --     Lands                 the batch landed, where the rows are told
@@ -30,9 +31,13 @@ pub record Kept : Type 0 where
 abbrev pub row_of_entry : List ℕ × (ℕ × List ℕ) → Row
 row_of_entry e = record { key = e.0; version = e.1.0; body = e.1.1 }
 
--- the first row whose key is greater
+-- the first of the rows whose key is greater
+abbrev pub first_behind : List ℕ → Rows → Option Row
+first_behind after rows = option_map row_of_entry (find_first (λ e. is_lt (bytes_cmp after e.0)) (map.entries rows))
+
+-- the first row that is kept whose key is greater
 abbrev pub row_after : List ℕ → Kept → Option Row
-row_after after kept = option_map row_of_entry (find_first (λ e. is_lt (bytes_cmp after e.0)) (map.entries kept.rows))
+row_after after kept = first_behind after kept.rows
 
 -- the rows with those of a batch, the first one first
 abbrev pub with_puts : List Row → Rows → Rows

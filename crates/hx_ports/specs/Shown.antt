@@ -1,7 +1,7 @@
 -- What the ports in memory show beside what they hold.
 --     bytes_left, most_given     how many bytes a source has left, and the most that one read gives
 --     room_of                    how many bytes a sink still takes
---     held_rows, given_meta, tells_rows      the rows of a keeper, what it was told of them, and whether it tells them
+--     held_by, given_meta, tells_rows      what a keeper holds, what it was given, and whether it tells its rows
 --     reads_of, writes_of        which reads of a source fail, and which writes of a sink
 --     most_taken                 the most that one write of a sink takes
 --     read_calls                 which calls of a keeper fail, beside its commits
@@ -14,10 +14,11 @@ use Rattle.hx_ports.specs.declared.mem.MemSink.{MemSink}
 use Rattle.hx_ports.specs.declared.mem.MemSource.{MemSource}
 use Rattle.hx_ports.specs.declared.mem.Plan.{Plan}
 use Rattle.hx_ports.specs.declared.keeper.Meta.{Meta}
-use Rattle.hx_ports.specs.declared.keeper.Row.{Row}
 use Rattle.hx_ports.specs.declared.sure.SureKeeper.{SureKeeper}
 use Rattle.hx_ports.specs.declared.sure.SureSink.{SureSink}
 use Rattle.hx_ports.specs.declared.sure.SureSource.{SureSource}
+use Rattle.hx_ports.specs.Keeping.{Kept}
+use Rattle.hx_ports.specs.Rows.{rows_in}
 
 -- how many bytes are left
 abbrev pub bytes_left : SureSource → ℕ
@@ -31,9 +32,9 @@ most_given s = s.piece
 abbrev pub room_of : SureSink → ℕ
 room_of s = vec_capacity s.into - vec_len s.into
 
--- the rows, in order or not
-abbrev pub held_rows : SureKeeper → List Row
-held_rows k = k.rows.items
+-- what the keeper holds, whether it tells it or not
+abbrev pub held_by : SureKeeper → Kept
+held_by k = record { schema = k.meta.schema; version = k.meta.version; rows = rows_in k.rows }
 
 -- the schema and the version, and the number of rows that was given
 abbrev pub given_meta : SureKeeper → Meta

@@ -6,11 +6,12 @@ ghost use Rattle.std.specs.FinMap as map;
 ghost use Rattle.hx_ports.specs.Calls.{is_planned, after_call, next_number, landing, FailsByPlan, CommitsByPlan};
 ghost use Rattle.hx_ports.specs.Causes.{Rose, HasCause, KeeperCause, WritesAtMost, NoneOnlyAtStall};
 ghost use Rattle.hx_ports.specs.Keeping.{meta_of, row_after, Lands};
-ghost use Rattle.hx_ports.specs.Rows.{told, entries_of};
+ghost use Rattle.hx_ports.specs.Rows.{told, kept_of, entries_of};
 
 use crate::keeper::{Batch, KeepFault, Keeper, Meta, Row};
 use crate::stream::{ReadFault, Sink, Source, WriteFault};
 use crate::sure::{SureKeeper, SureSink, SureSource};
+use hx_object::NoMemory;
 
 /// The numbers of the calls that fail, and how many calls there were.
 #[derive(Drop)]
@@ -182,7 +183,7 @@ pub struct MemKeeper {
 }
 
 impl MemKeeper {
-    ghost use Rattle.hx_ports.specs.Shown.{commits_of, failing_of, read_calls};
+    ghost use Rattle.hx_ports.specs.Shown.{commits_of, failing_of, given_meta, held_by, kept_by, read_calls};
 
     /// `fail_reads` numbers the calls of `attach`, `meta` and `load` together, from 1 on, and `fail_commits` those of `commit`.
     ///
@@ -192,26 +193,30 @@ impl MemKeeper {
         meta: Meta,
         fail_commits: Vec<FailCommit>,
         fail_reads: Vec<u64>,
-    ) -> Self
-        ensures kept { ⟦<MemKeeper as Keeper>⟧.kept result ≡ told rows.items meta }
-        ensures reads { read_calls result ≡ record { numbers = fail_reads; calls = 0 } }
-        ensures fail_commits { failing_of result ≡ fail_commits.items }
-        ensures commits { commits_of result ≡ 0 }
-        ensures whole { ⟦<MemKeeper as Keeper>⟧.broken result ≡ false }
-        ensures faults { ⟦<MemKeeper as Keeper>⟧.keeper_faults result ≡ 0 }
+    ) -> Result<Self, NoMemory>
+        ensures kept { IfOk result (λ keeper. ⟦<MemKeeper as Keeper>⟧.kept keeper ≡ told rows.items meta) }
+        ensures held { IfOk result (λ keeper. held_by (kept_by keeper) ≡ kept_of rows.items meta) }
+        ensures meta { IfOk result (λ keeper. given_meta (kept_by keeper) ≡ meta) }
+        ensures reads { IfOk result (λ keeper. read_calls keeper ≡ record { numbers = fail_reads; calls = 0 }) }
+        ensures fail_commits { IfOk result (λ keeper. failing_of keeper ≡ fail_commits.items) }
+        ensures commits { IfOk result (λ keeper. commits_of keeper ≡ 0) }
+        ensures whole { IfOk result (λ keeper. ⟦<MemKeeper as Keeper>⟧.broken keeper ≡ false) }
+        ensures faults { IfOk result (λ keeper. ⟦<MemKeeper as Keeper>⟧.keeper_faults keeper ≡ 0) }
     {
-        MemKeeper {
-            keeper: SureKeeper::new(rows, meta),
+        Ok(MemKeeper {
+            keeper: SureKeeper::new(rows, meta)?,
             fail_commits,
             reads: Plan::new(fail_reads),
             commits: 0,
             broken: false,
             faults: 0,
-        }
+        })
     }
 
-    pub fn rows(&self) -> &[Row]
-        ensures { IfSome (⟦<MemKeeper as Keeper>⟧.kept self.now) (λ held. map.entries held.rows ≡ entries_of result.now) }
+    /// Copies of the rows, in ascending order of their keys.
+    pub fn rows(&self) -> Result<Vec<Row>, NoMemory>
+        ensures held { IfOk result (λ rows. map.entries (held_by (kept_by self.now)).rows ≡ entries_of rows.items) }
+        ensures kept { IfOk result (λ rows. IfSome (⟦<MemKeeper as Keeper>⟧.kept self.now) (λ held. map.entries held.rows ≡ entries_of rows.items)) }
     {
         self.keeper.rows()
     }

@@ -1,20 +1,21 @@
 // A source, a sink and a keeper in memory that never fail by themselves.
-ghost use Rattle.std.specs.Prelude.{◌≡◌, ◌+◌, ◌-◌, min, ◌<◌, ◌≤◌, List, true, false, Some, None, drop, vec_len, vec_capacity, if◌then◌else◌, OnOk, OnErr, IsOk, IsOkAnd, IsErrOf, IfOk, IfSome, find, length};
+ghost use Rattle.std.specs.Prelude.{◌≡◌, ◌+◌, ◌-◌, min, ◌<◌, ◌≤◌, List, true, false, Some, None, drop, vec_len, vec_capacity, if◌then◌else◌, OnOk, OnErr, IsOk, IsOkAnd, IsErrOf, IfOk, IfSome, length};
 ghost use Rattle.std.specs.Io.{ReadsAtMost};
 ghost use Rattle.std.specs.Io.KnownBytes.{ReadConsumes, WriteAppends};
-ghost use Rattle.std.specs.Ordering.{is_lt};
 ghost use Rattle.std.specs.FinMap as map;
 ghost use Rattle.std.specs.FinMap.{is_sorted};
 ghost use Rattle.hx_object.specs.Texts.{bytes_cmp};
 ghost use Rattle.hx_ports.specs.Causes.{NoneOnlyAtStall};
-ghost use Rattle.hx_ports.specs.Keeping.{meta_of, row_after, Lands};
-ghost use Rattle.hx_ports.specs.Rows.{told, kept_of, entries_of, IsPlaceOf, IsAscending, after_puts, after_cuts, without};
+ghost use Rattle.hx_ports.specs.Keeping.{meta_of, row_after, with_batch, with_puts, with_cuts, first_behind, Lands};
+ghost use Rattle.hx_ports.specs.Rows.{told, kept_of, entries_of, rows_of, rows_in};
+ghost use Rattle.hx_ports.specs.Undone.{put_back, all_put_back};
 
 use crate::keeper::{Batch, KeepFault, Keeper, Meta, Row};
 use crate::stream::{ReadFault, Sink, Source, WriteFault};
-use hx_object::List;
-use std::alloc::AllocError;
-use std::cmp::Ordering;
+use hx_object::{List, NoMemory};
+use std::alloc::Global;
+use std::collections::BTreeMap;
+use std::ops::Bound;
 
 /// Bytes in memory, given in pieces.
 #[derive(Drop)]
@@ -119,30 +120,46 @@ impl Sink for SureSink {
     }
 }
 
+/// The versions and the bodies of rows, by their keys.
+type RowMap = BTreeMap<List<u8>, (u64, List<u8>)>;
+
 /// Rows in memory.
 #[derive(Drop)]
 pub struct SureKeeper {
-    rows: Vec<Row>,
+    rows: RowMap,
     meta: Meta,
     tells: bool,
-    ghost ascends: { IsAscending tells rows.items },
+    alloc: Global,
 }
 
 impl SureKeeper {
+    ghost use Rattle.hx_ports.specs.Shown.{given_meta, held_by};
+
     /// A keeper of these rows. It tells them where they ascend by their keys and `meta` counts them.
-    pub fn new(rows: Vec<Row>, meta: Meta) -> Self
-        ensures kept { ⟦<SureKeeper as Keeper>⟧.kept result ≡ told rows.items meta }
-        ensures whole { ⟦<SureKeeper as Keeper>⟧.broken result ≡ false }
-        ensures faults { ⟦<SureKeeper as Keeper>⟧.keeper_faults result ≡ 0 }
+    pub fn new(rows: Vec<Row>, meta: Meta) -> Result<Self, NoMemory>
+        ensures kept { IfOk result (λ keeper. ⟦<SureKeeper as Keeper>⟧.kept keeper ≡ told rows.items meta) }
+        ensures held { IfOk result (λ keeper. held_by keeper ≡ kept_of rows.items meta) }
+        ensures meta { IfOk result (λ keeper. given_meta keeper ≡ meta) }
+        ensures whole { IfOk result (λ keeper. ⟦<SureKeeper as Keeper>⟧.broken keeper ≡ false) }
+        ensures faults { IfOk result (λ keeper. ⟦<SureKeeper as Keeper>⟧.keeper_faults keeper ≡ 0) }
     {
+        let alloc = *rows.allocator();
         let tells = rows.len() as u64 == meta.rows && ascend(rows.as_slice());
-        SureKeeper { rows, meta, tells }
+        let rows = map_rows(alloc, rows)?;
+        Ok(SureKeeper {
+            rows,
+            meta,
+            tells,
+            alloc,
+        })
     }
 
-    pub fn rows(&self) -> &[Row]
-        ensures { IfSome (⟦<SureKeeper as Keeper>⟧.kept self.now) (λ held. map.entries held.rows ≡ entries_of result.now) }
+    /// Copies of the rows, in ascending order of their keys.
+    pub fn rows(&self) -> Result<Vec<Row>, NoMemory>
+        ensures held { IfOk result (λ rows. map.entries (held_by self.now).rows ≡ entries_of rows.items) }
+        ensures kept { IfOk result (λ rows. IfSome (⟦<SureKeeper as Keeper>⟧.kept self.now) (λ held. map.entries held.rows ≡ entries_of rows.items)) }
     {
-        self.rows.as_slice()
+        copy_rows(self.alloc, &self.rows)
     }
 
     pub fn version(&self) -> u64
@@ -164,58 +181,54 @@ fn ascend(rows: &[Row]) -> bool
     true
 }
 
+/// The rows by their keys. Of those with one key it has the first.
+fn map_rows(alloc: Global, mut rows: Vec<Row>) -> Result<RowMap, NoMemory>
+    ensures { IfOk result (λ held. rows_in held ≡ rows_of rows.items) }
+{
+    let mut held = BTreeMap::new(alloc);
+    while let Some(row) = rows.pop() {
+        let _ = held.insert(row.key, (row.version, row.body))?;
+    }
+    Ok(held)
+}
+
+/// Copies of the rows in their order.
+fn copy_rows(alloc: Global, held: &RowMap) -> Result<Vec<Row>, NoMemory>
+    ensures { IfOk result (λ rows. map.entries (rows_in held.now) ≡ entries_of rows.items) }
+{
+    let mut rows = Vec::new(alloc);
+    for (key, (version, body)) in held.iter() {
+        rows.push(Row {
+            key: key.clone()?,
+            version: *version,
+            body: body.clone()?,
+        })?;
+    }
+    Ok(rows)
+}
+
 /// A copy of the first row whose key is greater.
-fn row_behind(rows: &[Row], after: &[u8]) -> Result<Option<Row>, AllocError>
-    ensures { IfOk result (λ row. row ≡ find (λ row. is_lt (bytes_cmp after.now row.key)) rows.now) }
+fn row_behind(alloc: Global, held: &RowMap, after: &[u8]) -> Result<Option<Row>, NoMemory>
+    ensures { IfOk result (λ row. row ≡ first_behind after.now (rows_in held.now)) }
 {
-    for row in rows {
-        if after < row.key.as_slice() {
-            return Ok(Some(row.clone()?));
-        }
+    let after = List::of(Vec::from_slice(alloc, after)?);
+    match held
+        .range((Bound::Excluded(&after), Bound::Unbounded))
+        .next()
+    {
+        Some((key, (version, body))) => Ok(Some(Row {
+            key: key.clone()?,
+            version: *version,
+            body: body.clone()?,
+        })),
+        None => Ok(None),
     }
-    Ok(None)
-}
-
-/// Where a key stands among the rows, or where it would stand.
-fn place_of(rows: &[Row], key: &List<u8>) -> Result<usize, usize>
-    ensures { IsPlaceOf rows.now key.now result }
-{
-    for (i, row) in rows.iter().enumerate() {
-        match key.cmp(&row.key) {
-            Ordering::Less => return Err(i),
-            Ordering::Equal => return Ok(i),
-            Ordering::Greater => {}
-        }
-    }
-    Err(rows.len())
-}
-
-/// Puts a row into its place.
-fn put_row(rows: &mut Vec<Row>, row: Row)
-    requires { vec_len rows.old < vec_capacity rows.old }
-    ensures entries { entries_of rows.new.items ≡ map.put bytes_cmp row.key (row.version, row.body) (entries_of rows.old.items) }
-    ensures len { vec_len rows.new ≤ vec_len rows.old + 1 }
-    ensures capacity { vec_capacity rows.old ≤ vec_capacity rows.new }
-{
-    match place_of(rows, &row.key) {
-        Ok(i) => rows[i] = row,
-        Err(i) => {
-            let _ = rows.insert(i, row);
-        }
-    }
-}
-
-/// Takes the row of a key away.
-fn cut_row(rows: &mut Vec<Row>, key: &List<u8>)
-    ensures { entries_of rows.new.items ≡ without key.now (entries_of rows.old.items) }
-{
-    rows.retain(|row| row.key != *key);
 }
 
 impl Keeper for SureKeeper {
-    ghost use Rattle.hx_ports.specs.Shown.{given_meta, held_rows, tells_rows};
+    ghost use Rattle.hx_ports.specs.Shown.{given_meta, held_by, tells_rows};
 
-    ghost kept = { λ k. if k.tells then Some (kept_of k.rows.items k.meta) else None };
+    ghost kept = { λ k. if k.tells then Some (record { schema = k.meta.schema; version = k.meta.version; rows = rows_in k.rows }) else None };
 
     ghost broken = { λ _. false };
 
@@ -243,11 +256,11 @@ impl Keeper for SureKeeper {
 
     fn load(&mut self, after: &[u8]) -> Result<Option<Row>, KeepFault>
         ensures row { IfOk result (λ row. IfSome (⟦<SureKeeper as Keeper>⟧.kept self.old) (λ held. row ≡ row_after after.now held)) }
-        ensures first { IfOk result (λ row. row ≡ find (λ row. is_lt (bytes_cmp after.now row.key)) (held_rows self.old)) }
+        ensures first { IfOk result (λ row. row ≡ row_after after.now (held_by self.old)) }
         ensures memory { OnErr result (IsErrOf result KeepFault.NoMemory) }
         ensures same { self.new ≡ self.old }
     {
-        match row_behind(self.rows.as_slice(), after) {
+        match row_behind(self.alloc, &self.rows, after) {
             Ok(row) => Ok(row),
             Err(_) => Err(KeepFault::NoMemory),
         }
@@ -255,40 +268,86 @@ impl Keeper for SureKeeper {
 
     fn commit(&mut self, batch: &Batch) -> Result<(), KeepFault>
         ensures lands { OnOk result (Lands batch.now (⟦<SureKeeper as Keeper>⟧.kept self.old) (⟦<SureKeeper as Keeper>⟧.kept self.new)) }
-        ensures entries { OnOk result (entries_of (held_rows self.new) ≡ after_cuts batch.now.cuts (after_puts batch.now.puts (entries_of (held_rows self.old)))) }
+        ensures held { OnOk result (held_by self.new ≡ with_batch batch.now (held_by self.old)) }
         ensures meta { OnOk result ((given_meta self.new ≡ record (given_meta self.old) { version = batch.now.version }) × (tells_rows self.new ≡ tells_rows self.old)) }
         ensures memory { OnErr result (IsErrOf result KeepFault.NoMemory) }
-        ensures same { OnErr result (held_rows self.new ≡ held_rows self.old × (given_meta self.new ≡ given_meta self.old) × (tells_rows self.new ≡ tells_rows self.old)) }
+        ensures same { OnErr result ((held_by self.new ≡ held_by self.old) × (given_meta self.new ≡ given_meta self.old) × (tells_rows self.new ≡ tells_rows self.old)) }
     {
-        let puts = match batch.puts.clone() {
-            Ok(puts) => puts.into_vec(),
-            Err(_) => return Err(KeepFault::NoMemory),
-        };
-        if self.rows.reserve(puts.len()).is_err() {
+        if put_rows(self.alloc, &mut self.rows, batch.puts.as_slice()).is_err() {
             return Err(KeepFault::NoMemory);
         }
-        put_rows(&mut self.rows, puts);
         cut_rows(&mut self.rows, batch.cuts.as_slice());
         self.meta.version = batch.version;
         Ok(())
     }
 }
 
-/// Puts rows into their places, the first one first.
-fn put_rows(rows: &mut Vec<Row>, puts: Vec<Row>)
-    requires { vec_len rows.old + vec_len puts ≤ vec_capacity rows.old }
-    ensures { entries_of rows.new.items ≡ after_puts puts.items (entries_of rows.old.items) }
+/// Puts rows into their places, the first one first. Where memory ends, those that were put are taken back.
+fn put_rows(alloc: Global, held: &mut RowMap, puts: &[Row]) -> Result<(), NoMemory>
+    ensures puts { OnOk result (rows_in held.new ≡ with_puts puts.now (rows_in held.old)) }
+    ensures same { OnErr result (rows_in held.new ≡ rows_in held.old) }
 {
+    let mut log = Vec::new(alloc);
     for put in puts {
-        put_row(rows, put);
+        if put_row(held, &mut log, put).is_err() {
+            put_rows_back(held, log);
+            return Err(NoMemory);
+        }
     }
+    Ok(())
 }
 
 /// Takes the rows of keys away.
-fn cut_rows(rows: &mut Vec<Row>, keys: &[List<u8>])
-    ensures { entries_of rows.new.items ≡ after_cuts keys.now (entries_of rows.old.items) }
+fn cut_rows(held: &mut RowMap, keys: &[List<u8>])
+    ensures { rows_in held.new ≡ with_cuts keys.now (rows_in held.old) }
 {
     for key in keys {
-        cut_row(rows, key);
+        let _ = held.remove(key);
+    }
+}
+
+/// What a key had before a row was put there.
+#[derive(Drop)]
+struct Before {
+    key: List<u8>,
+    had: Option<(u64, List<u8>)>,
+}
+
+/// Puts a row into its place, and notes what its key had before.
+fn put_row(held: &mut RowMap, log: &mut Vec<Before>, put: &Row) -> Result<(), NoMemory>
+    ensures put { OnOk result (rows_in held.new ≡ map.insert (rows_in held.old) put.now.key (put.now.version, put.now.body)) }
+    ensures back { all_put_back log.new.items (rows_in held.new) ≡ all_put_back log.old.items (rows_in held.old) }
+{
+    log.reserve(1)?;
+    let key = put.key.clone()?;
+    let body = put.body.clone()?;
+    let had = held.insert(put.key.clone()?, (put.version, body))?;
+    let _ = log.push(Before { key, had });
+    Ok(())
+}
+
+/// Takes puts back, the last one first.
+fn put_rows_back(held: &mut RowMap, mut log: Vec<Before>)
+    ensures { rows_in held.new ≡ all_put_back log.items (rows_in held.old) }
+{
+    while let Some(before) = log.pop() {
+        put_row_back(held, before);
+    }
+}
+
+/// Gives a key what it had. A key that still has a row takes no memory.
+fn put_row_back(held: &mut RowMap, before: Before)
+    ensures { rows_in held.new ≡ put_back before (rows_in held.old) }
+{
+    let Before { key, had } = before;
+    match had {
+        Some(row) => {
+            if held.contains_key(&key) {
+                let _ = held.insert(key, row);
+            }
+        }
+        None => {
+            let _ = held.remove(&key);
+        }
     }
 }

@@ -232,7 +232,8 @@ fn keeps_rows(rt: HostRuntime) -> Result<(), Fail> {
         META,
         Vec::new(alloc),
         vec![in alloc; 2]?,
-    );
+    )
+    .map_err(|_| "no memory")?;
     assert_eq!(rt; keeper.attach(""), Ok(()));
     assert_eq!(rt; keeper.meta(), Err(KeepFault::Fault));
     assert_eq!(rt; keeper.meta(), Ok(META));
@@ -271,7 +272,12 @@ fn breaks_at_a_failing_commit(rt: HostRuntime) -> Result<(), Fail> {
     let alloc = rt.alloc();
     for (landed, version, keys) in [(true, 6, "abcd"), (false, 5, "abd")] {
         let fails = vec![in alloc; FailCommit { call: 2, landed }]?;
-        let mut keeper = MemKeeper::new(rows_of(alloc, "bd")?, META, fails, Vec::new(alloc));
+        let mut keeper = MemKeeper::new(
+            rows_of(alloc, "bd")?,
+            META,
+            fails,
+            Vec::new(alloc),
+        ).map_err(|_| "no memory")?;
         assert_eq!(rt; keeper.commit(&batch_of(alloc, 5, "a", None)?), Ok(()));
         assert_eq!(rt;
             keeper.commit(&batch_of(alloc, 6, "c", None)?),
@@ -282,7 +288,7 @@ fn breaks_at_a_failing_commit(rt: HostRuntime) -> Result<(), Fail> {
             Err(KeepFault::Fault)
         );
         assert_eq!(rt;
-            keys_of(alloc, keeper.rows())?.as_slice(),
+            keys_of(alloc, keeper.rows().map_err(|_| "no memory")?.as_slice())?.as_slice(),
             keys.as_bytes(),
             "landed: {landed}"
         );
@@ -301,7 +307,8 @@ fn keeps_the_count_it_was_given_where_it_tells_no_rows(rt: HostRuntime) -> Resul
             META,
             Vec::new(alloc),
             Vec::new(alloc),
-        );
+        )
+        .map_err(|_| "no memory")?;
         assert_eq!(rt; keeper.commit(&batch_of(alloc, 5, "c", None)?), Ok(()));
         assert_eq!(rt;
             keeper.meta(),

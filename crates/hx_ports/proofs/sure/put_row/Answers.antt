@@ -1,16 +1,22 @@
-use Rattle.std.proofs.Common.{◌∙◌, ap, sym}
-use Rattle.std.proofs.lemmas.List.{map-set}
-use Rattle.hx_ports.proofs.Placed.{entries_of-insert}
-use Rattle.hx_ports.specs.Rows.{entries_of, entry_of}
+use Rattle.std.proofs.Common.{◌∙◌, ap, sym, arith, ◌<◌, ◌++◌, ◌∷◌, [], vec_len, vec_capacity}
+use Rattle.std.specs.FinMap as map
+use Rattle.hx_ports.proofs.Placed.{put-rows_in, put_row-back}
+use Rattle.hx_ports.specs.declared.sure.Before.{Before}
+use Rattle.hx_ports.specs.Rows.{rows_in}
 use Rattle.hx_ports.proofs.sure.put_row.Goals as goal
 
-pub returns-in-Ok-clause-entries : goal.returns-in-Ok-clause-entries
-returns-in-Ok-clause-entries c =
-    let place = (c.in-Ok.ensures).1 (c.args.row.version, c.args.row.body) in
-    map-set entry_of _ _ _ ∙ sym (rw c.deref.ensures.value at place)
+pub returns-clause-put : goal.returns-clause-put
+returns-clause-put c =
+    let key = c.in_ok-clone.ensures.cases (λ x y e. e) in
+    let body = c.in_ok-body.ensures.cases (λ x y e. e) in
+    put-rows_in c.args.held.now c.insert.new.self c.in_ok-clone.field-0 (c.args.put.now.version, c.in_ok-body.body) c.in_ok-had.ensures.updates.0
+    ∙ (λ i. map.insert (rows_in c.args.held.now) (key i) (c.args.put.now.version, body i))
 
-pub returns-in-Err-clause-entries : goal.returns-in-Err-clause-entries
-returns-in-Err-clause-entries c =
-    let ok = c.insert.ensures.succeeds c.requires in
-    let place = (c.in-Err.ensures).1 (c.args.row.version, c.args.row.body) in
-    ap entries_of (rw ok at c.insert.ensures.items) ∙ entries_of-insert _ _ _ ∙ sym (rw c.deref.ensures.value at place)
+pub returns-clause-back : goal.returns-clause-back
+returns-clause-back c =
+    let room : vec_len c.reserve.new.self < vec_capacity c.reserve.new.self = omega (arith, c.in_ok-reserve.ensures.ok) in
+    let before : Before = record { key = c.in_ok-key.key; had = c.in_ok-had.had } in
+    let ok = c.push.ensures.succeeds room in
+    let pushed = (rw ok at c.push.ensures.items) ∙ ap (λ l. l ++ before ∷ []) c.in_ok-reserve.ensures.items in
+    put_row-back c.args.held.now c.insert.new.self c.args.log.now.items c.push.new.self.items before c.in_ok-clone.field-0 (c.args.put.now.version, c.in_ok-body.body)
+    pushed (c.in_ok-key.ensures.cases (λ x y e. e) ∙ sym (c.in_ok-clone.ensures.cases (λ x y e. e))) c.in_ok-had.ensures.old c.in_ok-had.ensures.updates.0
