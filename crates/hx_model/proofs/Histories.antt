@@ -3,8 +3,8 @@ use Rattle.std.proofs.Common.{◌≡◌, Bool, true, false, [], ◌∷◌, ◌++
 use Rattle.std.specs.Prelude.{◌||◌}
 use Rattle.hx_model.specs.declared.ask.Ask.{Ask}
 use Rattle.hx_model.specs.declared.ask.Answer.{Answer}
-use Rattle.hx_model.specs.declared.ask.Answer.TheVariants.{One, Refused as Refusing}
-use Rattle.hx_model.specs.declared.refusal.Refusal.TheVariants.{NotFound, Exists, StoreFailed, NotServed, NoMemory as NoRoom}
+use Rattle.hx_model.specs.declared.ask.Answer.TheVariants.{One, Many, Gone, Refused as Refusing}
+use Rattle.hx_model.specs.declared.refusal.Refusal.TheVariants.{BadLine, BadPath, BadQuery, NotJson, NotWhole, NotKind, OtherPlace, Broken, NoPath, NotFound, NoMethod, Exists, OtherVersion, TooLong, Missing, WrongType, BadName, BadLabel, TooManyLabels, TooLarge, StoreFailed, NotServed, NoMemory as NoRoom}
 use Rattle.hx_model.specs.Machine.{World, History, IsHistory, world_after, replay, loses_to_fault, is_lost_to_fault, request_entry, answer_of}
 
 pub IsHistory-append : (w : World) (h k : History) → IsHistory w h → IsHistory (replay w h) k → IsHistory w (h ++ k)
@@ -26,8 +26,28 @@ loses_to_fault-append (e ∷ h) k = ap (λ b. is_lost_to_fault e || b) (loses_to
 -- the entry of a request answers what the request did
 pub answer_of-request_entry : (ask : Ask) (answer : Answer) → answer_of (request_entry ask answer) ≡ answer
 answer_of-request_entry ask (One x fresh) = refl
+answer_of-request_entry ask (Many kind objects version) = refl
+answer_of-request_entry ask (Gone version) = refl
+answer_of-request_entry ask (Refusing BadLine) = refl
+answer_of-request_entry ask (Refusing BadPath) = refl
+answer_of-request_entry ask (Refusing (BadQuery name)) = refl
+answer_of-request_entry ask (Refusing NotJson) = refl
+answer_of-request_entry ask (Refusing NotWhole) = refl
+answer_of-request_entry ask (Refusing (NotKind kind)) = refl
+answer_of-request_entry ask (Refusing OtherPlace) = refl
+answer_of-request_entry ask (Refusing (Broken rule)) = refl
+answer_of-request_entry ask (Refusing NoPath) = refl
 answer_of-request_entry ask (Refusing (NotFound kind name)) = refl
+answer_of-request_entry ask (Refusing NoMethod) = refl
 answer_of-request_entry ask (Refusing (Exists kind name)) = refl
+answer_of-request_entry ask (Refusing (OtherVersion kind name version)) = refl
+answer_of-request_entry ask (Refusing TooLong) = refl
+answer_of-request_entry ask (Refusing (Missing path)) = refl
+answer_of-request_entry ask (Refusing (WrongType path)) = refl
+answer_of-request_entry ask (Refusing BadName) = refl
+answer_of-request_entry ask (Refusing BadLabel) = refl
+answer_of-request_entry ask (Refusing TooManyLabels) = refl
+answer_of-request_entry ask (Refusing TooLarge) = refl
 answer_of-request_entry ask (Refusing StoreFailed) = refl
 answer_of-request_entry ask (Refusing NotServed) = refl
 answer_of-request_entry ask (Refusing NoRoom) = refl

@@ -1,5 +1,7 @@
 pub mod Rows
-pub mod Replying
 pub mod Storing
 pub mod Histories
+pub mod Legality
+pub mod Counting
+pub mod Replying
 pub mod Examples

@@ -4,7 +4,6 @@ use Rattle.std.specs.Prelude.{is_some, unwrap_or}
 use Rattle.std.specs.Cmp.{IsTotalOrder, Equal-is, tied_itself, both_ways}
 use Rattle.std.proofs.lemmas.Slice.Eq.{bytes_eq-Decides}
 use Rattle.std.specs.Ordering.{ordering_then, ordering_reverse}
-use Rattle.std.specs.Option.{option_map_or}
 use Rattle.std.specs.FinMap.Entries.{by_order}
 use Rattle.std.proofs.lemmas.Cmp.{then_total, on_total, nat_cmp_total, nat_list_cmp_total}
 use Rattle.std.proofs.lemmas.Map.Lookups.{CmpEqualImpliesEq, exact_bytes, exact_unsigned}
@@ -17,6 +16,7 @@ use Rattle.hx_object.specs.declared.object.Id.{Id}
 use Rattle.hx_object.specs.declared.object.Object.{Object}
 use Rattle.std.specs.Str.{bytes_eq}
 use Rattle.hx_object.specs.Order.{id_cmp}
+use Rattle.hx_model.specs.Limits.{part_of}
 use Rattle.hx_model.specs.State.{same_id, Rows, row_of, put, cut, is_below_all, ascends, rows_from}
 
 -- ---- the order of identities
@@ -164,10 +164,6 @@ less_than_all a b (y ∷ rows) e h =
     less Equal e = absurd (true≢false (sym e))
     less Greater e = absurd (true≢false (sym e))
 
--- what an identity's object adds to a sum
-abbrev pub part_of : (Object → ℕ) → Option Object → ℕ
-part_of f o = option_map_or f o 0
-
 -- a put takes the old part off the sum and adds the new one
 pub sum-put : (f : Object → ℕ) (x : Object) (rows : Rows) → ascends rows ≡ true → sum_by f (put x rows) + part_of f (row_of rows x.id) ≡ sum_by f rows + f x
 sum-put f x [] h = omega arith
@@ -215,6 +211,24 @@ ascends-put x (y ∷ rows) h =
       | Equal ↦ λ e. and_from _ _ (subst (λ (q : Id). is_below_all q rows ≡ true) (sym (exact_ids x.id y.id e)) parts.0) parts.1
       | Greater ↦ λ e. and_from _ _ (below_put y.id x rows (id_total.antisymm y.id x.id ∙ ap ordering_reverse e) parts.0) (ascends-put x rows parts.1)
     ] refl
+
+below_cut : (a id : Id) (rows : Rows) → is_below_all a rows ≡ true → is_below_all a (cut id rows) ≡ true
+below_cut a id [] h = refl
+below_cut a id (y ∷ rows) h =
+    let parts = and_parts (is_lt (id_cmp a y.id)) (is_below_all a rows) h in
+    elim (same_id id y.id) as (λ b. is_below_all a (cond (not b) (y ∷ cut id rows) (cut id rows)) ≡ true) [
+      | true ↦ below_cut a id rows parts.1
+      | false ↦ and_from _ _ parts.0 (below_cut a id rows parts.1)
+    ]
+
+pub ascends-cut : (id : Id) (rows : Rows) → ascends rows ≡ true → ascends (cut id rows) ≡ true
+ascends-cut id [] h = refl
+ascends-cut id (y ∷ rows) h =
+    let parts = and_parts (is_below_all y.id rows) (ascends rows) h in
+    elim (same_id id y.id) as (λ b. ascends (cond (not b) (y ∷ cut id rows) (cut id rows)) ≡ true) [
+      | true ↦ ascends-cut id rows parts.1
+      | false ↦ and_from _ _ (below_cut y.id id rows parts.0) (ascends-cut id rows parts.1)
+    ]
 
 -- ---- rows in order that answer alike are the same
 

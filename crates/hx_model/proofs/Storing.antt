@@ -1,5 +1,5 @@
--- The stored rows of a state after an object is put.
-use Rattle.std.proofs.Common.{◌≡◌, ℕ, ◌+◌, ◌/◌, ◌%◌, Bool, true, false, cond, List, [], ◌∷◌, ◌++◌, map, Some, refl, sym, ap, ◌∙◌, arith, eq-eqb, true≢false, ◌==◌}
+-- The stored rows of a state after an object is put or cut.
+use Rattle.std.proofs.Common.{◌≡◌, ℕ, ◌+◌, ◌/◌, ◌%◌, Bool, true, false, cond, List, [], ◌∷◌, ◌++◌, map, Some, refl, sym, ap, ◌∙◌, subst, arith, eq-eqb, true≢false, ◌==◌}
 use Rattle.std.specs.declared.cmp.Ordering.{Ordering}
 use Rattle.std.specs.declared.cmp.Ordering.TheVariants.{Less, Equal, Greater}
 use Rattle.std.specs.List.{AllByRecursion}
@@ -7,18 +7,18 @@ use Rattle.std.specs.Cmp.{tied_itself}
 use Rattle.std.specs.Cmp.Lexicographic.{nat_list_cmp_total}
 use Rattle.std.specs.Ordering.{eq_by_cmp, is_eq}
 use Rattle.std.specs.FinMap as finite
-use Rattle.std.specs.FinMap.{find, IsAntisymmetric, nat_cmp-IsAntisymmetric, slice_cmp-IsAntisymmetric, same_map, get-from_entries, get-insert}
+use Rattle.std.specs.FinMap.{find, IsAntisymmetric, nat_cmp-IsAntisymmetric, slice_cmp-IsAntisymmetric, same_map, get-from_entries, get-insert, get-remove}
 use Rattle.std.specs.FinMap.Entries.{by_order}
-use Rattle.std.specs.Prelude.{T}
+use Rattle.std.specs.Prelude.{T, is_some, None, not, Option}
 use Rattle.hx_object.specs.Kinds.{number_of}
 use Rattle.hx_object.specs.Order.{id_cmp}
 use Rattle.hx_object.specs.Texts.{bytes_cmp}
 use Rattle.hx_object.specs.declared.object.Id.{Id}
 use Rattle.hx_object.specs.declared.object.Object.{Object}
-use Rattle.hx_model.specs.State.{Rows, put, rows_from}
+use Rattle.hx_model.specs.State.{Rows, put, cut, row_of, same_id, rows_from}
 use Rattle.hx_object.specs.Json.{object_text}
 use Rattle.hx_model.specs.Texts.{key_text, stored_entry, rows_of_objects}
-use Rattle.hx_model.proofs.Rows.{id_total, exact_ids, same_kind}
+use Rattle.hx_model.proofs.Rows.{id_total, exact_ids, same_kind, is_same_id, same_from_Equal}
 
 -- ---- keys
 
@@ -63,6 +63,23 @@ All-put P x (y ∷ rows) p all =
       | Equal ↦ (p, all.1)
       | Greater ↦ (all.0, All-put P x rows p all.1)
     ]
+
+pub All-cut : (P : Object → Type 0) (id : Id) (rows : Rows) → AllByRecursion P rows → AllByRecursion P (cut id rows)
+All-cut P id [] all = tt
+All-cut P id (y ∷ rows) all =
+    elim (same_id id y.id) as (λ b. AllByRecursion P (cond (not b) (y ∷ cut id rows) (cut id rows))) [
+      | true ↦ All-cut P id rows all.1
+      | false ↦ (all.0, All-cut P id rows all.1)
+    ]
+
+-- what is found is one of the rows
+pub All-found : (P : Object → Type 0) (id : Id) (x : Object) (rows : Rows) → AllByRecursion P rows → row_of rows id ≡ Some x → P x
+All-found P id x [] all e = absurd (let h = e in cc)
+All-found P id x (y ∷ rows) all e =
+    elim (same_id id y.id) as (λ b. cond b (Some y) (row_of rows id) ≡ Some x → P x) [
+      | true ↦ λ some. subst P (let h : y ≡ x = cc in h) all.0
+      | false ↦ λ rest. All-found P id x rows all.1 rest
+    ] e
 
 pub All-rows_from : (P : Object → Type 0) (xs : List Object) → AllByRecursion P xs → AllByRecursion P (rows_from xs)
 All-rows_from P [] all = tt
@@ -115,3 +132,49 @@ pub rows_of_objects-put : (x : Object) (rows : Rows) → IsKeyed x → AllByRecu
 rows_of_objects-put x rows p all = same_map nat_list_cmp_total same_bytes _ _ (λ q.
     get-from_entries nat_list_cmp_total _ q ∙ find_stored-put q x rows p all
     ∙ sym (get-insert nat_list_cmp_total _ (key_text x.id) (x.version, object_text x) q ∙ ap (cond (eq_by_cmp bytes_cmp q (key_text x.id)) (Some (x.version, object_text x))) (get-from_entries nat_list_cmp_total _ q)))
+
+gone_twice : {A : Type 0} (a b : Bool) (y : A) (z : Option A) → a ≡ b → cond a None z ≡ cond a None (cond b (Some y) z)
+gone_twice true b y z e = refl
+gone_twice false true y z e = absurd (true≢false (sym e))
+gone_twice false false y z e = refl
+
+-- what a look-up by key finds after an object is cut
+find_stored-cut : (q : List ℕ) (id : Id) (rows : Rows) → HasNoSlash id.ns → AllByRecursion IsKeyed rows
+    → find bytes_cmp q (map stored_entry (cut id rows)) ≡ cond (eq_by_cmp bytes_cmp q (key_text id)) None (find bytes_cmp q (map stored_entry rows))
+find_stored-cut q id [] p all = elim (eq_by_cmp bytes_cmp q (key_text id)) as (λ b. ◌≡◌ {A = Option (ℕ × List ℕ)} None (cond b None None)) [ true ↦ refl | false ↦ refl ]
+find_stored-cut q id (y ∷ rows) p all =
+    let F = find bytes_cmp q (map stored_entry rows) in
+    elim (same_id id y.id) as (λ b. same_id id y.id ≡ b → find bytes_cmp q (map stored_entry (cond (not b) (y ∷ cut id rows) (cut id rows)))
+    ≡ cond (eq_by_cmp bytes_cmp q (key_text id)) None (cond (eq_by_cmp bytes_cmp q (key_text y.id)) (Some (y.version, object_text y)) F)) [
+      | true ↦ λ e. find_stored-cut q id rows p all.1
+          ∙ gone_twice (eq_by_cmp bytes_cmp q (key_text id)) (eq_by_cmp bytes_cmp q (key_text y.id)) (y.version, object_text y) F (ap (λ i. eq_by_cmp bytes_cmp q (key_text i)) (is_same_id id y.id e))
+      | false ↦ λ e.
+          ap (cond (eq_by_cmp bytes_cmp q (key_text y.id)) (Some (y.version, object_text y))) (find_stored-cut q id rows p all.1)
+          ∙ swapped (eq_by_cmp bytes_cmp q (key_text y.id)) (eq_by_cmp bytes_cmp q (key_text id)) (Some (y.version, object_text y)) None F
+          (λ a b. true≢false (sym (same_from_Equal id y.id (ap (id_cmp id) (sym (key_text-injective id y.id p all.0 (sym (same_bytes q (key_text id) (equal _ b)) ∙ same_bytes q (key_text y.id) (equal _ a)))) ∙ tied_itself id_total id)) ∙ e))
+    ] refl
+
+-- to cut an object is to remove its row
+pub rows_of_objects-cut : (id : Id) (rows : Rows) → HasNoSlash id.ns → AllByRecursion IsKeyed rows
+    → rows_of_objects (cut id rows) ≡ finite.remove (rows_of_objects rows) (key_text id)
+rows_of_objects-cut id rows p all = same_map nat_list_cmp_total same_bytes _ _ (λ q.
+    get-from_entries nat_list_cmp_total _ q ∙ find_stored-cut q id rows p all
+    ∙ sym (get-remove nat_list_cmp_total _ (key_text id) q ∙ ap (cond (eq_by_cmp bytes_cmp q (key_text id)) None) (get-from_entries nat_list_cmp_total _ q)))
+
+-- the row of an object that is there is there
+pub stored_contains : (id : Id) (x : Object) (rows : Rows) → row_of rows id ≡ Some x → finite.contains_key (rows_of_objects rows) (key_text id) ≡ true
+stored_contains id x rows there = ap is_some (get-from_entries nat_list_cmp_total (map stored_entry rows) (key_text id)) ∙ found rows there
+  where
+    found : (rows : Rows) → row_of rows id ≡ Some x → is_some (find bytes_cmp (key_text id) (map stored_entry rows)) ≡ true
+    found [] e = absurd (let h = e in cc)
+    found (y ∷ rows) e =
+        elim (same_id id y.id) as (λ b. same_id id y.id ≡ b → cond b (Some y) (row_of rows id) ≡ Some x → is_some (cond (eq_by_cmp bytes_cmp (key_text id) (key_text y.id)) (Some (y.version, object_text y)) (find bytes_cmp (key_text id) (map stored_entry rows))) ≡ true) [
+          | true ↦ λ t some.
+              let tie : eq_by_cmp bytes_cmp (key_text id) (key_text y.id) ≡ true = ap (λ i. eq_by_cmp bytes_cmp (key_text id) (key_text i)) (sym (is_same_id id y.id t)) ∙ ap is_eq (tied_itself nat_list_cmp_total (key_text id)) in
+              ap (λ b. is_some (cond b (Some (y.version, object_text y)) (find bytes_cmp (key_text id) (map stored_entry rows)))) tie
+          | false ↦ λ t rest. either (eq_by_cmp bytes_cmp (key_text id) (key_text y.id)) (y.version, object_text y) (find bytes_cmp (key_text id) (map stored_entry rows)) (found rows rest)
+        ] refl e
+      where
+        either : {A : Type 0} (b : Bool) (v : A) (o : Option A) → is_some o ≡ true → is_some (cond b (Some v) o) ≡ true
+        either true v o h = refl
+        either false v o h = h

@@ -1,21 +1,66 @@
 -- What is answered to an ask, and the state that it leaves.
---     place_refusal     the refusal for want of the object, or because it is there
+--     place_refusal     the refusal for want of the object or its namespace, or because the object is there
+--     version_refusal   the refusal because the object has another version than the one that is expected
+--     limit_refusals    the refusals by the limits, in their order
 --     refusal_of        the first refusal that holds
 --     writes_of         what an ask changes where nothing refuses it
 --     answer_to         the answer and the next state. A refusal and a read leave the state
-use Rattle.std.specs.Prelude.{◌≡◌, ◌≢◌, ◌+◌, Bool, true, false, is_some, is_none, List, [], ◌∷◌, Option, Some, None}
+use Rattle.std.specs.Prelude.{◌≡◌, ◌≢◌, ℕ, ◌+◌, Bool, true, false, not, ◌&&◌, ◌||◌, ◌==◌, nat_lt, nat_le, is_some, is_none, List, [], ◌∷◌, ◌++◌, filter, Option, Some, None, if◌then◌else◌}
+use Rattle.std.specs.Option.{option_map_or}
+use Rattle.std.specs.Str.{bytes_eq}
+use Rattle.hx_object.specs.Kinds.{number_of, is_in_cluster}
+use Rattle.hx_object.specs.contracts.object.ObjectPartialEq.TheImpl as object_eq
+use Rattle.hx_object.specs.declared.kind.Kind.{Kind}
+use Rattle.hx_object.specs.declared.kind.Kind.TheVariants.{Namespace}
 use Rattle.hx_object.specs.declared.object.Id.{Id}
 use Rattle.hx_object.specs.declared.object.Object.{Object}
+use Rattle.hx_object.specs.declared.object.Payload.{Payload}
+use Rattle.hx_object.specs.declared.object.Payload.TheVariants.{Namespace as NamespaceOf, Hierarchy, Anchor, Quota}
 use Rattle.hx_model.specs.declared.ask.Ask.{Ask}
-use Rattle.hx_model.specs.declared.ask.Ask.TheVariants.{Get, Create}
+use Rattle.hx_model.specs.declared.ask.Ask.TheVariants.{Get, List as ListOf, Create, Replace, Delete}
 use Rattle.hx_model.specs.declared.ask.Answer.{Answer}
-use Rattle.hx_model.specs.declared.ask.Answer.TheVariants.{One, Refused}
+use Rattle.hx_model.specs.declared.ask.Answer.TheVariants.{One, Many, Gone, Refused}
 use Rattle.hx_model.specs.declared.refusal.Refusal.{Refusal}
-use Rattle.hx_model.specs.declared.refusal.Refusal.TheVariants.{NotFound, Exists}
+use Rattle.hx_model.specs.declared.refusal.Refusal.TheVariants.{NotFound, Exists, OtherVersion, Broken}
+use Rattle.hx_model.specs.declared.rule.Rule.TheVariants.{L1, L2, L3, L4}
 use Rattle.hx_model.specs.declared.key.Write.{Write}
-use Rattle.hx_model.specs.declared.key.Write.TheVariants.{Put}
+use Rattle.hx_model.specs.declared.key.Write.TheVariants.{Put, Cut}
 use Rattle.hx_model.specs.First.{so, first}
-use Rattle.hx_model.specs.State.{State, row_of, stamped, state_after}
+use Rattle.hx_model.specs.Limits.{is_namespace, is_anchor, is_named, counts, names_in, objects_in, bytes_in, most_names, most_objects, most_bytes, greatest_version}
+use Rattle.hx_model.specs.State.{State, Rows, row_of, namespace_id, stamped, written, state_after}
+
+-- ---- what an ask changes
+
+-- a PUT keeps the status that is reported
+abbrev pub with_status : Payload → Payload → Payload
+with_status (NamespaceOf terminating) (NamespaceOf _) = NamespaceOf terminating
+with_status (Hierarchy _ _ children conditions) (Hierarchy parent cascade _ _) = Hierarchy parent cascade children conditions
+with_status (Anchor status) (Anchor _) = Anchor status
+with_status (Quota _ status) (Quota hard _) = Quota hard status
+with_status old new = new
+
+-- the object that a PUT gives in the place of another, but for its version
+abbrev pub replaced_by : Object → Object → Object
+replaced_by old x = record x { payload = with_status old.payload x.payload; version = old.version }
+
+-- the test of two objects that code has: they are equal
+unfoldable pub same_object : Object → Object → Bool
+same_object = (object_eq.ghosts).eq
+
+-- a PUT writes where the object changes
+abbrev pub replacing : Option Object → Object → ℕ → List Write
+replacing None x version = []
+replacing (Some old) x version = if same_object (replaced_by old x) old then [] else Put (stamped (replaced_by old x) version) ∷ []
+
+-- what an ask changes. Every object that it puts has the new version
+abbrev pub writes_of : State → Ask → List Write
+writes_of s (Get id) = []
+writes_of s (ListOf kind ns) = []
+writes_of s (Create x skip) = Put (stamped x (s.last + 1)) ∷ []
+writes_of s (Replace x expected skip) = replacing (row_of s.rows x.id) x (s.last + 1)
+writes_of s (Delete id skip) = Cut id ∷ []
+
+-- ---- refusals
 
 abbrev pub not_found : Id → Refusal
 not_found id = NotFound id.kind id.name
@@ -23,19 +68,64 @@ not_found id = NotFound id.kind id.name
 abbrev pub already_there : Id → Refusal
 already_there id = Exists id.kind id.name
 
--- the object isn't there, or is there already
+-- the namespace of an identity isn't there
+abbrev pub is_homeless : State → Id → Bool
+is_homeless s id = not (is_in_cluster id.kind) && is_none (row_of s.rows (namespace_id id.ns))
+
+-- the object or its namespace isn't there, or the object is there already
 abbrev pub place_refusal : State → Ask → Option Refusal
 place_refusal s (Get id) = so (is_none (row_of s.rows id)) (not_found id)
-place_refusal s (Create x) = so (is_some (row_of s.rows x.id)) (already_there x.id)
+place_refusal s (ListOf kind ns) = None
+place_refusal s (Create x skip) = first (so (is_homeless s x.id) (NotFound Namespace x.id.ns) ∷ so (is_some (row_of s.rows x.id)) (already_there x.id) ∷ [])
+place_refusal s (Replace x expected skip) = so (is_none (row_of s.rows x.id)) (not_found x.id)
+place_refusal s (Delete id skip) = so (is_none (row_of s.rows id)) (not_found id)
+
+-- an object has another version than the one that is expected
+abbrev pub other_version : Option ℕ → Option Object → Option Refusal
+other_version (Some wanted) (Some x) = so (not (x.version == wanted)) (OtherVersion x.id.kind x.id.name x.version)
+other_version _ _ = None
+
+abbrev pub version_refusal : State → Ask → Option Refusal
+version_refusal s (Replace x expected skip) = other_version expected (row_of s.rows x.id)
+version_refusal s _ = None
+
+-- a POST brings a name that no namespace or anchor has
+abbrev pub brings_name : State → Ask → Bool
+brings_name s (Create x skip) = (is_namespace x.id.kind || is_anchor x.id.kind) && not (is_named s.rows x.id.name)
+brings_name s _ = false
+
+-- a POST brings an object that counts
+abbrev pub brings_object : Ask → Bool
+brings_object (Create x skip) = counts x
+brings_object _ = false
+
+-- the sum of sizes rises, and over the limit
+abbrev pub swells : Rows → Rows → Bool
+swells old new = nat_lt (bytes_in old) (bytes_in new) && nat_lt most_bytes (bytes_in new)
+
+-- something is written
+abbrev pub is_some_write : List Write → Bool
+is_some_write [] = false
+is_some_write (write ∷ writes) = true
+
+-- a limit would be passed
+abbrev pub limit_refusals : State → Ask → List (Option Refusal)
+limit_refusals s ask =
+    so (brings_name s ask && nat_le most_names (names_in s.rows)) (Broken L1)
+    ∷ so (brings_object ask && nat_le most_objects (objects_in s.rows)) (Broken L2)
+    ∷ so (swells s.rows (written (writes_of s ask) s.rows)) (Broken L3)
+    ∷ so (is_some_write (writes_of s ask) && nat_le greatest_version s.last) (Broken L4)
+    ∷ []
 
 -- the first refusal that holds, in their order
 abbrev pub refusal_of : State → Ask → Option Refusal
-refusal_of s ask = first (place_refusal s ask ∷ [])
+refusal_of s ask = first (place_refusal s ask ∷ version_refusal s ask ∷ limit_refusals s ask)
 
--- what an ask changes. Every object that it puts has the new version
-abbrev pub writes_of : State → Ask → List Write
-writes_of s (Get id) = []
-writes_of s (Create x) = Put (stamped x (s.last + 1)) ∷ []
+-- ---- answers
+
+-- the object is of the kind and lies in the namespace, if one is asked for
+abbrev pub is_listed : Kind → Option (List ℕ) → Object → Bool
+is_listed kind ns x = (number_of kind == number_of x.id.kind) && option_map_or (bytes_eq x.id.ns) ns true
 
 -- the object that is found
 abbrev pub shown : Option Object → Bool → Id → Answer
@@ -45,7 +135,10 @@ shown (Some x) fresh id = One x fresh
 -- the answer of a success, by the state before it and the one after
 abbrev pub success : State → State → Ask → Answer
 success s t (Get id) = shown (row_of s.rows id) false id
-success s t (Create x) = shown (row_of t.rows x.id) true x.id
+success s t (ListOf kind ns) = Many kind (filter (is_listed kind ns) s.rows) s.last
+success s t (Create x skip) = shown (row_of t.rows x.id) true x.id
+success s t (Replace x expected skip) = shown (row_of t.rows x.id) false x.id
+success s t (Delete id skip) = Gone t.last
 
 abbrev pub answer_by : State → Ask → Option Refusal → Answer × State
 answer_by s ask (Some refusal) = (Refused refusal, s)

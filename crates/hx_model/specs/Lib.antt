@@ -3,5 +3,8 @@ pub mod State
 pub mod Texts
 pub mod Json
 pub mod Replies
+pub mod Bodies
+pub mod Limits
 pub mod Answers
+pub mod Serving
 pub mod Machine

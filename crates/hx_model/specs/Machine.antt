@@ -34,9 +34,9 @@ pub record World : Type 0 where
   pub broken : Bool
   pub torn : Option State
 
--- the first world of a run
-abbrev pub opening_world : Bool → World
-opening_world broken = record { state = opening_state; hands = []; broken = broken; torn = None }
+-- the first world of a run, by the last version of the store
+abbrev pub opening_world : Bool → ℕ → World
+opening_world broken last = record { state = opening_state last; hands = []; broken = broken; torn = None }
 
 -- why an entry was lost
 pub data Cause : Type 0 where

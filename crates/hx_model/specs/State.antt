@@ -5,7 +5,8 @@
 --     put, cut           the rows with an object in its place;  without one
 --     rows_from          the rows of objects in any order: of two with one identity the first one counts
 --     State              the rows, and the last version
---     opening_state      the state without objects
+--     opening_state      the state without objects, of a store's last version
+--     namespace_id       the identity of a namespace
 --     stamped            an object with another version
 --     state_after        the state after a write: one new version for all that it changes
 use Rattle.std.specs.Prelude.{ℕ, ◌+◌, Bool, true, not, ◌&&◌, ◌==◌, List, [], ◌∷◌, filter, find, Option}
@@ -14,6 +15,7 @@ use Rattle.std.specs.Str.{bytes_eq}
 use Rattle.std.specs.FinMap.Entries.{by_order}
 use Rattle.hx_object.specs.Kinds.{number_of}
 use Rattle.hx_object.specs.Order.{id_cmp}
+use Rattle.hx_object.specs.declared.kind.Kind.TheVariants.{Namespace}
 use Rattle.hx_object.specs.declared.object.Id.{Id}
 use Rattle.hx_object.specs.declared.object.Object.{Object}
 use Rattle.hx_model.specs.declared.key.Write.{Write}
@@ -58,9 +60,13 @@ pub record State : Type 0 where
   pub rows : Rows
   pub last : ℕ
 
--- no objects, and no version given out
-abbrev pub opening_state : State
-opening_state = record { rows = []; last = 0 }
+-- no objects
+abbrev pub opening_state : ℕ → State
+opening_state last = record { rows = []; last = last }
+
+-- the identity of a namespace
+abbrev pub namespace_id : List ℕ → Id
+namespace_id name = record { kind = Namespace; ns = []; name = name }
 
 -- the object with another version
 abbrev pub stamped : Object → ℕ → Object

@@ -8,11 +8,10 @@ use Rattle.std.specs.FinMap as finite
 use Rattle.hx_object.specs.Json.{object_text}
 use Rattle.hx_object.specs.Kinds.{number_of}
 use Rattle.hx_object.specs.Texts.{bytes_cmp}
-use Rattle.hx_object.specs.declared.kind.Kind.TheVariants.{Namespace}
 use Rattle.hx_object.specs.declared.object.Id.{Id}
 use Rattle.hx_object.specs.declared.object.Object.{Object}
 use Rattle.hx_object.specs.declared.object.Payload.TheVariants.{Namespace as NamespacePayload}
-use Rattle.hx_model.specs.State.{State, Rows}
+use Rattle.hx_model.specs.State.{State, Rows, namespace_id}
 
 -- a number below a hundred in two digits
 abbrev pub two_digits : ℕ → List ℕ
@@ -21,10 +20,6 @@ two_digits n = (48 + n / 10) ∷ (48 + n % 10) ∷ []
 -- the key of an object's row
 unfoldable pub key_text : Id → List ℕ
 key_text id = two_digits (number_of id.kind) ++ (codes "/" ++ (id.ns ++ (codes "/" ++ id.name)))
-
--- the identity of a namespace
-abbrev pub namespace_id : List ℕ → Id
-namespace_id name = record { kind = Namespace; ns = []; name = name }
 
 -- a namespace as a request gives it: without labels or annotations, and without a version yet
 abbrev pub new_namespace : List ℕ → Object

@@ -1,20 +1,54 @@
 // Requests and their answers.
 use crate::Refusal;
-use hx_object::{Id, Object};
+use hx_object::{Id, Kind, List, Object, Text};
 
-/// What is asked of a cluster.
+/// What is asked of a cluster. `skip` asks to pass over the rules of admission that may be passed over.
 #[derive(Drop)]
 pub enum Ask {
     /// One object.
-    Get { id: Id },
+    Get {
+        id: Id,
+    },
+    /// The objects of a kind, in a namespace or in all of them.
+    List {
+        kind: Kind,
+        ns: Option<Text>,
+    },
     /// To store an object that isn't there. Its version is 0: the write gives it one.
-    Create { object: Object },
+    Create {
+        object: Object,
+        skip: bool,
+    },
+    /// To store an object in the place of one that is there, of the expected version where one is named. Its version is 0.
+    Replace {
+        object: Object,
+        expected: Option<u64>,
+        skip: bool,
+    },
+    /// To remove an object.
+    Delete {
+        id: Id,
+        skip: bool,
+    },
 }
 
 /// What a cluster answers.
 #[derive(Drop)]
 pub enum Answer {
     /// The object; `fresh` where the request made it.
-    One { object: Object, fresh: bool },
+    One {
+        object: Object,
+        fresh: bool,
+    },
+    /// The objects of a list in order of namespace and name, and the store's version.
+    Many {
+        kind: Kind,
+        objects: List<Object>,
+        version: u64,
+    },
+    /// The object was removed by the write of this version.
+    Gone {
+        version: u64,
+    },
     Refused(Refusal),
 }

@@ -6,7 +6,9 @@
 mod ask;
 mod key;
 mod refusal;
+mod rule;
 
 pub use ask::{Answer, Ask};
 pub use key::{Guard, Key, Write};
 pub use refusal::Refusal;
+pub use rule::Rule;
