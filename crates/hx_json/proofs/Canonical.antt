@@ -87,7 +87,7 @@ mutual
   AreTidy no_members = ⊤
   AreTidy (member k d ms) = IsBefore k ms × IsTidy d × AreTidy ms
 
-before_all : (k l : List ℕ) (ms : Members) → slice_cmp nat_cmp k l ≡ Less → IsBefore l ms → IsBefore k ms
+pub before_all : (k l : List ℕ) (ms : Members) → slice_cmp nat_cmp k l ≡ Less → IsBefore l ms → IsBefore k ms
 before_all k l no_members less h = tt
 before_all k l (member m e ms) less h = (nat_list_cmp_total.trans k l m less h.0, before_all k l ms less h.1)
 
@@ -97,7 +97,7 @@ before_put_at Less q k l d e ms less h later = (less, h)
 before_put_at Equal q k l d e ms less h later = h
 before_put_at Greater q k l d e ms less h later = (h.0, later)
 
-before_put : (q k : List ℕ) (d : Data) (ms : Members) → slice_cmp nat_cmp q k ≡ Less → IsBefore q ms → IsBefore q (put k d ms)
+pub before_put : (q k : List ℕ) (d : Data) (ms : Members) → slice_cmp nat_cmp q k ≡ Less → IsBefore q ms → IsBefore q (put k d ms)
 before_put q k d no_members less h = (less, tt)
 before_put q k d (member l e ms) less h = before_put_at (slice_cmp nat_cmp k l) q k l d e ms less h (before_put q k d ms less h.1)
 

@@ -9,3 +9,6 @@ pub mod NoFloat
 pub mod Ordered
 mod LegalExample
 mod WrittenExamples
+pub mod InOrder
+pub mod Payloads
+pub mod Telling

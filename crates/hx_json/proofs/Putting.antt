@@ -17,12 +17,12 @@ use Rattle.hx_object.specs.declared.object.Object.{Object}
 use Rattle.hx_object.specs.declared.object.ModeEntry.{ModeEntry}
 use Rattle.hx_object.specs.declared.object.Condition.{Condition}
 
-less : (o : Ordering) → is_lt o ≡ true → o ≡ Less
+pub less : (o : Ordering) → is_lt o ≡ true → o ≡ Less
 less Less h = refl
 less Equal h = absurd (true≢false (sym h))
 less Greater h = absurd (true≢false (sym h))
 
-rest_ascends : (p : List ℕ × List ℕ) (ps : List (List ℕ × List ℕ)) → has_ascending_keys (p ∷ ps) ≡ true → has_ascending_keys ps ≡ true
+pub rest_ascends : (p : List ℕ × List ℕ) (ps : List (List ℕ × List ℕ)) → has_ascending_keys (p ∷ ps) ≡ true → has_ascending_keys ps ≡ true
 rest_ascends p [] h = refl
 rest_ascends p (q ∷ ps) h = (and_parts (is_lt (slice_cmp nat_cmp p.0 q.0)) (has_ascending_keys (q ∷ ps)) h).1
 
@@ -104,3 +104,10 @@ put_metadata (member k e annotations) (member l f labels) d ms = refl
 pub put_spec : (spec status : Members) → put (codes "spec") (object spec) (put_unless_empty (codes "status") status no_members) ≡ member (codes "spec") (object spec) (unless_empty (codes "status") status no_members)
 put_spec spec no_members = refl
 put_spec spec (member k d status) = refl
+
+-- the rule that was broken goes between the code and the kind
+pub put_details : (details : Members) (version code kind : Data) (ms : Members)
+    → put (codes "apiVersion") version (put (codes "code") code (put_unless_empty (codes "details") details (member (codes "kind") kind ms)))
+    ≡ member (codes "apiVersion") version (member (codes "code") code (unless_empty (codes "details") details (member (codes "kind") kind ms)))
+put_details no_members version code kind ms = refl
+put_details (member k d details) version code kind ms = refl

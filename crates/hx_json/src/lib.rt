@@ -2,9 +2,11 @@
 #![tactic(auto)]
 
 mod fault;
+mod law;
 mod read;
 mod write;
 
 pub use fault::{JsonFault, Read};
-pub use read::read_object;
-pub use write::{write_list, write_object, write_status};
+pub use law::text_tells;
+pub use read::{is_decimal, read_object};
+pub use write::{write_gone, write_list, write_object, write_status};

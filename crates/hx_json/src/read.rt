@@ -20,6 +20,7 @@ use hx_object::{Kind, Object, Text};
 use parts::{expected_in, id_of, pairs_in, payload_of};
 use serde_json::Value;
 use std::alloc::Global;
+pub use version::is_decimal;
 use whole::read_whole;
 
 /// The object that a request's body says. `kind` and `ns` are the path's, and so is `name`, which a PUT has and a POST doesn't.

@@ -11,13 +11,12 @@ ghost use Rattle.hx_object.specs.Json as json;
 ghost use Rattle.hx_object.specs.Pairs.{has_ascending_keys};
 ghost use Rattle.hx_object.specs.declared.object.Payload.TheVariants as PayloadOf;
 ghost use Rattle.hx_model.specs.Json.{objects_items, list_data, list_text};
-ghost use Rattle.hx_model.specs.Replies.{message_about, message_of, status_data, status_text};
+ghost use Rattle.hx_model.specs.Replies.{details_of, gone_data, gone_text, message_about, message_of, said_of, status_data, status_text, version_message};
 ghost use Rattle.hx_json.specs.Writing.{put_unless_empty, put_unless_none, HasOrderedLimits};
 
 use hx_model::Refusal;
 use hx_object::{
-    AnchorStatus, Condition, Id, Kind, Limit, Mode, ModeEntry, NoMemory, Object, Pairs, Payload,
-    Text,
+    AnchorStatus, Condition, Id, Kind, Limit, ModeEntry, NoMemory, Object, Pairs, Payload, Text,
 };
 use serde_json::{Map, Value, put};
 use std::alloc::Global;
@@ -145,23 +144,12 @@ fn text_values(alloc: Global, texts: &[Text]) -> Result<Vec<Value>, NoMemory>
     Ok(values)
 }
 
-fn mode_text(mode: Mode) -> &'static str
-    ensures { result.now ≡ json.mode_text mode }
-{
-    match mode {
-        Mode::Propagate => "Propagate",
-        Mode::AllowPropagate => "AllowPropagate",
-        Mode::Remove => "Remove",
-        Mode::Ignore => "Ignore",
-    }
-}
-
 fn entry_value(alloc: Global, entry: &ModeEntry) -> Result<Value, NoMemory>
     ensures { IfOk result (λ v. view v ≡ json.entry_data entry.now) }
 {
     let mut map = Map::new(alloc);
     put_text(&mut map, alloc, "group", entry.group.as_str())?;
-    put_text(&mut map, alloc, "mode", mode_text(entry.mode))?;
+    put_text(&mut map, alloc, "mode", entry.mode.name())?;
     put_text(&mut map, alloc, "resource", entry.resource.as_str())?;
     Ok(Value::Object(map))
 }
@@ -453,6 +441,14 @@ fn object_values(alloc: Global, objects: &[Object]) -> Result<Vec<Value>, NoMemo
     Ok(values)
 }
 
+/// Metadata that is a version alone.
+fn version_map(alloc: Global, version: u64) -> Result<Map<String, Value>, NoMemory>
+    ensures { IfOk result (λ m. members_view m.entries ≡ member (codes "resourceVersion") (string (decimal version)) no_members) }
+{
+    let version = format!(in alloc; "{version}")?;
+    only_text(alloc, "resourceVersion", version.as_str())
+}
+
 fn list_value(
     alloc: Global,
     kind: Kind,
@@ -463,8 +459,7 @@ fn list_value(
     ensures { IfOk result (λ v. view v ≡ list_data kind objects.now version) }
 {
     let items = object_values(alloc, objects)?;
-    let version = format!(in alloc; "{version}")?;
-    let metadata = only_text(alloc, "resourceVersion", version.as_str())?;
+    let metadata = version_map(alloc, version)?;
     let name = kind.name();
     let name = format!(in alloc; "{name}List")?;
     let mut map = only_text(alloc, "apiVersion", kind.api_version())?;
@@ -499,20 +494,68 @@ fn message_about(alloc: Global, kind: Kind, name: &str, said: &str) -> Result<Te
     Ok(Text::of_string(format!(in alloc; "{resource} \"{name}\" {said}")?))
 }
 
+#[tactic(auto, unfolding(hx_model::specs::Replies::version_message))]
+fn version_message(alloc: Global, kind: Kind, name: &str, version: u64) -> Result<Text, NoMemory>
+    ensures { IfOk result (λ text. text ≡ version_message kind name.now version) }
+{
+    let resource = kind.resource();
+    Ok(Text::of_string(format!(in alloc; "{resource} \"{name}\" has version {version}")?))
+}
+
+/// Two texts, one after the other.
+#[tactic(auto, unfolding(hx_model::specs::Replies::said_of))]
+fn said_of(alloc: Global, front: &str, back: &str) -> Result<Text, NoMemory>
+    ensures { IfOk result (λ text. text ≡ said_of front.now back.now) }
+{
+    Ok(Text::of_string(format!(in alloc; "{front}{back}")?))
+}
+
 fn message_of(alloc: Global, refusal: &Refusal) -> Result<Text, NoMemory>
     ensures { IfOk result (λ text. text ≡ message_of refusal.now) }
 {
     match refusal {
+        Refusal::BadLine => Text::of(alloc, "line in no form of the script"),
+        Refusal::BadPath => Text::of(alloc, "bad path"),
+        Refusal::BadQuery { name } => said_of(alloc, "bad query ", name.as_str()),
+        Refusal::NotJson => Text::of(alloc, "body is not JSON"),
+        Refusal::NotWhole => Text::of(alloc, "body has a number that is not whole"),
+        Refusal::NotKind { kind } => said_of(alloc, "body is not ", kind.name()),
+        Refusal::OtherPlace => Text::of(alloc, "body names another place"),
+        Refusal::Broken { rule } => Text::of(alloc, rule.message()),
+        Refusal::NoPath => Text::of(alloc, "path not served"),
         Refusal::NotFound { kind, name } => message_about(alloc, *kind, name.as_str(), "not found"),
+        Refusal::NoMethod => Text::of(alloc, "method not served here"),
         Refusal::Exists { kind, name } => message_about(
             alloc,
             *kind,
             name.as_str(),
             "already exists",
         ),
+        Refusal::OtherVersion {
+            kind,
+            name,
+            version,
+        } => version_message(alloc, *kind, name.as_str(), *version),
+        Refusal::TooLong => Text::of(alloc, "more than 131072 bytes"),
+        Refusal::Missing { member } => said_of(alloc, member.as_str(), " is missing"),
+        Refusal::WrongType { member } => said_of(alloc, member.as_str(), " has the wrong type"),
+        Refusal::BadName => Text::of(alloc, "name is not allowed"),
+        Refusal::BadLabel => Text::of(alloc, "label or annotation is not allowed"),
+        Refusal::TooManyLabels => Text::of(alloc, "more than 256 labels"),
+        Refusal::TooLarge => Text::of(alloc, "object is larger than 65536 bytes"),
         Refusal::StoreFailed => Text::of(alloc, "the store failed"),
         Refusal::NotServed => Text::of(alloc, "not served"),
         Refusal::NoMemory => Text::of(alloc, "out of memory"),
+    }
+}
+
+/// The rule that was broken, where one was.
+fn details_map(alloc: Global, refusal: &Refusal) -> Result<Map<String, Value>, NoMemory>
+    ensures { IfOk result (λ m. members_view m.entries ≡ details_of refusal.now) }
+{
+    match refusal {
+        Refusal::Broken { rule } => only_text(alloc, "rule", rule.name()),
+        _ => Ok(Map::new(alloc)),
     }
 }
 
@@ -529,12 +572,15 @@ fn outcome_map(alloc: Global, message: &str, reason: &str) -> Result<Map<String,
     Ok(map)
 }
 
+#[tactic(auto, using(crate::proofs::Putting::put_details))]
 fn status_value(alloc: Global, refusal: &Refusal) -> Result<Value, NoMemory>
     ensures { IfOk result (λ v. view v ≡ status_data refusal.now) }
 {
     let message = message_of(alloc, refusal)?;
     let mut map = outcome_map(alloc, message.as_str(), refusal.reason())?;
+    let details = details_map(alloc, refusal)?;
     put_text(&mut map, alloc, "kind", "Status")?;
+    put_unless_empty(&mut map, alloc, "details", details)?;
     put(&mut map, alloc, "code", Value::from(refusal.code()))?;
     put_text(&mut map, alloc, "apiVersion", "v1")?;
     Ok(Value::Object(map))
@@ -546,5 +592,27 @@ pub fn write_status(alloc: Global, refusal: &Refusal) -> Result<Text, NoMemory>
     ensures { IfOk result (λ text. text ≡ status_text refusal.now) }
 {
     let value = status_value(alloc, refusal)?;
+    text_of(alloc, &value)
+}
+
+// ---- removals
+
+fn gone_value(alloc: Global, version: u64) -> Result<Value, NoMemory>
+    ensures { IfOk result (λ v. view v ≡ gone_data version) }
+{
+    let metadata = version_map(alloc, version)?;
+    let mut map = only_text(alloc, "apiVersion", "v1")?;
+    put_text(&mut map, alloc, "kind", "Status")?;
+    put_object(&mut map, alloc, "metadata", metadata)?;
+    put_text(&mut map, alloc, "status", "Success")?;
+    Ok(Value::Object(map))
+}
+
+/// The text of a removal, with the version of its write: a Kubernetes `Status` of success.
+#[tactic(auto, unfolding(hx_model::specs::Replies::gone_text))]
+pub fn write_gone(alloc: Global, version: u64) -> Result<Text, NoMemory>
+    ensures { IfOk result (λ text. text ≡ gone_text version) }
+{
+    let value = gone_value(alloc, version)?;
     text_of(alloc, &value)
 }

@@ -17,7 +17,7 @@ pub fn version_in(text: &str) -> u64
 }
 
 /// Whether the bytes are a decimal number without leading zeros, of at most 19 digits.
-fn is_decimal(text: &[u8]) -> bool
+pub fn is_decimal(text: &[u8]) -> bool
     ensures { result ≡ is_decimal text.now }
 {
     1 <= text.len() && text.len() <= 19 && are_digits(text) && !begins_with_zero(text)

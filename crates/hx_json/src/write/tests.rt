@@ -2,8 +2,8 @@
 ghost use Rattle.std.specs.Prelude.{IfOk};
 ghost use Rattle.hx_object.specs.Faults.{IsLegal};
 
-use super::{write_list, write_object, write_status};
-use hx_model::Refusal;
+use super::{write_gone, write_list, write_object, write_status};
+use hx_model::{Refusal, Rule};
 use hx_object::{Id, Kind, NoMemory, Object, Pairs, Payload, Text};
 use std::alloc::Global;
 use std::test::Fail;
@@ -89,6 +89,41 @@ fn a_refusal_is_written(rt: HostRuntime) -> Result<(), Fail> {
             "\\\"r\\\" not found\",",
             "\"metadata\":{},\"reason\":\"NotFound\",",
             "\"status\":\"Failure\"}",
+        ],
+    )?;
+    assert_eq!(rt; text.as_str(), wanted.as_str());
+    Ok(())
+}
+
+#[test]
+fn a_broken_rule_is_written(rt: HostRuntime) -> Result<(), Fail> {
+    let alloc = rt.alloc();
+    let text = write_status(alloc, &Refusal::Broken { rule: Rule::L2 })?;
+    let wanted = joined(
+        alloc,
+        &[
+            "{\"apiVersion\":\"v1\",\"code\":507,",
+            "\"details\":{\"rule\":\"L2\"},",
+            "\"kind\":\"Status\",",
+            "\"message\":\"too many objects\",",
+            "\"metadata\":{},\"reason\":\"InsufficientStorage\",",
+            "\"status\":\"Failure\"}",
+        ],
+    )?;
+    assert_eq!(rt; text.as_str(), wanted.as_str());
+    Ok(())
+}
+
+#[test]
+fn a_removal_is_written(rt: HostRuntime) -> Result<(), Fail> {
+    let alloc = rt.alloc();
+    let text = write_gone(alloc, 41)?;
+    let wanted = joined(
+        alloc,
+        &[
+            "{\"apiVersion\":\"v1\",\"kind\":\"Status\",",
+            "\"metadata\":{\"resourceVersion\":\"41\"},",
+            "\"status\":\"Success\"}",
         ],
     )?;
     assert_eq!(rt; text.as_str(), wanted.as_str());

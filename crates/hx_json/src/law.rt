@@ -1,0 +1,31 @@
+// What a text tells.
+ghost use Rattle.std.specs.Prelude.{◌≡◌, ◌≢◌, ◌<◌, ◌^◌, IsTrue};
+ghost use Rattle.hx_object.specs.Faults.{IsLegal};
+ghost use Rattle.hx_object.specs.Json.{object_text};
+ghost use Rattle.hx_object.specs.Pairs.{has_ascending_keys};
+ghost use Rattle.hx_object.specs.declared.kind.Kind.TheVariants.{HierarchicalResourceQuota};
+
+use hx_object::Object;
+
+/// No two legal objects have one text, quotas apart, whose status isn't written yet.
+#[tactic(auto, using(crate::proofs::Telling::text_told))]
+pub fn text_tells(one: &Object, other: &Object)
+    requires one { IsLegal one.now }
+    requires other { IsLegal other.now }
+    requires told { one.now.id.kind ≢ HierarchicalResourceQuota }
+    ensures { object_text one.now ≡ object_text other.now → one.now ≡ other.now }
+{
+    keep_their_types(one);
+    keep_their_types(other);
+}
+
+/// What the types of an object's fields keep: pairs are in order, and a version has 64 bits.
+fn keep_their_types(object: &Object)
+    ensures labels { IsTrue (has_ascending_keys object.now.labels) }
+    ensures annotations { IsTrue (has_ascending_keys object.now.annotations) }
+    ensures version { object.now.version < 2 ^ 64 }
+{
+    let _labels = object.labels.as_slice();
+    let _annotations = object.annotations.as_slice();
+    let _version = object.version;
+}
