@@ -1,0 +1,63 @@
+-- Paths and requests on examples.
+use Rattle.std.proofs.Common.{◌≡◌, [], Some, None, Ok, Err, codes, refl}
+use Rattle.std.specs.Str.{is_utf8, chars}
+use Rattle.std.specs.Str.Lossy.{utf8_lossy, utf8_valid_len}
+use lib.Utf8.{encode}
+use Rattle.form_urlencoded.proofs.OnLiterals.{form_urlencoded_on_literals}
+use Rattle.hx_object.specs.declared.kind.Kind.TheVariants.{Namespace, Role, Pod, Secret}
+use Rattle.hx_model.specs.declared.ask.Ask.TheVariants as of
+use Rattle.hx_model.specs.declared.refusal.Refusal.TheVariants.{NoMethod, BadQuery}
+use Rattle.hx_api.specs.Asks.{ask_of}
+use Rattle.hx_api.specs.Paths.{place_of, segment_text}
+use Rattle.hx_api.specs.Queries.{bad_parameter, parameter}
+use Rattle.hx_api.specs.declared.method.Method.TheVariants.{Get, Post}
+use Rattle.hx_api.specs.declared.path.Place.TheVariants.{Events, Collection, Object}
+
+all_pods : place_of (codes "/api/v1/pods") ≡ Some (Collection Pod None)
+unfolding place_of
+all_pods = refl
+
+roles_in : place_of (codes "/apis/rbac.authorization.k8s.io/v1/namespaces/acme/roles") ≡ Some (Collection Role (Some (codes "acme")))
+unfolding place_of
+roles_in = refl
+
+secret : place_of (codes "/api/v1/namespaces/acme/secrets/key") ≡ Some (Object Secret (Some (codes "acme")) (codes "key"))
+unfolding place_of
+secret = refl
+
+namespace : place_of (codes "/api/v1/namespaces/acme") ≡ Some (Object Namespace None (codes "acme"))
+unfolding place_of
+namespace = refl
+
+events : place_of (codes "/hnc/v1/events") ≡ Some Events
+unfolding place_of
+events = refl
+
+no_name : place_of (codes "/api/v1/namespaces/") ≡ None
+unfolding place_of
+no_name = refl
+
+roles_of_the_core : place_of (codes "/api/v1/roles") ≡ None
+unfolding place_of
+roles_of_the_core = refl
+
+pod_of_the_cluster : place_of (codes "/api/v1/pods/a") ≡ None
+unfolding place_of
+pod_of_the_cluster = refl
+
+-- the method is tried before the segments and the query
+method_first : ask_of Post (codes "/api/v1/namespaces/%ff?watch=1") [] ≡ Err NoMethod
+unfolding ask_of place_of
+method_first = refl
+
+second_watch : ask_of Get (codes "/api/v1/pods?watch=&watch=1") [] ≡ Ok (of.List Pod None)
+unfolding ask_of place_of bad_parameter parameter form_urlencoded_on_literals utf8_lossy utf8_valid_len is_utf8 chars encode
+second_watch = refl
+
+bad_watch : ask_of Get (codes "/api/v1/pods?watch=1") [] ≡ Err (BadQuery (codes "watch"))
+unfolding ask_of place_of bad_parameter parameter form_urlencoded_on_literals utf8_lossy utf8_valid_len is_utf8 chars encode
+bad_watch = refl
+
+decoded : ask_of Get (codes "/api/v1/namespaces/a%2Fb") [] ≡ Ok (of.Get (record { kind = Namespace; ns = []; name = codes "a/b" }))
+unfolding ask_of place_of segment_text bad_parameter parameter form_urlencoded_on_literals is_utf8 chars encode
+decoded = refl

@@ -1,0 +1,9 @@
+pub mod Fits
+pub mod Search
+pub mod Pieces
+pub mod Named
+pub mod Table
+pub mod Segments
+pub mod Reading
+pub mod Placed
+pub mod Examples

@@ -1,0 +1,76 @@
+// Bodies of requests as asks.
+ghost use Rattle.std.specs.Prelude.{◌≡◌, ◌⊎◌, [], None, Some, Ok, Err, true, IfOk, IfErr};
+ghost use Rattle.hx_object.specs.Kinds.{is_in_cluster};
+ghost use Rattle.hx_json.specs.Reading.{place};
+ghost use Rattle.hx_model.specs.Serving.{IsServedAsk, is_written};
+ghost use Rattle.hx_api.specs.Asks.{created, replaced};
+ghost use Rattle.hx_api.specs.Bodies.{object_refusal, read_body, refusal_of};
+
+use hx_json::{JsonFault, read_object};
+use hx_model::{Ask, Refusal};
+use hx_object::{Id, Kind, ObjectFault, Text};
+use std::alloc::Global;
+
+fn object_refusal(fault: ObjectFault) -> Refusal
+    ensures { result ≡ object_refusal fault }
+{
+    match fault {
+        ObjectFault::BadName => Refusal::BadName,
+        ObjectFault::BadLabel => Refusal::BadLabel,
+        ObjectFault::TooManyLabels => Refusal::TooManyLabels,
+        ObjectFault::TooLarge => Refusal::TooLarge,
+    }
+}
+
+/// The refusal of a fault, at a path of a kind.
+fn refusal_of(kind: Kind, fault: JsonFault) -> Refusal
+    ensures { result ≡ refusal_of kind fault }
+{
+    match fault {
+        JsonFault::NotJson => Refusal::NotJson,
+        JsonFault::NotWhole => Refusal::NotWhole,
+        JsonFault::WrongKind => Refusal::NotKind { kind },
+        JsonFault::MissingMember(member) => Refusal::Missing { member },
+        JsonFault::WrongType(member) | JsonFault::BadQuantity(member) => Refusal::WrongType {
+            member,
+        },
+        JsonFault::WrongPlace => Refusal::OtherPlace,
+        JsonFault::Object(fault) => object_refusal(fault),
+        JsonFault::NoMemory => Refusal::NoMemory,
+    }
+}
+
+/// To store the object that a body says.
+pub fn create(alloc: Global, kind: Kind, ns: &Text, skip: bool, body: &[u8]) -> Result<Ask, Refusal>
+    requires written { is_written kind ≡ true }
+    requires home { is_in_cluster kind ≡ true → ns.now ≡ [] }
+    ensures ok { IfOk result (λ ask. created kind skip (read_body (place kind ns.now None) body.now) ≡ Ok ask) }
+    ensures refused { IfErr result (λ refusal. (refusal ≡ Refusal.NoMemory) ⊎ (created kind skip (read_body (place kind ns.now None) body.now) ≡ Err refusal)) }
+    ensures served { IfOk result IsServedAsk }
+{
+    match read_object(alloc, body, kind, ns, None) {
+        Ok(read) => Ok(Ask::Create {
+            object: read.object,
+            skip,
+        }),
+        Err(fault) => Err(refusal_of(kind, fault)),
+    }
+}
+
+/// To store the object that a body says in the place of the one that is there.
+pub fn replace(alloc: Global, id: &Id, skip: bool, body: &[u8]) -> Result<Ask, Refusal>
+    requires written { is_written id.now.kind ≡ true }
+    requires home { is_in_cluster id.now.kind ≡ true → id.now.ns ≡ [] }
+    ensures ok { IfOk result (λ ask. replaced id.now.kind skip (read_body (place id.now.kind id.now.ns (Some id.now.name)) body.now) ≡ Ok ask) }
+    ensures refused { IfErr result (λ refusal. (refusal ≡ Refusal.NoMemory) ⊎ (replaced id.now.kind skip (read_body (place id.now.kind id.now.ns (Some id.now.name)) body.now) ≡ Err refusal)) }
+    ensures served { IfOk result IsServedAsk }
+{
+    match read_object(alloc, body, id.kind, &id.ns, Some(&id.name)) {
+        Ok(read) => Ok(Ask::Replace {
+            object: read.object,
+            expected: read.expected,
+            skip,
+        }),
+        Err(fault) => Err(refusal_of(id.kind, fault)),
+    }
+}
