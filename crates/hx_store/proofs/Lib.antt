@@ -1,0 +1,4 @@
+pub mod Counts
+pub mod Entries
+pub mod Listing
+pub mod Rows

@@ -1,0 +1,28 @@
+-- What a change is seen as.
+--     write_of key object     the object is put, or that of the key is cut
+--     HasItsKey key object    the key is the object's own
+--     IsChange w key object   the write is that of the key and the object, and the key is the object's own
+use Rattle.std.specs.Prelude.{◌≡◌, Option, IfSome}
+use Rattle.std.specs.Option.{option_map_or}
+use Rattle.std.specs.Coded.{Coded}
+use Rattle.hx_object.specs.declared.object.Id.{Id}
+use Rattle.hx_object.specs.declared.object.Object.{Object}
+use Rattle.hx_model.specs.contracts.key.Write as write
+use Rattle.hx_model.specs.declared.key.Write.{Write}
+use Rattle.hx_model.specs.declared.key.Write.TheVariants.{Put, Cut}
+
+-- the code of writes
+abbrev pub write_code : Coded Write
+write_code = (write.the_row).coded
+
+-- the object is put or, where there is none, that of the key is cut
+abbrev pub write_of : Id → Option Object → Write
+write_of key object = option_map_or (λ x. Put x) object (Cut key)
+
+-- the key is the object's own
+abbrev pub HasItsKey : Id → Option Object → Type 0
+HasItsKey key object = IfSome object (λ x. x.id ≡ key)
+
+-- the write is that of the key and the object, and the key is the object's own
+abbrev pub IsChange : Write → Id → Option Object → Type 0
+IsChange w key object = (w ≡ write_of key object) × HasItsKey key object

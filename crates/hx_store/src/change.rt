@@ -1,0 +1,57 @@
+// Writes that are ready to be made.
+ghost use Rattle.std.specs.Prelude.{◌≡◌, IfOk};
+ghost use Rattle.hx_store.specs.Changes.{IsChange};
+
+use hx_model::Write;
+use hx_object::{Id, NoMemory, Object};
+use std::marker::Model;
+
+/// A write, with the key that a store keeps its object by. It is made before anything is stored, so that making the write takes no memory.
+#[derive(Drop)]
+pub struct Change {
+    key: Id,
+    object: Option<Object>,
+}
+
+impl Model for Change {
+    ghost use Rattle.hx_model.specs.declared.key.Write.{Write};
+    ghost use Rattle.hx_store.specs.Changes.{write_code, write_of, HasItsKey};
+
+    ghost Value = { Write };
+
+    ghost coded = { write_code };
+
+    ghost view = { λ c. write_of c.key c.object };
+
+    ghost invariant = { λ c. HasItsKey c.key c.object };
+}
+
+impl Change {
+    /// The object is stored, in the place of the one of its identity.
+    pub fn put(object: Object) -> Result<Change, NoMemory>
+        ensures { IfOk result (λ c. c ≡ Write.Put object) }
+    {
+        Ok(Change {
+            key: object.id.clone()?,
+            object: Some(object),
+        })
+    }
+
+    /// The object of the identity is taken away.
+    pub fn cut(id: Id) -> Change
+        ensures { result ≡ Write.Cut id }
+    {
+        Change {
+            key: id,
+            object: None,
+        }
+    }
+
+    /// The key, and the object that is stored.
+    pub(crate) fn into_parts(self) -> (Id, Option<Object>)
+        ensures { IsChange self result.0 result.1 }
+    {
+        let Change { key, object } = self;
+        (key, object)
+    }
+}
