@@ -1,3 +1,7 @@
 pub mod Making
+pub mod Counting
+pub mod Refusing
 pub mod Storing
-pub mod Legality
+pub mod Committing
+pub mod Starting
+pub mod Asking

@@ -1,5 +1,7 @@
 pub mod Standing
 pub mod Starting
-pub mod Serving
+pub mod Counting
+pub mod Refusing
 pub mod Batches
 pub mod Inside
+pub mod Committing

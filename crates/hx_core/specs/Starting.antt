@@ -1,14 +1,14 @@
 -- On which keepers a cluster starts.
-use Rattle.std.specs.Prelude.{◌≡◌, ◌≤◌, ℕ, Bool, true, false, not, ◌||◌, ◌==◌, Option}
-use Rattle.hx_ports.specs.Keeping.{Kept, meta_of}
+use Rattle.std.specs.Prelude.{◌≡◌, ◌≤◌, ℕ, Bool, true, false, not, ◌||◌, ◌==◌, nat_lt, Option}
+use Rattle.hx_ports.specs.Keeping.{Kept, meta_of, greatest_version}
 use Rattle.hx_ports.specs.declared.keeper.Meta.{Meta}
 use Rattle.hx_core.specs.declared.cluster.StartFault.{StartFault}
 use Rattle.hx_core.specs.declared.cluster.StartFault.TheVariants.{KeeperFault, Damaged, NoMemory}
 use Rattle.hx_core.specs.Standing.{current_schema}
 
--- Nothing is loaded yet, so that a keeper is damaged where it is of another schema, or has a version or rows
+-- Nothing is loaded yet, so that a keeper is damaged where it is of another schema, has a version past the greatest, or has rows
 abbrev pub is_damaged : Meta → Bool
-is_damaged meta = not (meta.schema == current_schema) || (not (meta.version == 0) || not (meta.rows == 0))
+is_damaged meta = not (meta.schema == current_schema) || (nat_lt greatest_version meta.version || not (meta.rows == 0))
 
 -- what is held is damaged
 abbrev pub IsDamaged : Kept → Type 0

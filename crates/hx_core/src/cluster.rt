@@ -1,19 +1,20 @@
 // The cluster.
-ghost use Rattle.std.specs.Prelude.{◌≡◌, ◌≤◌, ◌<◌, [], ◌∷◌, ◌++◌, IfOk, IfErr, IfSome, false, true, is_some, option_copied, vec_len, vec_capacity};
-ghost use Rattle.std.specs.List.{AllByRecursion};
+ghost use Rattle.std.specs.Prelude.{◌≡◌, Bool, false, [], ◌∷◌, IfOk, IfErr, IfSome};
 ghost use Rattle.hx_ports.specs.Causes.{Rose};
-ghost use Rattle.hx_model.specs.State.{row_of, same_id};
-ghost use Rattle.hx_model.specs.Answers.{shown, already_there};
 ghost use Rattle.hx_model.specs.Machine.{opening_world, request_entry};
+ghost use Rattle.hx_model.specs.Serving.{IsServedAsk, IsLegalAnswer};
+ghost use Rattle.hx_core.specs.Committing.{IsReady, Answers};
 ghost use Rattle.hx_core.specs.Standing.{StandsFor, Makes};
 ghost use Rattle.hx_core.specs.Starting.{IsDamaged, IfDamaged, IsUndamaged, IsUntouched};
-ghost use Rattle.hx_core.specs.Serving.{IsServed, IsServedAsk, IsLegalAnswer};
-ghost use Rattle.hx_core.specs.Inside.{IsOrNoMemory};
 
-use crate::prepare::{Prepared, prepare};
+use crate::books::{Books, home_of};
+use crate::check::{GREATEST_VERSION, Hurdle, check_growth, check_version};
+use crate::prepare::{Prepared, prepare_create, prepare_cut, prepare_put, replaced_by};
+use crate::tally::Tally;
 use hx_model::{Answer, Ask, Refusal};
 use hx_object::{Id, NoMemory, Object};
 use hx_ports::{KeepFault, Keeper};
+use hx_store::Store;
 use std::alloc::Global;
 use std::marker::Model;
 
@@ -22,8 +23,7 @@ use std::marker::Model;
 /// The keeper holds the rows of the cluster's state until a commit fails. From then on every write is refused, and reads go on.
 pub struct Cluster<K: Keeper> {
     keeper: K,
-    objects: Vec<Object>,
-    last: u64,
+    books: Books,
 }
 
 impl<K: Keeper> Model for Cluster<K> {
@@ -34,9 +34,9 @@ impl<K: Keeper> Model for Cluster<K> {
 
     ghost coded = { standing_code };
 
-    ghost view = { λ c. record { state = state_of c.objects.items c.last; kept = K.kept c.keeper; broken = K.broken c.keeper; faults = K.keeper_faults c.keeper } };
+    ghost view = { λ c. record { state = state_of c.books.store.rows c.books.store.version; kept = K.kept c.keeper; broken = K.broken c.keeper; faults = K.keeper_faults c.keeper } };
 
-    ghost invariant = { λ c. IsSound (K.kept c.keeper) (K.broken c.keeper) c.objects.items c.last };
+    ghost invariant = { λ c. IsSound (K.kept c.keeper) (K.broken c.keeper) c.books.store.rows c.books.store.version c.books.tally };
 }
 
 /// The schema of the stored rows.
@@ -61,7 +61,8 @@ pub struct Unstarted<K> {
 impl<K: Keeper> Cluster<K> {
     /// Starts on a keeper without rows. The keeper has been attached.
     pub fn start(alloc: Global, mut keeper: K) -> Result<Cluster<K>, Unstarted<K>>
-        ensures opens { IfOk result (λ c. StandsFor c (opening_world (K.broken keeper))) }
+        ensures opens { IfOk result (λ c. StandsFor c (opening_world (K.broken keeper) c.state.last)) }
+        ensures version { IfOk result (λ c. IfSome (K.kept keeper) (λ held. c.state.last ≡ held.version)) }
         ensures started { IfOk result (λ c. IsUntouched (K.kept keeper) c.kept (K.broken keeper) c.broken (K.keeper_faults keeper) c.faults) }
         ensures undamaged { IfOk result (λ c. IfSome (K.kept keeper) IsUndamaged) }
 
@@ -71,17 +72,17 @@ impl<K: Keeper> Cluster<K> {
     {
         match keeper.meta() {
             Ok(meta) => {
-                if meta.schema != SCHEMA || meta.version != 0 || meta.rows != 0 {
+                if meta.schema != SCHEMA || meta.version > GREATEST_VERSION || meta.rows != 0 {
                     return Err(Unstarted {
                         fault: StartFault::Damaged { row: 0 },
                         keeper,
                     });
                 }
-                Ok(Cluster {
-                    keeper,
-                    objects: Vec::new(alloc),
-                    last: 0,
-                })
+                let books = Books {
+                    store: Store::new(alloc, meta.version),
+                    tally: Tally::none(),
+                };
+                Ok(Cluster { keeper, books })
             }
             Err(KeepFault::Fault) => Err(Unstarted {
                 fault: StartFault::KeeperFault,
@@ -101,8 +102,15 @@ impl<K: Keeper> Cluster<K> {
         ensures legal { IsLegalAnswer result }
     {
         match ask {
-            Ask::Get { id } => get(self.objects.as_slice(), id),
-            Ask::Create { object } => self.create(object),
+            Ask::Get { id } => self.books.get(id),
+            Ask::List { kind, ns } => self.books.list(*kind, ns.as_ref()),
+            Ask::Create { object, .. } => self.create(object),
+            Ask::Replace {
+                object,
+                expected,
+                ..
+            } => self.replace(object, *expected),
+            Ask::Delete { id, .. } => self.delete(id),
         }
     }
 
@@ -112,42 +120,106 @@ impl<K: Keeper> Cluster<K> {
         ensures broken { K.broken result ≡ self.broken }
         ensures faults { K.keeper_faults result ≡ self.faults }
     {
-        let Cluster {
-            keeper,
-            objects,
-            last,
-        } = self;
-        drop(objects);
-        let _ = last;
+        let Cluster { keeper, books } = self;
+        drop(books);
         keeper
     }
 
     /// Stores an object that isn't there.
     fn create(&mut self, object: &Object) -> Answer
-        requires { IsServedAsk (Ask.Create object.now) }
-        ensures makes { Makes self.old (request_entry (Ask.Create object.now) result ∷ []) self.new }
+        requires { IsServedAsk (Ask.Create object.now false) }
+        ensures makes { (skip : Bool) → Makes self.old (request_entry (Ask.Create object.now skip) result ∷ []) self.new }
         ensures legal { IsLegalAnswer result }
     {
-        if contains(self.objects.as_slice(), &object.id) {
-            return already_there(&object.id);
+        let alloc = self.books.store.allocator();
+        let Ok(home) = home_of(alloc, &object.id) else {
+            return Answer::Refused(Refusal::NoMemory);
+        };
+        let after = match self.books.check_create(home.as_ref(), object) {
+            Ok(after) => after,
+            Err(hurdle) => return hurdle.answer(&object.id),
+        };
+        let version = self.books.store.version() + 1;
+        match prepare_create(alloc, object, version, after) {
+            Ok(prepared) => self.commit(prepared),
+            Err(NoMemory) => Answer::Refused(Refusal::NoMemory),
         }
-        if self.objects.reserve(1).is_err() {
+    }
+
+    /// Stores an object in the place of another, unless the two are the same.
+    fn replace(&mut self, object: &Object, expected: Option<u64>) -> Answer
+        requires { IsServedAsk (Ask.Replace object.now expected false) }
+        ensures makes { (skip : Bool) → Makes self.old (request_entry (Ask.Replace object.now expected skip) result ∷ []) self.new }
+        ensures legal { IsLegalAnswer result }
+    {
+        let Some(old) = self.books.store.get(&object.id) else {
+            return Hurdle::NotFound.answer(&object.id);
+        };
+        if let Err(hurdle) = check_version(old, expected) {
+            return hurdle.answer(&object.id);
+        }
+        let Ok(next) = replaced_by(old, object) else {
+            return Answer::Refused(Refusal::NoMemory);
+        };
+        if next.is_same(old) {
+            return Answer::One {
+                object: next,
+                fresh: false,
+            };
+        }
+        let after = self.books.tally.after(Some(old), Some(&next));
+        let last = self.books.store.version();
+        if let Err(hurdle) = check_growth(self.books.tally, after, last) {
+            return hurdle.answer(&object.id);
+        }
+        match prepare_put(self.books.store.allocator(), next, last + 1, false, after) {
+            Ok(prepared) => self.commit(prepared),
+            Err(NoMemory) => Answer::Refused(Refusal::NoMemory),
+        }
+    }
+
+    /// Removes an object.
+    fn delete(&mut self, id: &Id) -> Answer
+        requires { IsServedAsk (Ask.Delete id.now false) }
+        ensures makes { (skip : Bool) → Makes self.old (request_entry (Ask.Delete id.now skip) result ∷ []) self.new }
+        ensures legal { IsLegalAnswer result }
+    {
+        let Some(old) = self.books.store.get(id) else {
+            return Hurdle::NotFound.answer(id);
+        };
+        let after = self.books.tally.after(Some(old), None);
+        let last = self.books.store.version();
+        if let Err(hurdle) = check_growth(self.books.tally, after, last) {
+            return hurdle.answer(id);
+        }
+        match prepare_cut(self.books.store.allocator(), id, last + 1, after) {
+            Ok(prepared) => self.commit(prepared),
+            Err(NoMemory) => Answer::Refused(Refusal::NoMemory),
+        }
+    }
+
+    /// Asks the keeper to take a write, and then makes it.
+    fn commit(&mut self, prepared: Prepared) -> Answer
+        requires { IsReady self.old.state prepared.changes.items prepared.batch prepared.answer prepared.tally }
+        ensures makes { (ask : Ask) → Answers self.old.state ask prepared.changes.items prepared.answer → Makes self.old (request_entry ask result ∷ []) self.new }
+        ensures legal { IsLegalAnswer result }
+    {
+        if self.books.store.reserve(1).is_err() {
             return Answer::Refused(Refusal::NoMemory);
         }
-        let alloc = *self.objects.allocator();
-        let prepared = match prepare(alloc, object, self.last + 1) {
-            Ok(prepared) => prepared,
-            Err(NoMemory) => return Answer::Refused(Refusal::NoMemory),
-        };
-        match self.keeper.commit(&prepared.batch) {
+        let Prepared {
+            changes,
+            batch,
+            answer,
+            tally,
+        } = prepared;
+        match self.keeper.commit(&batch) {
             Ok(()) => {
-                self.last = prepared.batch.version;
-                landed(&mut self.objects, prepared)
+                self.books.store.apply(changes, batch.version);
+                self.books.tally = tally;
+                answer
             }
-            Err(fault) => {
-                drop(prepared);
-                lost(fault)
-            }
+            Err(fault) => lost(fault),
         }
     }
 }
@@ -160,88 +232,5 @@ fn lost(fault: KeepFault) -> Answer
     match fault {
         KeepFault::Fault => Answer::Refused(Refusal::StoreFailed),
         KeepFault::NoMemory => Answer::Refused(Refusal::NoMemory),
-    }
-}
-
-/// Keeps the object that was written, and answers with its copy.
-fn landed(objects: &mut Vec<Object>, prepared: Prepared) -> Answer
-    requires { vec_len objects.old < vec_capacity objects.old }
-    ensures kept { objects.new.items ≡ objects.old.items ++ prepared.stored ∷ [] }
-    ensures answer { result ≡ Answer.One prepared.reply true }
-{
-    let Prepared {
-        stored,
-        reply,
-        batch,
-    } = prepared;
-    drop(batch);
-    let _ = objects.push(stored);
-    Answer::One {
-        object: reply,
-        fresh: true,
-    }
-}
-
-/// The object of an identity, among these in any order.
-fn find_object<'a>(objects: &'a [Object], id: &Id) -> Option<&'a Object>
-    ensures { option_copied result ≡ row_of objects.now id.now }
-{
-    for object in objects {
-        if is_same_id(id, &object.id) {
-            return Some(object);
-        }
-    }
-    None
-}
-
-/// Whether an object of the identity is among these.
-fn contains(objects: &[Object], id: &Id) -> bool
-    ensures { result ≡ is_some (row_of objects.now id.now) }
-{
-    find_object(objects, id).is_some()
-}
-
-fn is_same_id(a: &Id, b: &Id) -> bool
-    ensures { result ≡ same_id a.now b.now }
-{
-    a.kind.number() == b.kind.number()
-        && a.ns.as_str() == b.ns.as_str()
-        && a.name.as_str() == b.name.as_str()
-}
-
-/// The answer that shows an object.
-fn get(objects: &[Object], id: &Id) -> Answer
-    requires { AllByRecursion IsServed objects.now }
-    ensures answer { IsOrNoMemory result (shown (row_of objects.now id.now) false id.now) }
-    ensures legal { IsLegalAnswer result }
-{
-    match find_object(objects, id) {
-        None => match id.name.clone() {
-            Ok(name) => Answer::Refused(Refusal::NotFound {
-                kind: id.kind,
-                name,
-            }),
-            Err(_) => Answer::Refused(Refusal::NoMemory),
-        },
-        Some(object) => match object.copy() {
-            Ok(object) => Answer::One {
-                object,
-                fresh: false,
-            },
-            Err(_) => Answer::Refused(Refusal::NoMemory),
-        },
-    }
-}
-
-/// The answer where the object is there already.
-fn already_there(id: &Id) -> Answer
-    ensures { IsOrNoMemory result (Answer.Refused (already_there id.now)) }
-{
-    match id.name.clone() {
-        Ok(name) => Answer::Refused(Refusal::Exists {
-            kind: id.kind,
-            name,
-        }),
-        Err(_) => Answer::Refused(Refusal::NoMemory),
     }
 }

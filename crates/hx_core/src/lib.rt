@@ -3,9 +3,13 @@
 //! Each call makes one entry of the machine that `hx_model` defines: what it answers, and what is stored afterwards, is what the machine says.
 #![tactic(auto)]
 
+mod books;
+mod check;
 mod cluster;
 mod key;
 mod prepare;
+mod tally;
+#[cfg(test)]
+mod tests;
 
 pub use cluster::{Cluster, StartFault, Unstarted};
-pub use key::key_of;
