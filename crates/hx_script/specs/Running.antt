@@ -1,0 +1,139 @@
+-- What the run of lines does, piece by piece.
+--     Ran lines rest lacking ..    all lines but the rest were answered, and what was written lacks the end of the last answer
+--     Does, Cuts                   nothing is left, and nothing is lacking;  something may be
+--     SaysTo, SaysFront            an answer was written;  a front of it
+--     Serves, CutsAnswer           a request was made, and its answer written;  a front of it
+--     IsWaiting                    what is kept of a line that hasn't ended
+--     Feeds, CutsPiece             a piece of the script was taken;  it was being taken
+--     ReadsOn                      what was read of the script was answered, but for what waits
+--     WriteCause                   when a write may fail
+use Rattle.std.specs.Prelude.{◌≡◌, ◌≢◌, ◌≤◌, ◌<◌, ◌+◌, ◌^◌, ℕ, false, List, [], ◌∷◌, ◌++◌, ◌⊎◌, ◌==◌, Some, None, length, take, slice_index, OnErr}
+use Rattle.std.specs.declared.option.Option.{Option}
+use Rattle.std.specs.declared.result.Result.{Result}
+use Rattle.std.specs.List.{AllByRecursion}
+use Rattle.std.specs.Io.KnownBytes.{Appends}
+use Rattle.hx_ports.specs.Causes.{Rose}
+use Rattle.hx_model.specs.declared.ask.Ask.{Ask}
+use Rattle.hx_model.specs.declared.ask.Answer.{Answer}
+use Rattle.hx_model.specs.declared.ask.Answer.TheVariants.{Refused}
+use Rattle.hx_model.specs.declared.refusal.Refusal.TheVariants.{StoreFailed}
+use Rattle.hx_model.specs.Machine.{request_entry}
+use Rattle.hx_core.specs.Standing.{Standing, Makes}
+use Rattle.hx_script.specs.Lines.{Line, most_line_bytes, script_lines}
+use Rattle.hx_script.specs.Replies.{answer_line}
+use Rattle.hx_script.specs.Turns.{Turn, IsTurn, lines_of, entries_of, answer_lines, turn_line, no_memory_line}
+
+-- what is lacking of the turns' lines is an end of the last one
+abbrev pub LacksLast : List Turn → List ℕ → Type 0
+LacksLast turns lacking = (lacking ≡ []) ⊎ ((before : List Turn) × (last : Turn) × (front : List ℕ) × (turns ≡ before ++ last ∷ []) × (turn_line last ≡ front ++ lacking))
+
+-- All lines but the rest were answered by turns, whose entries the cluster made. What was written are their lines, but for what is lacking of the last one.
+pub record Ran (lines rest : List Line) (lacking : List ℕ) (old new : Standing) (before after : Option (List ℕ)) : Type 0 where
+  pub turns : List Turn
+  pub text : List ℕ
+  pub each : AllByRecursion IsTurn turns
+  pub split : lines ≡ lines_of turns ++ rest
+  pub makes : Makes old (entries_of turns) new
+  pub says : answer_lines turns ≡ text ++ lacking
+  pub lacks : LacksLast turns lacking
+  pub wrote : Appends before after text
+
+-- all lines were answered
+abbrev pub Does : List Line → Standing → Standing → Option (List ℕ) → Option (List ℕ) → Type 0
+Does lines old new before after = Ran lines [] [] old new before after
+
+-- some first lines were answered, the last of them perhaps not whole
+pub record Cuts (lines : List Line) (old new : Standing) (before after : Option (List ℕ)) : Type 0 where
+  pub rest : List Line
+  pub lacking : List ℕ
+  pub ran : Ran lines rest lacking old new before after
+
+-- a front of the bytes was written
+pub record WritesFront (bytes : List ℕ) (before after : Option (List ℕ)) : Type 0 where
+  pub front : List ℕ
+  pub lacking : List ℕ
+  pub whole : bytes ≡ front ++ lacking
+  pub wrote : Appends before after front
+
+-- an answer was said by its line or, but for that of a loss, by the fixed line for want of memory
+abbrev pub IsSaid : Answer → List ℕ → Type 0
+IsSaid answer text = (text ≡ answer_line answer) ⊎ ((text ≡ no_memory_line) × (answer ≢ Refused StoreFailed))
+
+-- an answer was written
+pub record SaysTo (answer : Answer) (before after : Option (List ℕ)) : Type 0 where
+  pub text : List ℕ
+  pub said : IsSaid answer text
+  pub wrote : Appends before after text
+
+-- a front of an answer was written
+pub record SaysFront (answer : Answer) (before after : Option (List ℕ)) : Type 0 where
+  pub text : List ℕ
+  pub said : IsSaid answer text
+  pub wrote : WritesFront text before after
+
+-- a request was made, and its answer written
+pub record Serves (ask : Ask) (old new : Standing) (before after : Option (List ℕ)) : Type 0 where
+  pub answer : Answer
+  pub makes : Makes old (request_entry ask answer ∷ []) new
+  pub says : SaysTo answer before after
+
+-- a request was made, and a front of its answer written
+pub record CutsAnswer (ask : Ask) (old new : Standing) (before after : Option (List ℕ)) : Type 0 where
+  pub answer : Answer
+  pub makes : Makes old (request_entry ask answer ∷ []) new
+  pub says : SaysFront answer before after
+
+-- no line ends in it
+abbrev pub HasNoEnd : List ℕ → Type 0
+HasNoEnd bytes = AllByRecursion (λ byte. (byte == 10) ≡ false) bytes
+
+-- the first line feed stands there
+pub record EndsAt (bytes : List ℕ) (end : ℕ) : Type 0 where
+  pub within : end < length bytes
+  pub is : slice_index bytes end ≡ 10
+  pub before : HasNoEnd (take end bytes)
+
+-- the most bytes of a script
+abbrev pub most_bytes : ℕ
+most_bytes = 2 ^ 40
+
+-- the most bytes that are kept of a line: enough to tell that it is too long, with or without a carriage return
+abbrev pub most_kept : ℕ
+most_kept = most_line_bytes + 2
+
+-- what is kept of a line that hasn't ended
+pub record IsWaiting (bytes : List ℕ) : Type 0 where
+  pub no_end : HasNoEnd bytes
+  pub few : length bytes ≤ most_kept
+
+-- whatever follows, these are the lines that the piece ends, and then those of what waits and what follows
+abbrev pub Splits : List ℕ → List ℕ → List Line → List ℕ → Type 0
+Splits old piece lines new = (rest : List ℕ) → script_lines (old ++ (piece ++ rest)) ≡ lines ++ script_lines (new ++ rest)
+
+-- a piece was taken: the lines that it ends were answered, and the rest waits
+pub record Feeds (waiting piece waiting' : List ℕ) (old new : Standing) (before after : Option (List ℕ)) : Type 0 where
+  pub lines : List Line
+  pub splits : Splits waiting piece lines waiting'
+  pub does : Does lines old new before after
+
+-- whatever follows the piece, the run was cut short in it
+abbrev pub CutsPiece : List ℕ → List ℕ → Standing → Standing → Option (List ℕ) → Option (List ℕ) → Type 0
+CutsPiece waiting piece old new before after = (rest : List ℕ) → Cuts (script_lines (waiting ++ (piece ++ rest))) old new before after
+
+-- what was read of the script was answered, but for what waits
+abbrev pub ReadsOn : Option (List ℕ) → Option (List ℕ) → List ℕ → Standing → Standing → Option (List ℕ) → Option (List ℕ) → Type 0
+ReadsOn None left waiting old new before after = Unit {0}
+ReadsOn (Some script) None waiting old new before after = ⊥
+ReadsOn (Some script) (Some rest) waiting old new before after = (lines : List Line) × (script_lines script ≡ lines ++ script_lines (waiting ++ rest)) × Does lines old new before after
+
+-- so many bytes of the script were read
+abbrev pub HasRead : Option (List ℕ) → Option (List ℕ) → ℕ → Type 0
+HasRead None left total = Unit {0}
+HasRead (Some script) None total = ⊥
+HasRead (Some script) (Some rest) total = length script ≡ total + length rest
+
+-- the sink's counts never fall, and one of them rose where the call failed
+pub record WriteCause {T E : Type 0} (faults faults' stalls stalls' : ℕ) (result : Result T E) : Type 0 where
+  pub later : faults ≤ faults'
+  pub longer : stalls ≤ stalls'
+  pub failed : OnErr result (Rose faults faults' ⊎ Rose stalls stalls')

@@ -1,0 +1,91 @@
+// Words that are joined by single spaces.
+ghost use Rattle.std.specs.Prelude.{◌≡◌, ◌≤◌, ◌<◌, ◌&&◌, true, IfSome, length, nat_le, option_copied};
+ghost use Rattle.std.specs.List.{list_all};
+ghost use Rattle.std.specs.Str.Parse.{digits_value};
+ghost use Rattle.hx_object.specs.Names.{is_digit};
+ghost use Rattle.hx_script.specs.Words.{first_space, word_of, rest_of, is_decimal, has_no_leading_zero, is_number};
+
+/// The first word.
+#[tactic(auto, unfolding(crate::specs::Words::word_of))]
+pub fn word_of(text: &[u8]) -> &[u8]
+    ensures { result.now ≡ word_of text.now }
+{
+    match first_space(text) {
+        None => text,
+        Some(space) => &text[..space],
+    }
+}
+
+/// What follows the first word and its space, where there is a space.
+#[tactic(auto, unfolding(crate::specs::Words::rest_of))]
+pub fn rest_of(text: &[u8]) -> Option<&[u8]>
+    ensures { option_copied result ≡ rest_of text.now }
+{
+    match first_space(text) {
+        None => None,
+        Some(space) => Some(&text[space + 1..]),
+    }
+}
+
+fn first_space(text: &[u8]) -> Option<usize>
+    ensures place { result ≡ first_space text.now }
+    ensures within { IfSome result (λ space. space < length text.now) }
+{
+    text.iter().position(|byte| *byte == b' ')
+}
+
+/// Whether the text is a number in decimal, without a leading zero, that lies within the bounds. It has at most ten digits.
+#[tactic(auto, unfolding(crate::specs::Words::is_number))]
+pub fn is_number(least: u64, most: u64, text: &[u8]) -> bool
+    ensures { result ≡ is_number least most text.now }
+{
+    if !is_decimal(text) {
+        return false;
+    }
+    let value = value_of(text);
+    least <= value && value <= most
+}
+
+#[tactic(auto, unfolding(crate::specs::Words::is_decimal))]
+fn is_decimal(text: &[u8]) -> bool
+    ensures decimal { result ≡ is_decimal text.now }
+    ensures few { result ≡ true → length text.now ≤ 10 }
+    ensures digits { result ≡ true → list_all is_digit text.now ≡ true }
+{
+    if text.is_empty() || text.len() > 10 {
+        return false;
+    }
+    has_digits(text) && has_no_leading_zero(text)
+}
+
+fn has_digits(text: &[u8]) -> bool
+    ensures { result ≡ list_all is_digit text.now }
+{
+    text.iter().all(|byte| is_digit(*byte))
+}
+
+fn is_digit(byte: u8) -> bool
+    ensures { result ≡ is_digit byte }
+{
+    b'0' <= byte && byte <= b'9'
+}
+
+fn has_no_leading_zero(text: &[u8]) -> bool
+    requires { 1 ≤ length text.now }
+    ensures { result ≡ has_no_leading_zero text.now }
+{
+    text[0] != b'0' || text.len() == 1
+}
+
+/// The number that decimal digits stand for.
+fn value_of(digits: &[u8]) -> u64
+    requires few { length digits.now ≤ 10 }
+    requires digits { list_all is_digit digits.now ≡ true }
+    ensures { result ≡ digits_value 10 digits.now }
+{
+    let mut value = 0;
+    for digit in digits {
+        value = value * 10 + (*digit - b'0') as u64;
+    }
+    value
+}
