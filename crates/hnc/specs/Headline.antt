@@ -1,7 +1,7 @@
 -- What the top call promises of a run.
 --     Leaves      what a run of the script leaves: one history of the machine, what it writes and what is kept
 --     LeavesFront the same of a run that was cut short
-use Rattle.std.specs.Prelude.{◌≡◌, ℕ, ◌^◌, Bool, true, false, List, [], ◌∷◌, ◌++◌, IfSome, Some, codes}
+use Rattle.std.specs.Prelude.{◌≡◌, ℕ, Bool, true, false, List, [], ◌∷◌, ◌++◌, IfSome, Some, codes}
 use Rattle.std.specs.declared.option.Option.{Option}
 use Rattle.std.specs.List.{AllByRecursion}
 use Rattle.std.specs.Io.KnownBytes.{Appends}
@@ -11,34 +11,32 @@ use Rattle.hx_model.specs.Machine.{opening_world, IsHistory, replay, loses_to_fa
 use Rattle.hx_core.specs.Standing.{IsKeptOf}
 use Rattle.hnc.specs.declared.top.Status.{Status}
 use Rattle.hnc.specs.declared.top.Status.TheVariants.{Usage, ReadFault, WriteFault, KeeperFault, Damaged, TooLong}
-use Rattle.hnc.specs.Lines.{script_lines}
-use Rattle.hnc.specs.Running.{LacksLast}
-use Rattle.hnc.specs.Turns.{Turn, IsTurn, lines_of, entries_of, answer_lines}
+use Rattle.hx_script.specs.Lines.{Line, script_lines}
+use Rattle.hx_script.specs.Running.{LacksLast}
+use Rattle.hx_script.specs.Turns.{Turn, IsTurn, lines_of, entries_of, answer_lines}
 
--- the most bytes of a script
-abbrev pub most_bytes : ℕ
-most_bytes = 2 ^ 40
-
--- There is one history of the machine from the opening world. Its entries are those of the script's lines in order, each once, up to the rest.
+-- There is one history of the machine from the opening world, which has the store's last version. Its entries are those of the script's lines in order, each once, up to the rest.
 -- What is written are their answers, but for what is lacking of the last one. What the keeper holds is what the history leaves, and it is broken where the history says so; a loss to a fault stands in it only where the keeper's count rose.
-pub record Leaves (script : List ℕ) (rest : List (List ℕ)) (lacking : List ℕ) (before after : Option (List ℕ)) (broken : Bool) (kept' : Option Kept) (broken' : Bool) (faults faults' : ℕ) : Type 0 where
+pub record Leaves (script : List ℕ) (rest : List Line) (lacking : List ℕ) (before after : Option (List ℕ)) (kept kept' : Option Kept) (broken broken' : Bool) (faults faults' : ℕ) : Type 0 where
   pub turns : List Turn
   pub text : List ℕ
+  pub last : ℕ
   pub each : AllByRecursion IsTurn turns
   pub lines : script_lines script ≡ lines_of turns ++ rest
-  pub history : IsHistory (opening_world broken) (entries_of turns)
+  pub version : IfSome kept (λ held. last ≡ held.version)
+  pub history : IsHistory (opening_world broken last) (entries_of turns)
   pub says : answer_lines turns ≡ text ++ lacking
   pub lacks : LacksLast turns lacking
   pub wrote : Appends before after text
-  pub stored : IfSome kept' (IsKeptOf (replay (opening_world broken) (entries_of turns)))
-  pub breaks : (replay (opening_world broken) (entries_of turns)).broken ≡ broken'
+  pub stored : IfSome kept' (IsKeptOf (replay (opening_world broken last) (entries_of turns)))
+  pub breaks : (replay (opening_world broken last) (entries_of turns)).broken ≡ broken'
   pub lost : loses_to_fault (entries_of turns) ≡ true → Rose faults faults'
 
 -- the run was cut short: some last lines have no answer, and the last answer may lack its end
-pub record LeavesFront (script : List ℕ) (before after : Option (List ℕ)) (broken : Bool) (kept' : Option Kept) (broken' : Bool) (faults faults' : ℕ) : Type 0 where
-  pub rest : List (List ℕ)
+pub record LeavesFront (script : List ℕ) (before after : Option (List ℕ)) (kept kept' : Option Kept) (broken broken' : Bool) (faults faults' : ℕ) : Type 0 where
+  pub rest : List Line
   pub lacking : List ℕ
-  pub leaves : Leaves script rest lacking before after broken kept' broken' faults faults'
+  pub leaves : Leaves script rest lacking before after kept kept' broken broken' faults faults'
 
 -- the words that are taken
 abbrev pub accepted_words : List (List ℕ)

@@ -1,6 +1,1 @@
-pub mod Lines
-pub mod Forms
-pub mod Replies
-pub mod Turns
-pub mod Running
 pub mod Headline

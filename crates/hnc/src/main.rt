@@ -1,14 +1,12 @@
 //! `hnc`: the control service of hierarchical namespaces, as a program over scripts of requests.
 #![tactic(auto)]
 
-mod line;
-mod reply;
-mod script;
 #[cfg(test)]
 mod tests;
 mod top;
 
 use crate::top::{Status, top};
+use hx_object::NoMemory;
 use hx_ports::{MemKeeper, Meta, StdSink, StdSource};
 use std::alloc::Global;
 use std::process::ExitCode;
@@ -20,7 +18,9 @@ fn main(rt: HostRuntime) -> ExitCode {
     };
     let mut source = StdSource::new(rt.stdin());
     let mut sink = StdSink::new(rt.stdout());
-    let keeper = empty_keeper(rt.alloc());
+    let Ok(keeper) = empty_keeper(rt.alloc()) else {
+        return exit_with(&rt, Status::NoMemory);
+    };
     let ended = top(rt.alloc(), words.as_slice(), &mut source, &mut sink, keeper);
     exit_with(&rt, ended.status)
 }
@@ -35,7 +35,7 @@ fn words_of(rt: &(impl env::Env + AllocGlobal)) -> io::Result<Vec<String>> {
 }
 
 /// A keeper without rows, in memory.
-fn empty_keeper(alloc: Global) -> MemKeeper {
+fn empty_keeper(alloc: Global) -> Result<MemKeeper, NoMemory> {
     let meta = Meta {
         schema: 2,
         version: 0,

@@ -2,6 +2,7 @@
 ghost use Rattle.std.specs.Prelude.{◌<◌};
 
 use crate::top::{Ended, Status, top};
+use hx_object::NoMemory;
 use hx_ports::{
     FailCommit, MemKeeper, MemSink, MemSource, Meta, Row, SureKeeper, SureSink, SureSource,
 };
@@ -29,6 +30,9 @@ const NO_ROWS: Meta = Meta {
     rows: 0,
 };
 
+// The greatest version.
+const MOST_VERSION: u64 = 9_223_372_036_854_775_807;
+
 // Ports that do not fail: calls are counted from 1.
 fn plain() -> Setting {
     Setting {
@@ -55,7 +59,7 @@ struct Left {
 }
 
 // The run of a script. The words are joined by spaces.
-fn run(alloc: Global, words: &str, script: &[u8], setting: &Setting) -> Result<Left, AllocError> {
+fn run(alloc: Global, words: &str, script: &[u8], setting: &Setting) -> Result<Left, NoMemory> {
     let words = split_words(alloc, words)?;
     let script = Vec::from_slice(alloc, script)?;
     let fails = Vec::from_slice(alloc, &[setting.failing_read])?;
@@ -65,7 +69,7 @@ fn run(alloc: Global, words: &str, script: &[u8], setting: &Setting) -> Result<L
     let mut sink = MemSink::new(room, setting.write_piece, fails);
     let commits = Vec::from_slice(alloc, &[setting.failing_commit])?;
     let fails = Vec::from_slice(alloc, &[setting.failing_keeper])?;
-    let keeper = MemKeeper::new(Vec::new(alloc), setting.meta, commits, fails);
+    let keeper = MemKeeper::new(Vec::new(alloc), setting.meta, commits, fails)?;
     let Ended { status, keeper } = top(alloc, words.as_slice(), &mut source, &mut sink, keeper);
     Ok(Left {
         status,
@@ -75,11 +79,11 @@ fn run(alloc: Global, words: &str, script: &[u8], setting: &Setting) -> Result<L
 }
 
 // What is answered over ports that can't fail.
-fn sure_answers(alloc: Global, script: &[u8]) -> Result<SureSink, AllocError> {
+fn sure_answers(alloc: Global, script: &[u8]) -> Result<SureSink, NoMemory> {
     let words = split_words(alloc, "run")?;
     let mut source = SureSource::new(Vec::from_slice(alloc, script)?, 4096);
     let mut sink = SureSink::new(Vec::with_capacity(alloc, 8192)?);
-    let keeper = SureKeeper::new(Vec::new(alloc), NO_ROWS);
+    let keeper = SureKeeper::new(Vec::new(alloc), NO_ROWS)?;
     let ended = top(alloc, words.as_slice(), &mut source, &mut sink, keeper);
     drop(ended);
     Ok(sink)
@@ -164,19 +168,19 @@ fn lines_and_rows(rt: HostRuntime) -> Result<(), Fail> {
     for (script, codes, rows) in [
         ("", "", 0),
         ("\n\r\n# x", "", 0),
-        ("GET /x\r\n\nGET /api/v1/namespaces/none", "501 404 ", 0),
+        ("GET /x\r\n\nGET /api/v1/namespaces/none", "404 404 ", 0),
         ("GET /api/v1/namespaces/none\r", "404 ", 0),
-        (" GET /api/v1/namespaces/none", "501 ", 0),
+        (" GET /api/v1/namespaces/none", "400 ", 0),
     ] {
         let left = run(rt.alloc(), "run", script.as_bytes(), &plain())?;
         assert_eq!(rt; left.status, Status::Done);
         let answered = codes_of(rt.alloc(), left.sink.bytes())?;
         assert_eq!(rt; answered.as_slice(), codes.as_bytes(), "{script}");
-        assert_eq!(rt; left.keeper.rows().len(), rows);
+        assert_eq!(rt; left.keeper.rows()?.len(), rows);
     }
     let script = create(rt.alloc(), "acme")?;
     let left = run(rt.alloc(), "run", script.as_str().as_bytes(), &plain())?;
-    let rows = left.keeper.rows();
+    let rows = left.keeper.rows()?;
     assert_eq!(rt; rows.len(), 1);
     assert_eq!(rt; rows[0].key.as_slice(), b"01//acme".as_slice());
     assert_eq!(rt; (rows[0].version, left.keeper.version()), (1, 1));
@@ -209,7 +213,7 @@ fn a_commit_fails(rt: HostRuntime) -> Result<(), Fail> {
         assert_eq!(rt; answered.as_slice(), codes.as_bytes(), "commit {call}");
         assert_eq!(rt; left.keeper.version(), version, "commit {call}");
         assert_eq!(rt; left.keeper.is_broken(), call < 5);
-        let kept = last_letters(rt.alloc(), left.keeper.rows())?;
+        let kept = last_letters(rt.alloc(), left.keeper.rows()?.as_slice())?;
         assert_eq!(rt; kept.as_slice(), keys.as_bytes(), "commit {call}");
     }
     Ok(())
@@ -256,7 +260,9 @@ fn no_run_begins(rt: HostRuntime) -> Result<(), Fail> {
     // the words; schema, version and rows of the keeper; the number of its call that fails
     for (words, schema, version, rows, fails, status) in [
         ("run", 1, 0, 0, 0, Status::Damaged),
-        ("run", 2, 1, 0, 0, Status::Damaged),
+        ("run", 2, 1, 0, 0, Status::Done),
+        ("run", 2, MOST_VERSION, 0, 0, Status::Done),
+        ("run", 2, MOST_VERSION + 1, 0, 0, Status::Damaged),
         ("run", 2, 0, 1, 0, Status::Damaged),
         ("run", 2, 0, 0, 1, Status::KeeperFault),
         ("run", 2, 0, 0, 2, Status::KeeperFault),
@@ -282,12 +288,28 @@ fn no_run_begins(rt: HostRuntime) -> Result<(), Fail> {
 
 #[test]
 fn names_at_the_edge(rt: HostRuntime) -> Result<(), Fail> {
-    for (length, codes) in [(0, "501 "), (1, "201 "), (63, "201 "), (64, "501 ")] {
+    for (length, codes) in [(0, "422 "), (1, "201 "), (63, "201 "), (64, "422 ")] {
         let name = "a".repeat(rt.alloc(), length)?;
         let script = create(rt.alloc(), name.as_str())?;
         let left = run(rt.alloc(), "run", script.as_str().as_bytes(), &plain())?;
         let answered = codes_of(rt.alloc(), left.sink.bytes())?;
         assert_eq!(rt; answered.as_slice(), codes.as_bytes(), "{length} letters");
+    }
+    Ok(())
+}
+
+#[test]
+fn no_version_is_left(rt: HostRuntime) -> Result<(), Fail> {
+    let mut script = create(rt.alloc(), "a")?;
+    script.push_str(get(rt.alloc(), "a")?.as_str())?;
+    for (version, codes) in [(MOST_VERSION - 1, "201 200 "), (MOST_VERSION, "507 404 ")] {
+        let mut setting = plain();
+        setting.meta.version = version;
+        let left = run(rt.alloc(), "run", script.as_str().as_bytes(), &setting)?;
+        assert_eq!(rt; left.status, Status::Done);
+        let answered = codes_of(rt.alloc(), left.sink.bytes())?;
+        assert_eq!(rt; answered.as_slice(), codes.as_bytes(), "version {version}");
+        assert_eq!(rt; left.keeper.version(), MOST_VERSION);
     }
     Ok(())
 }

@@ -1,13 +1,14 @@
 // The top call.
-ghost use Rattle.std.specs.Prelude.{ℕ, ◌≡◌, ◌≢◌, ◌≤◌, ◌<◌, ◌⊎◌, ◌↔◌, true, false, [], ◌∷◌, IfSome, map, length, string_bytes};
+ghost use Rattle.std.specs.Prelude.{ℕ, ◌≡◌, ◌≢◌, ◌≤◌, ◌<◌, ◌⊎◌, ◌↔◌, true, false, [], ◌∷◌, IfSome, IsSomeAnd, map, length, string_bytes};
 ghost use Rattle.std.specs.Io.KnownBytes.{IsAtEnd};
 ghost use Rattle.hx_ports.specs.Causes.{Rose};
 ghost use Rattle.hx_core.specs.Starting.{IsDamaged, IsUndamaged};
-ghost use Rattle.hnc.specs.Headline.{Leaves, LeavesFront, IsUnbegun, accepted_words, is_cut_short, has_not_begun, most_bytes};
+ghost use Rattle.hnc.specs.Headline.{Leaves, LeavesFront, IsUnbegun, accepted_words, is_cut_short, has_not_begun};
+ghost use Rattle.hx_script.specs.Running.{most_bytes};
 
-use crate::script::{RunEnd, run_script};
 use hx_core::{Cluster, StartFault, Unstarted};
 use hx_ports::{KeepFault, Keeper, Sink, Source};
+use hx_script::{RunEnd, run_script};
 use std::alloc::Global;
 
 /// How a command ended. The discriminant is the program's exit status.
@@ -46,15 +47,15 @@ pub fn top<S: Source, W: Sink, K: Keeper>(
 ) -> Ended<K>
     // Answers and stored objects are a run of the machine.
     ensures done { result.status ≡ Status.Done → IfSome (S.left source.old) (λ script.
-        Leaves script [] [] (W.written sink.old) (W.written sink.new) (K.broken keeper) (K.kept result.keeper) (K.broken result.keeper) (K.keeper_faults keeper) (K.keeper_faults result.keeper)) }
+        Leaves script [] [] (W.written sink.old) (W.written sink.new) (K.kept keeper) (K.kept result.keeper) (K.broken keeper) (K.broken result.keeper) (K.keeper_faults keeper) (K.keeper_faults result.keeper)) }
     ensures cut { is_cut_short result.status ≡ true → IfSome (S.left source.old) (λ script.
-        LeavesFront script (W.written sink.old) (W.written sink.new) (K.broken keeper) (K.kept result.keeper) (K.broken result.keeper) (K.keeper_faults keeper) (K.keeper_faults result.keeper)) }
+        LeavesFront script (W.written sink.old) (W.written sink.new) (K.kept keeper) (K.kept result.keeper) (K.broken keeper) (K.broken result.keeper) (K.keeper_faults keeper) (K.keeper_faults result.keeper)) }
     ensures unbegun { has_not_begun result.status ≡ true →
         IsUnbegun source.old source.new sink.old sink.new (K.kept keeper) (K.kept result.keeper) (K.broken keeper) (K.broken result.keeper) }
     ensures memory { result.status ≡ Status.NoMemory →
         IsUnbegun source.old source.new sink.old sink.new (K.kept keeper) (K.kept result.keeper) (K.broken keeper) (K.broken result.keeper)
         ⊎ IfSome (S.left source.old) (λ script.
-        LeavesFront script (W.written sink.old) (W.written sink.new) (K.broken keeper) (K.kept result.keeper) (K.broken result.keeper) (K.keeper_faults keeper) (K.keeper_faults result.keeper)) }
+        LeavesFront script (W.written sink.old) (W.written sink.new) (K.kept keeper) (K.kept result.keeper) (K.broken keeper) (K.broken result.keeper) (K.keeper_faults keeper) (K.keeper_faults result.keeper)) }
 
     // Each status has its cause; want of memory alone is free.
     ensures usage { (result.status ≡ Status.Usage) ↔ (map string_bytes words.now ≢ accepted_words) }
@@ -66,6 +67,13 @@ pub fn top<S: Source, W: Sink, K: Keeper>(
     ensures too_long { result.status ≡ Status.TooLong → IfSome (S.left source.old) (λ script. most_bytes < length script) }
     ensures whole { result.status ≡ Status.Done → IfSome (S.left source.old) (λ script. length script ≤ most_bytes) }
     ensures end { result.status ≡ Status.Done → IsAtEnd (S.left source.new) }
+    ensures complete { map string_bytes words.now ≡ accepted_words
+        → (Rose (S.read_faults source.old) (S.read_faults source.new) → ⊥)
+        → (Rose (W.write_faults sink.old) (W.write_faults sink.new) ⊎ Rose (W.stalls sink.old) (W.stalls sink.new) → ⊥)
+        → (Rose (K.keeper_faults keeper) (K.keeper_faults result.keeper) → ⊥)
+        → IsSomeAnd (K.kept keeper) IsUndamaged
+        → IsSomeAnd (S.left source.old) (λ script. length script ≤ most_bytes)
+        → (result.status ≡ Status.Done) ⊎ (result.status ≡ Status.NoMemory) }
 {
     if !is_run(words) {
         return Ended {

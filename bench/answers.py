@@ -1,0 +1,1274 @@
+#!/usr/bin/env python3
+"""A script of requests for `hnc run`, and what the rules have it answer.
+
+Usage: bench/answers.py script >crates/hnc/stdin
+       bench/answers.py answers >crates/hnc/stdout
+       bench/answers.py rows
+
+Each row is a line of the script and, written by hand beside it, what it is to answer: by docs/BEHAVIOUR.md and
+the definitions in the crates' specs/, never by what the program printed. A row that writes has the next version;
+nothing else of the service is known here. `rows` prints how many rows each part has.
+"""
+import json
+import sys
+
+# ---- values and texts
+
+CORE = "v1"
+HNC = "hnc.x-k8s.io/v1alpha2"
+RBAC = "rbac.authorization.k8s.io/v1"
+NETWORKING = "networking.k8s.io/v1"
+
+VERSIONS = {
+    "Namespace": CORE,
+    "HNCConfiguration": HNC,
+    "HierarchyConfiguration": HNC,
+    "SubnamespaceAnchor": HNC,
+    "HierarchicalResourceQuota": HNC,
+    "Role": RBAC,
+    "RoleBinding": RBAC,
+    "ConfigMap": CORE,
+    "Secret": CORE,
+    "NetworkPolicy": NETWORKING,
+    "LimitRange": CORE,
+    "Pod": CORE,
+    "Service": CORE,
+    "PersistentVolumeClaim": CORE,
+}
+
+NAMESPACES = "/api/v1/namespaces"
+CONFIGS = "/apis/hnc.x-k8s.io/v1alpha2/hncconfigurations"
+HIERARCHIES = "/apis/hnc.x-k8s.io/v1alpha2/namespaces/acme/hierarchyconfigurations"
+CONFIGMAPS = "/api/v1/namespaces/acme/configmaps"
+SECRETS = "/api/v1/namespaces/acme/secrets"
+ROLES = "/apis/rbac.authorization.k8s.io/v1/namespaces/acme/roles"
+SERVICES = "/api/v1/namespaces/acme/services"
+
+ACTIVE = {"phase": "Active"}
+
+
+def text(value):
+    """The compact JSON text, members in the order of their names."""
+    return json.dumps(value, sort_keys=True, separators=(",", ":"), ensure_ascii=False)
+
+
+def thing(kind, name, ns=None, labels=None, annotations=None, **members):
+    """An object without a version. What isn't given is left out."""
+    metadata = {"name": name, "namespace": ns, "labels": labels, "annotations": annotations}
+    metadata = {key: value for key, value in metadata.items() if value is not None}
+    return {"apiVersion": VERSIONS[kind], "kind": kind, "metadata": metadata, **members}
+
+
+def with_version(thing, version):
+    return {**thing, "metadata": {**thing["metadata"], "resourceVersion": str(version)}}
+
+
+def configmap(name, **members):
+    return thing("ConfigMap", name, "acme", **members)
+
+
+def namespace(name, **members):
+    return thing("Namespace", name, status=ACTIVE, **members)
+
+
+def get(target):
+    return f"GET {target}"
+
+
+def delete(target):
+    return f"DELETE {target}"
+
+
+def post(target, body):
+    return f"POST {target} {body if isinstance(body, str) else text(body)}"
+
+
+def put(target, body):
+    return f"PUT {target} {body if isinstance(body, str) else text(body)}"
+
+
+# ---- refusals: the status, the reason and the message
+
+NOT_JSON = (400, "BadRequest", "body is not JSON")
+NOT_WHOLE = (400, "BadRequest", "body has a number that is not whole")
+OTHER_PLACE = (400, "BadRequest", "body names another place")
+BAD_PATH = (400, "BadRequest", "bad path")
+BAD_LINE = (400, "BadRequest", "line in no form of the script")
+NO_PATH = (404, "NotFound", "path not served")
+NO_METHOD = (405, "MethodNotAllowed", "method not served here")
+TOO_LONG = (413, "RequestEntityTooLarge", "more than 131072 bytes")
+BAD_NAME = (422, "Invalid", "name is not allowed")
+BAD_LABEL = (422, "Invalid", "label or annotation is not allowed")
+TOO_MANY_LABELS = (422, "Invalid", "more than 256 labels")
+TOO_LARGE = (422, "Invalid", "object is larger than 65536 bytes")
+NOT_SERVED = (501, "NotImplemented", "not served")
+
+
+def not_kind(kind):
+    return (400, "BadRequest", f"body is not {kind}")
+
+
+def bad_query(parameter):
+    return (400, "BadRequest", f"bad query {parameter}")
+
+
+def missing(member):
+    return (422, "Invalid", f"{member} is missing")
+
+
+def wrong_type(member):
+    return (422, "Invalid", f"{member} has the wrong type")
+
+
+def not_found(resource, name):
+    return (404, "NotFound", f'{resource} "{name}" not found')
+
+
+def exists(resource, name):
+    return (409, "AlreadyExists", f'{resource} "{name}" already exists')
+
+
+def has_version(resource, name, version):
+    return (409, "Conflict", f'{resource} "{name}" has version {version}')
+
+
+class Table:
+    """The lines of a script, what they answer, and the last version that was given."""
+
+    def __init__(self):
+        self.lines = []
+        self.answers = []
+        self.version = 0
+        self.parts = []
+
+    def part(self, title):
+        self.parts.append([title, 0])
+        self.lines.append(f"# {title}".encode())
+
+    def silent(self, line):
+        """A line that answers nothing."""
+        self.parts[-1][1] += 1
+        self.lines.append(line if isinstance(line, bytes) else line.encode())
+
+    def answers_with(self, line, status, body):
+        self.silent(line)
+        self.answers.append(f"{status} {text(body)}")
+
+    def refuses(self, line, refusal):
+        status, reason, message = refusal
+        body = {"apiVersion": "v1", "code": status, "kind": "Status", "message": message, "metadata": {}, "reason": reason, "status": "Failure"}
+        self.answers_with(line, status, body)
+
+    def shows(self, line, stored):
+        """The object as it is stored."""
+        self.answers_with(line, 200, stored)
+
+    def creates(self, line, made):
+        self.version += 1
+        stored = with_version(made, self.version)
+        self.answers_with(line, 201, stored)
+        return stored
+
+    def changes(self, line, made):
+        self.version += 1
+        stored = with_version(made, self.version)
+        self.answers_with(line, 200, stored)
+        return stored
+
+    def removes(self, line):
+        self.version += 1
+        self.answers_with(line, 200, {"apiVersion": "v1", "kind": "Status", "metadata": {"resourceVersion": str(self.version)}, "status": "Success"})
+
+    def lists(self, line, kind, items):
+        self.answers_with(line, 200, {"apiVersion": VERSIONS[kind], "items": items, "kind": f"{kind}List", "metadata": {"resourceVersion": str(self.version)}})
+
+    def tries(self, collection, rows):
+        """POSTs of bodies. What is created is removed by the next line; namespaces stay."""
+        for body, wanted in rows:
+            if isinstance(wanted, tuple):
+                self.refuses(post(collection, body), wanted)
+                continue
+            self.creates(post(collection, body), wanted)
+            if collection != NAMESPACES:
+                self.removes(delete(f"{collection}/{wanted['metadata']['name']}"))
+
+
+# ---- worked examples
+
+# Kind, resource, path in a namespace, name, what a first body has, what is stored of it, and the same of a second body.
+# Each name comes behind `a` and `a-b`.
+STORED = [
+    (
+        "HierarchyConfiguration", "hierarchyconfigurations.hnc.x-k8s.io", "/apis/hnc.x-k8s.io/v1alpha2/namespaces/{}/hierarchyconfigurations", "hierarchy",
+        {"spec": {"parent": "beta"}}, {"spec": {"parent": "beta"}},
+        {"spec": {"allowCascadingDeletion": True, "parent": "beta"}}, {"spec": {"allowCascadingDeletion": True, "parent": "beta"}},
+    ),
+    (
+        "Role", "roles.rbac.authorization.k8s.io", "/apis/rbac.authorization.k8s.io/v1/namespaces/{}/roles", "system:reader",
+        {"rules": [{"verbs": ["get", "list"], "apiGroups": [""], "resources": ["pods"]}]}, {"rules": [{"apiGroups": [""], "resources": ["pods"], "verbs": ["get", "list"]}]},
+        {"rules": []}, {"rules": []},
+    ),
+    (
+        "RoleBinding", "rolebindings.rbac.authorization.k8s.io", "/apis/rbac.authorization.k8s.io/v1/namespaces/{}/rolebindings", "readers",
+        {"subjects": [{"kind": "User", "name": "ann"}], "roleRef": {"kind": "Role", "name": "reader"}}, {"roleRef": {"kind": "Role", "name": "reader"}, "subjects": [{"kind": "User", "name": "ann"}]},
+        {"roleRef": {"kind": "Role", "name": "writer"}}, {"roleRef": {"kind": "Role", "name": "writer"}},
+    ),
+    (
+        "ConfigMap", "configmaps", "/api/v1/namespaces/{}/configmaps", "settings",
+        {"data": {"b": "2", "a": "1"}, "immutable": False}, {"data": {"a": "1", "b": "2"}, "immutable": False},
+        {"data": {"a": "1"}}, {"data": {"a": "1"}},
+    ),
+    (
+        "Secret", "secrets", "/api/v1/namespaces/{}/secrets", "token",
+        {"type": "kubernetes.io/service-account-token", "data": {"token": "c2VjcmV0"}}, {"data": {"token": "c2VjcmV0"}, "type": "kubernetes.io/service-account-token"},
+        {"type": "Opaque"}, {"type": "Opaque"},
+    ),
+    (
+        "NetworkPolicy", "networkpolicies.networking.k8s.io", "/apis/networking.k8s.io/v1/namespaces/{}/networkpolicies", "deny.all",
+        {"spec": {"podSelector": {}, "policyTypes": ["Ingress"]}}, {"spec": {"podSelector": {}, "policyTypes": ["Ingress"]}},
+        {}, {},
+    ),
+    (
+        "LimitRange", "limitranges", "/api/v1/namespaces/{}/limitranges", "limits",
+        {"spec": {"limits": [{"type": "Container", "max": {"cpu": "2"}}]}}, {"spec": {"limits": [{"max": {"cpu": "2"}, "type": "Container"}]}},
+        {"spec": None}, {"spec": None},
+    ),
+    (
+        "Service", "services", "/api/v1/namespaces/{}/services", "web",
+        {"spec": {"ports": [{"port": 80, "targetPort": -1}]}, "status": {"loadBalancer": {}}}, {"spec": {"ports": [{"port": 80, "targetPort": -1}]}, "status": {"loadBalancer": {}}},
+        {"spec": []}, {"spec": []},
+    ),
+]
+
+# The kinds that aren't stored yet: the resource, the paths in a namespace and in all, and the kind.
+UNWRITTEN = [
+    ("subnamespaceanchors.hnc.x-k8s.io", "/apis/hnc.x-k8s.io/v1alpha2/{}subnamespaceanchors", "SubnamespaceAnchor"),
+    ("hierarchicalresourcequotas.hnc.x-k8s.io", "/apis/hnc.x-k8s.io/v1alpha2/{}hierarchicalresourcequotas", "HierarchicalResourceQuota"),
+    ("pods", "/api/v1/{}pods", "Pod"),
+    ("persistentvolumeclaims", "/api/v1/{}persistentvolumeclaims", "PersistentVolumeClaim"),
+]
+
+
+def namespaces(t):
+    t.part("worked examples: namespaces")
+    acme = t.creates(post(NAMESPACES, thing("Namespace", "acme")), namespace("acme"))
+    t.refuses(post(NAMESPACES, thing("Namespace", "acme")), exists("namespaces", "acme"))
+    t.shows(get(f"{NAMESPACES}/acme"), acme)
+    t.refuses(get(f"{NAMESPACES}/none"), not_found("namespaces", "none"))
+    t.refuses("DELETE /x", NO_PATH)
+    t.lists(get(NAMESPACES), "Namespace", [acme])
+    t.refuses(put(f"{NAMESPACES}/acme", with_version(thing("Namespace", "acme"), 7)), has_version("namespaces", "acme", 1))
+    t.shows(put(f"{NAMESPACES}/acme", thing("Namespace", "acme")), acme)
+    t.shows(put(f"{NAMESPACES}/acme", with_version(thing("Namespace", "acme"), 1)), acme)
+    labelled = thing("Namespace", "acme", labels={"team": "a"})
+    acme = t.changes(put(f"{NAMESPACES}/acme", labelled), namespace("acme", labels={"team": "a"}))
+    t.refuses(put(f"{NAMESPACES}/acme", with_version(labelled, 1)), has_version("namespaces", "acme", 2))
+    for version in ("0", "02", "+2", " 2", "2 ", "2a", "-2", "two", "9223372036854775807", "9223372036854775808", "18446744073709551618", "00000000000000000002"):
+        t.refuses(put(f"{NAMESPACES}/acme", with_version(labelled, version)), has_version("namespaces", "acme", 2))
+    t.shows(put(f"{NAMESPACES}/acme", with_version(labelled, "")), acme)
+    t.shows(put(f"{NAMESPACES}/acme", with_version(labelled, "2")), acme)
+    t.refuses(put(f"{NAMESPACES}/none", with_version(thing("Namespace", "none"), "7")), not_found("namespaces", "none"))
+    t.refuses(post(CONFIGMAPS, '{"apiVersion":"v1","kind":"ConfigMap","metadata":{"name":"x"},"n":1.5}'), NOT_WHOLE)
+    t.refuses(delete(f"{NAMESPACES}/acme"), NOT_SERVED)
+    t.refuses(delete(f"{NAMESPACES}/none"), NOT_SERVED)
+    t.shows(get(f"{NAMESPACES}/acme"), acme)
+    beta = t.creates(post(NAMESPACES, with_version(thing("Namespace", "beta"), 9)), namespace("beta"))
+    dashed = t.creates(post(NAMESPACES, thing("Namespace", "acme-2")), namespace("acme-2"))
+    t.lists(get(NAMESPACES), "Namespace", [acme, dashed, beta])
+
+
+def configurations(t):
+    t.part("worked examples: configurations of the cluster")
+    resource = "hncconfigurations.hnc.x-k8s.io"
+    t.lists(get(CONFIGS), "HNCConfiguration", [])
+    said = thing("HNCConfiguration", "config", spec={"resources": [{"resource": "secrets", "mode": "Remove"}, {"group": "apps", "resource": "deployments"}]})
+    kept = thing("HNCConfiguration", "config", spec={"resources": [{"group": "", "mode": "Remove", "resource": "secrets"}, {"group": "apps", "mode": "Propagate", "resource": "deployments"}]})
+    stored = t.creates(post(CONFIGS, said), kept)
+    t.refuses(post(CONFIGS, said), exists(resource, "config"))
+    t.shows(get(f"{CONFIGS}/config"), stored)
+    t.shows(put(f"{CONFIGS}/config", said), stored)
+    t.lists(get(CONFIGS), "HNCConfiguration", [stored])
+    t.refuses(put(f"{CONFIGS}/config", with_version(said, 1)), has_version(resource, "config", t.version))
+    stored = t.changes(put(f"{CONFIGS}/config", thing("HNCConfiguration", "config")), thing("HNCConfiguration", "config", spec={"resources": []}))
+    t.shows(put(f"{CONFIGS}/config", thing("HNCConfiguration", "config", spec={"resources": []}, status={"x": 1})), stored)
+    t.refuses(put(f"{CONFIGS}/other", thing("HNCConfiguration", "other")), not_found(resource, "other"))
+    t.removes(delete(f"{CONFIGS}/config"))
+    t.refuses(delete(f"{CONFIGS}/config"), not_found(resource, "config"))
+    t.refuses(get(f"{CONFIGS}/config"), not_found(resource, "config"))
+    t.lists(get(CONFIGS), "HNCConfiguration", [])
+
+
+def stored_kinds(t):
+    for kind, resource, path, name, first, first_kept, second, second_kept in STORED:
+        t.part(f"worked examples: {kind}")
+        here, there, everywhere = path.format("acme"), path.format("beta"), path.replace("namespaces/{}/", "")
+        said = thing(kind, name, **first)
+        t.refuses(get(f"{here}/{name}"), not_found(resource, name))
+        t.refuses(delete(f"{here}/{name}"), not_found(resource, name))
+        t.refuses(put(f"{here}/{name}", said), not_found(resource, name))
+        t.refuses(post(path.format("none"), said), not_found("namespaces", "none"))
+        t.lists(get(here), kind, [])
+        stored = t.creates(post(here, said), thing(kind, name, "acme", **first_kept))
+        t.refuses(post(here, said), exists(resource, name))
+        t.shows(get(f"{here}/{name}"), stored)
+        t.shows(put(f"{here}/{name}", said), stored)
+        t.refuses(get(f"{there}/{name}"), not_found(resource, name))
+        t.refuses(put(f"{here}/{name}", with_version(thing(kind, name, **second), 1)), has_version(resource, name, t.version))
+        last = t.creates(post(there, thing(kind, "a", "beta", **second)), thing(kind, "a", "beta", **second_kept))
+        next_one = t.creates(post(here, thing(kind, "a-b", "acme", **second)), thing(kind, "a-b", "acme", **second_kept))
+        begin = t.creates(post(here, thing(kind, "a", "acme", **second)), thing(kind, "a", "acme", **second_kept))
+        in_acme = [begin, next_one, stored]
+        t.lists(get(here), kind, in_acme)
+        t.lists(get(there), kind, [last])
+        t.lists(get(path.format("none")), kind, [])
+        t.lists(get(everywhere), kind, [*in_acme, last])
+        changed = t.changes(put(f"{here}/{name}", with_version(thing(kind, name, **second), stored["metadata"]["resourceVersion"])), thing(kind, name, "acme", **second_kept))
+        t.shows(get(f"{here}/{name}"), changed)
+        for one in (f"{here}/{name}", f"{here}/a", f"{here}/a-b", f"{there}/a"):
+            t.removes(delete(one))
+        t.refuses(delete(f"{here}/{name}"), not_found(resource, name))
+        t.refuses(get(f"{here}/{name}"), not_found(resource, name))
+        t.lists(get(everywhere), kind, [])
+
+
+# Roles in the order of lists, by namespace and name.
+IN_ORDER = [("acme", "Z"), ("acme", "a"), ("acme", "a-b"), ("acme", "a.b"), ("acme", "aa"), ("acme-2", "a"), ("beta", "!"), ("beta", "a")]
+# The order in which they are made.
+MADE = [("beta", "a"), ("acme", "a.b"), ("acme", "aa"), ("acme-2", "a"), ("acme", "Z"), ("beta", "!"), ("acme", "a-b"), ("acme", "a")]
+
+
+def order_of_lists(t):
+    t.part("worked examples: order of lists")
+    path = "/apis/rbac.authorization.k8s.io/v1/namespaces/{}/roles"
+    made = {}
+    for ns, name in MADE:
+        made[ns, name] = t.creates(post(path.format(ns), thing("Role", name)), thing("Role", name, ns))
+    in_order = [made[place] for place in IN_ORDER]
+    t.lists(get("/apis/rbac.authorization.k8s.io/v1/roles"), "Role", in_order)
+    t.lists(get(path.format("acme")), "Role", in_order[:5])
+    t.lists(get(path.format("acme-2")), "Role", in_order[5:6])
+    t.lists(get(path.format("beta")), "Role", in_order[6:])
+    t.lists(get(path.format("acm")), "Role", [])
+    t.lists(get("/apis/rbac.authorization.k8s.io/v1/rolebindings"), "RoleBinding", [])
+    for ns, name in MADE:
+        t.removes(delete(f"{path.format(ns)}/{name}"))
+    again = t.creates(post(path.format("beta"), thing("Role", "a")), thing("Role", "a", "beta"))
+    t.lists(get("/apis/rbac.authorization.k8s.io/v1/roles"), "Role", [again])
+    t.removes(delete(f"{path.format('beta')}/a"))
+
+
+def unwritten_kinds(t):
+    t.part("worked examples: kinds that aren't stored yet")
+    for resource, path, kind in UNWRITTEN:
+        here = path.format("namespaces/acme/")
+        t.refuses(post(here, thing(kind, "x")), NOT_SERVED)
+        t.refuses(put(f"{here}/x", thing(kind, "x")), NOT_SERVED)
+        t.refuses(get(f"{here}/x"), not_found(resource, "x"))
+        t.refuses(delete(f"{here}/x"), not_found(resource, "x"))
+        t.lists(get(here), kind, [])
+        t.lists(get(path.format("")), kind, [])
+
+
+USERS_METADATA = {"creationTimestamp": None, "generation": 3, "managedFields": [{"manager": "kubectl"}], "selfLink": "", "uid": "0-1", "ownerReferences": [], "finalizers": ["x"]}
+
+
+def users_members(t):
+    t.part("worked examples: members that users add")
+    said = thing("ConfigMap", "users", data={"k": "v"}, status={"x": 1}, extra=None)
+    said["metadata"].update(USERS_METADATA, namespace=None, labels=None, annotations=None, resourceVersion=None)
+    stored = t.creates(post(CONFIGMAPS, said), configmap("users", data={"k": "v"}, extra=None, status={"x": 1}))
+    t.shows(put(f"{CONFIGMAPS}/users", said), stored)
+    t.shows(get(f"{CONFIGMAPS}/users"), stored)
+    t.removes(delete(f"{CONFIGMAPS}/users"))
+    said = thing("Namespace", "users", spec={"finalizers": ["kubernetes"]}, status={"phase": "Terminating"}, data={})
+    said["metadata"].update(USERS_METADATA, namespace="")
+    stored = t.creates(post(NAMESPACES, said), namespace("users"))
+    t.shows(put(f"{NAMESPACES}/users", said), stored)
+    t.tries(HIERARCHIES, [
+        (thing("HierarchyConfiguration", "h", spec={"parent": "beta", "x": 1}, status={"children": ["beta"], "conditions": []}, data=1), thing("HierarchyConfiguration", "h", "acme", spec={"parent": "beta"})),
+    ])
+    t.tries(CONFIGS, [
+        (thing("HNCConfiguration", "c", spec={"resources": [{"resource": "pods", "x": 1}], "types": []}, status={}, data=1), thing("HNCConfiguration", "c", spec={"resources": [{"group": "", "mode": "Propagate", "resource": "pods"}]})),
+    ])
+    both = thing("ConfigMap", "both", labels={"b": "2", "a": "1"}, annotations={"z": "", "a": "\n\u0001\"\\é😀"})
+    t.tries(CONFIGMAPS, [(both, configmap("both", labels={"a": "1", "b": "2"}, annotations={"a": "\n\u0001\"\\é😀", "z": ""}))])
+    t.tries(CONFIGMAPS, [(thing("ConfigMap", "empty", labels={}, annotations={}), configmap("empty"))])
+
+
+# ---- bodies
+
+def cm(members, name="x"):
+    """The text of a ConfigMap's body with members of its own."""
+    return f'{{"apiVersion":"v1","kind":"ConfigMap","metadata":{{"name":"{name}"}},{members}}}'
+
+
+def cm_metadata(metadata):
+    """The text of a ConfigMap's body with other metadata."""
+    return f'{{"apiVersion":"v1","kind":"ConfigMap","metadata":{metadata}}}'
+
+
+def nested(depth):
+    """Lists in one another."""
+    return "[" * depth + "]" * depth
+
+
+def nested_value(depth):
+    value = []
+    for _ in range(depth - 1):
+        value = [value]
+    return value
+
+
+MINIMAL = '{"apiVersion":"v1","kind":"ConfigMap","metadata":{"name":"x"}}'
+
+JSON_FAULTS = [
+    ("", NOT_JSON),
+    (" ", NOT_JSON),
+    ("nonsense", NOT_JSON),
+    ("{", NOT_JSON),
+    ("}", NOT_JSON),
+    (MINIMAL[:-1], NOT_JSON),
+    (MINIMAL[:-2], NOT_JSON),
+    (MINIMAL[:30], NOT_JSON),
+    (MINIMAL + "x", NOT_JSON),
+    (MINIMAL + " {}", NOT_JSON),
+    (MINIMAL + "}", NOT_JSON),
+    (MINIMAL + ",", NOT_JSON),
+    ("\ufeff" + MINIMAL, NOT_JSON),
+    ("\u00a0" + MINIMAL, NOT_JSON),
+    ("\f" + MINIMAL, NOT_JSON),
+    (cm('"a":1,'), NOT_JSON),
+    (cm(',"a":1'), NOT_JSON),
+    (cm('"a" 1'), NOT_JSON),
+    (cm('a:1'), NOT_JSON),
+    (cm("'a':1"), NOT_JSON),
+    (cm('1:1'), NOT_JSON),
+    (cm('"a":'), NOT_JSON),
+    (cm('"a":[1,]'), NOT_JSON),
+    (cm('"a":[1 2]'), NOT_JSON),
+    (cm('"a":/**/1'), NOT_JSON),
+    (cm('"a":tru'), NOT_JSON),
+    (cm('"a":True'), NOT_JSON),
+    (cm('"a":nulls'), NOT_JSON),
+    (cm('"a":NaN'), NOT_JSON),
+    (cm('"a":Infinity'), NOT_JSON),
+    (cm('"a":01'), NOT_JSON),
+    (cm('"a":-01'), NOT_JSON),
+    (cm('"a":+1'), NOT_JSON),
+    (cm('"a":.5'), NOT_JSON),
+    (cm('"a":1.'), NOT_JSON),
+    (cm('"a":1e'), NOT_JSON),
+    (cm('"a":-'), NOT_JSON),
+    (cm('"a":0x1'), NOT_JSON),
+    (cm('"a":"\t"'), NOT_JSON),
+    (cm('"a":"\u0000"'), NOT_JSON),
+    (cm('"a":"\u001f"'), NOT_JSON),
+    (cm(r'"a":"\x"'), NOT_JSON),
+    (cm(r'"a":"\u12"'), NOT_JSON),
+    (cm(r'"a":"\u12g4"'), NOT_JSON),
+    (cm(r'"a":"\ud800"'), NOT_JSON),
+    (cm(r'"a":"\udc00"'), NOT_JSON),
+    (cm(r'"a":"\ud800x"'), NOT_JSON),
+    (cm(r'"a":"\ud800\u0041"'), NOT_JSON),
+    (cm(r'"a":"\ud800\ud800"'), NOT_JSON),
+    (cm(r'"a":"\udc00\ud800"'), NOT_JSON),
+    (cm(r'"\ud800":1'), NOT_JSON),
+    (cm('"a":1e999'), NOT_JSON),
+    (cm('"a":-1e999'), NOT_JSON),
+    (cm('"a":1e999,"a":1'), NOT_JSON),
+    (cm('"a":1' + "0" * 400), NOT_JSON),
+    (nested(128), NOT_JSON),
+    (cm(f'"a":{nested(127)}'), NOT_JSON),
+    (cm(f'"a":{nested(127)},"a":1'), NOT_JSON),
+    (cm(f'"a":{nested(126)}'), configmap("x", a=nested_value(126))),
+    (f"  {MINIMAL}  ", configmap("x")),
+    ("\t{\r\"apiVersion\" : \"v1\",\t\"kind\":\r\"ConfigMap\" , \"metadata\":{ \"name\":\"x\"\t} }\t", configmap("x")),
+    (cm('"a":[ ],"b":{ },"c":[ 1 , 2 ]'), configmap("x", a=[], b={}, c=[1, 2])),
+    (cm(r'"a":"\u00e9\ud83d\ude00\u0000\u001F\u007f\/\b\f\n\r\t\"\\"'), configmap("x", a="é😀\u0000\u001f\u007f/\b\f\n\r\t\"\\")),
+    (cm(r'"\u0062":1,"a":2'), configmap("x", a=2, b=1)),
+    (cm('"é":1,"z":2,"Z":3,"":4'), configmap("x", **{"": 4, "Z": 3, "z": 2, "é": 1})),
+    # the last of members with one name counts, and stands once
+    (cm('"a":1,"a":2'), configmap("x", a=2)),
+    (cm(r'"a":{"k":1,"k":2},"\u0061":{"k":3,"l":4,"k":5}'), configmap("x", a={"k": 5, "l": 4})),
+    ('{"kind":"Secret","kind":"ConfigMap","apiVersion":"v2","apiVersion":"v1","metadata":[],"metadata":{"name":1,"name":"x"}}', configmap("x")),
+    ('{"kind":"ConfigMap","kind":"Secret","apiVersion":"v1","metadata":{"name":"x"}}', not_kind("ConfigMap")),
+    (cm_metadata('{"name":"x","labels":{"a":null,"a":"1"}}'), configmap("x", labels={"a": "1"})),
+    # what isn't JSON goes before a number that isn't whole
+    (cm('"a":1.5')[:-1], NOT_JSON),
+    (cm('"a":1.5') + "x", NOT_JSON),
+    (cm('"a":1.5,"b":1e999'), NOT_JSON),
+]
+
+NUMBER_FAULTS = [
+    (cm('"a":1.5'), NOT_WHOLE),
+    (cm('"a":-0'), NOT_WHOLE),
+    (cm('"a":-0.0'), NOT_WHOLE),
+    (cm('"a":1.0'), NOT_WHOLE),
+    (cm('"a":1e3'), NOT_WHOLE),
+    (cm('"a":1E3'), NOT_WHOLE),
+    (cm('"a":1e+3'), NOT_WHOLE),
+    (cm('"a":0e0'), NOT_WHOLE),
+    (cm('"a":1e-999'), NOT_WHOLE),
+    (cm('"a":18446744073709551616'), NOT_WHOLE),
+    (cm('"a":-9223372036854775809'), NOT_WHOLE),
+    (cm('"a":1' + "0" * 300), NOT_WHOLE),
+    (cm('"a":[[{"b":[0.5]}]]'), NOT_WHOLE),
+    (cm_metadata('{"name":"x","generation":1.5}'), NOT_WHOLE),
+    (cm('"a":1,"a":1.5'), NOT_WHOLE),
+    (cm('"a":1.5,"a":1'), configmap("x", a=1)),
+    (cm('"a":[1.5],"a":{"b":-0,"b":0}'), configmap("x", a={"b": 0})),
+    (cm('"a":18446744073709551615,"b":-9223372036854775808'), configmap("x", a=18446744073709551615, b=-9223372036854775808)),
+    (cm('"a":9223372036854775808,"b":-1,"c":0'), configmap("x", a=9223372036854775808, b=-1, c=0)),
+    (cm('"a":"1.5"'), configmap("x", a="1.5")),
+    # a number that isn't whole goes before a body that is no object
+    ("1.5", NOT_WHOLE),
+    ("-0", NOT_WHOLE),
+    ("[1.5]", NOT_WHOLE),
+    ('{"a":1.5}', NOT_WHOLE),
+]
+
+HEAD_FAULTS = [
+    ("[]", wrong_type("")),
+    (nested(127), wrong_type("")),
+    ("null", wrong_type("")),
+    ("7", wrong_type("")),
+    ("18446744073709551615", wrong_type("")),
+    ('"x"', wrong_type("")),
+    ("true", wrong_type("")),
+    (f"[{MINIMAL}]", wrong_type("")),
+    # apiVersion and kind
+    ("{}", not_kind("ConfigMap")),
+    ('{"kind":"ConfigMap","metadata":{"name":"x"}}', not_kind("ConfigMap")),
+    ('{"apiVersion":"v1","metadata":{"name":"x"}}', not_kind("ConfigMap")),
+    ('{"apiVersion":"v2","kind":"ConfigMap","metadata":{"name":"x"}}', not_kind("ConfigMap")),
+    ('{"apiVersion":"V1","kind":"ConfigMap","metadata":{"name":"x"}}', not_kind("ConfigMap")),
+    ('{"apiVersion":"v1 ","kind":"ConfigMap","metadata":{"name":"x"}}', not_kind("ConfigMap")),
+    ('{"apiVersion":"","kind":"ConfigMap","metadata":{"name":"x"}}', not_kind("ConfigMap")),
+    ('{"apiVersion":null,"kind":"ConfigMap","metadata":{"name":"x"}}', not_kind("ConfigMap")),
+    ('{"apiVersion":1,"kind":"ConfigMap","metadata":{"name":"x"}}', not_kind("ConfigMap")),
+    ('{"apiVersion":"v1","kind":"configmap","metadata":{"name":"x"}}', not_kind("ConfigMap")),
+    ('{"apiVersion":"v1","kind":"Secret","metadata":{"name":"x"}}', not_kind("ConfigMap")),
+    ('{"apiVersion":"v1","kind":"ConfigMapList","metadata":{"name":"x"}}', not_kind("ConfigMap")),
+    ('{"apiVersion":"v1","kind":null,"metadata":{"name":"x"}}', not_kind("ConfigMap")),
+    ('{"apiVersion":"v1","kind":["ConfigMap"],"metadata":{"name":"x"}}', not_kind("ConfigMap")),
+    # before the metadata
+    ('{"apiVersion":"v1","kind":"Secret"}', not_kind("ConfigMap")),
+    ('{"apiVersion":"v2","kind":"ConfigMap","metadata":[]}', not_kind("ConfigMap")),
+    # metadata
+    ('{"apiVersion":"v1","kind":"ConfigMap"}', missing("metadata")),
+    ('{"apiVersion":"v1","kind":"ConfigMap","Metadata":{"name":"x"}}', missing("metadata")),
+    (cm_metadata("null"), wrong_type("metadata")),
+    (cm_metadata("[]"), wrong_type("metadata")),
+    (cm_metadata('"x"'), wrong_type("metadata")),
+    (cm_metadata("true"), wrong_type("metadata")),
+    # metadata.name
+    (cm_metadata("{}"), missing("metadata.name")),
+    (cm_metadata('{"generateName":"x-"}'), missing("metadata.name")),
+    (cm_metadata('{"name":null}'), wrong_type("metadata.name")),
+    (cm_metadata('{"name":7}'), wrong_type("metadata.name")),
+    (cm_metadata('{"name":["x"]}'), wrong_type("metadata.name")),
+    (cm_metadata('{"name":false}'), wrong_type("metadata.name")),
+    (cm_metadata('{"name":""}'), BAD_NAME),
+    # metadata.namespace
+    (cm_metadata('{"name":"x","namespace":7}'), wrong_type("metadata.namespace")),
+    (cm_metadata('{"name":"x","namespace":{}}'), wrong_type("metadata.namespace")),
+    (cm_metadata('{"name":"x","namespace":null}'), configmap("x")),
+    (cm_metadata('{"name":"x","namespace":"acme"}'), configmap("x")),
+    # metadata.resourceVersion, which a POST doesn't heed
+    (cm_metadata('{"name":"x","resourceVersion":7}'), wrong_type("metadata.resourceVersion")),
+    (cm_metadata('{"name":"x","resourceVersion":["7"]}'), wrong_type("metadata.resourceVersion")),
+    (cm_metadata('{"name":"x","resourceVersion":null}'), configmap("x")),
+    (cm_metadata('{"name":"x","resourceVersion":""}'), configmap("x")),
+    (cm_metadata('{"name":"x","resourceVersion":"7"}'), configmap("x")),
+    (cm_metadata('{"name":"x","resourceVersion":"seven"}'), configmap("x")),
+    # metadata.labels
+    (cm_metadata('{"name":"x","labels":[]}'), wrong_type("metadata.labels")),
+    (cm_metadata('{"name":"x","labels":"a"}'), wrong_type("metadata.labels")),
+    (cm_metadata('{"name":"x","labels":{"a":null}}'), wrong_type("metadata.labels")),
+    (cm_metadata('{"name":"x","labels":{"a":1}}'), wrong_type("metadata.labels")),
+    (cm_metadata('{"name":"x","labels":{"a":"1","b":true}}'), wrong_type("metadata.labels")),
+    (cm_metadata('{"name":"x","labels":{"a":{}}}'), wrong_type("metadata.labels")),
+    (cm_metadata('{"name":"x","labels":null}'), configmap("x")),
+    (cm_metadata('{"name":"x","labels":{}}'), configmap("x")),
+    # metadata.annotations
+    (cm_metadata('{"name":"x","annotations":[]}'), wrong_type("metadata.annotations")),
+    (cm_metadata('{"name":"x","annotations":0}'), wrong_type("metadata.annotations")),
+    (cm_metadata('{"name":"x","annotations":{"a":null}}'), wrong_type("metadata.annotations")),
+    (cm_metadata('{"name":"x","annotations":{"a":1}}'), wrong_type("metadata.annotations")),
+    (cm_metadata('{"name":"x","annotations":{"a":["1"]}}'), wrong_type("metadata.annotations")),
+    (cm_metadata('{"name":"x","annotations":null}'), configmap("x")),
+    (cm_metadata('{"name":"x","annotations":{}}'), configmap("x")),
+    # of two faults the earlier member's goes first
+    (cm_metadata('{"namespace":7}'), missing("metadata.name")),
+    (cm_metadata('{"name":7,"namespace":7}'), wrong_type("metadata.name")),
+    (cm_metadata('{"resourceVersion":7,"name":"x","namespace":7}'), wrong_type("metadata.namespace")),
+    (cm_metadata('{"labels":[],"name":"x","resourceVersion":7}'), wrong_type("metadata.resourceVersion")),
+    (cm_metadata('{"annotations":[],"labels":[],"name":"x"}'), wrong_type("metadata.labels")),
+    # and each of them before another place, and that before the grammar
+    (cm_metadata('{"annotations":[],"name":"x","namespace":"beta"}'), wrong_type("metadata.annotations")),
+    (cm_metadata('{"name":"x","namespace":"beta"}'), OTHER_PLACE),
+    (cm_metadata('{"name":"x","namespace":""}'), OTHER_PLACE),
+    (cm_metadata('{"name":"x","namespace":"Acme"}'), OTHER_PLACE),
+    (cm_metadata('{"name":"X","namespace":"beta"}'), OTHER_PLACE),
+]
+
+
+def bodies(t):
+    t.part("bodies: JSON")
+    t.tries(CONFIGMAPS, JSON_FAULTS)
+    t.part("bodies: whole numbers")
+    t.tries(CONFIGMAPS, NUMBER_FAULTS)
+    t.part("bodies: members of every kind")
+    t.tries(CONFIGMAPS, HEAD_FAULTS)
+
+
+def config(resources, name="c"):
+    return f'{{"apiVersion":"hnc.x-k8s.io/v1alpha2","kind":"HNCConfiguration","metadata":{{"name":"{name}"}},"spec":{resources}}}'
+
+
+def config_kept(*entries):
+    """A configuration of groups, modes and resources."""
+    return thing("HNCConfiguration", "c", spec={"resources": [{"group": group, "mode": mode, "resource": resource} for group, mode, resource in entries]})
+
+
+RESOURCES = wrong_type("spec.resources")
+GROUP = wrong_type("spec.resources.group")
+RESOURCE = wrong_type("spec.resources.resource")
+NO_RESOURCE = missing("spec.resources.resource")
+MODE = wrong_type("spec.resources.mode")
+
+CONFIG_FAULTS = [
+    ('{"apiVersion":"v1","kind":"HNCConfiguration","metadata":{"name":"c"}}', not_kind("HNCConfiguration")),
+    ('{"apiVersion":"hnc.x-k8s.io/v1alpha1","kind":"HNCConfiguration","metadata":{"name":"c"}}', not_kind("HNCConfiguration")),
+    ('{"apiVersion":"hnc.x-k8s.io/v1alpha2","kind":"HncConfiguration","metadata":{"name":"c"}}', not_kind("HNCConfiguration")),
+    ('{"apiVersion":"hnc.x-k8s.io/v1alpha2","kind":"HNCConfiguration","metadata":{"name":"c"}}', config_kept()),
+    (config("null"), config_kept()),
+    (config("{}"), config_kept()),
+    (config('{"resources":null}'), config_kept()),
+    (config('{"resources":[]}'), config_kept()),
+    (config("[]"), RESOURCES),
+    (config('"x"'), RESOURCES),
+    (config("0"), RESOURCES),
+    (config("false"), RESOURCES),
+    (config('{"resources":{}}'), RESOURCES),
+    (config('{"resources":"secrets"}'), RESOURCES),
+    (config('{"resources":["secrets"]}'), RESOURCES),
+    (config('{"resources":[null]}'), RESOURCES),
+    (config('{"resources":[{"resource":"a"},[]]}'), RESOURCES),
+    (config('{"resources":[{"group":1,"resource":"a"},1]}'), RESOURCES),
+    (config('{"resources":[{"group":1,"resource":"a"}]}'), GROUP),
+    (config('{"resources":[{"group":[],"resource":"a"}]}'), GROUP),
+    (config('{"resources":[{"group":null,"resource":"a"}]}'), config_kept(("", "Propagate", "a"))),
+    (config('{"resources":[{"group":"","resource":""}]}'), config_kept(("", "Propagate", ""))),
+    (config('{"resources":[{}]}'), NO_RESOURCE),
+    (config('{"resources":[{"group":"g"}]}'), NO_RESOURCE),
+    (config('{"resources":[{"resource":null}]}'), RESOURCE),
+    (config('{"resources":[{"resource":7}]}'), RESOURCE),
+    (config('{"resources":[{"resource":"a","mode":"propagate"}]}'), MODE),
+    (config('{"resources":[{"resource":"a","mode":"AllowPropagate"}]}'), MODE),
+    (config('{"resources":[{"resource":"a","mode":" Remove"}]}'), MODE),
+    (config('{"resources":[{"resource":"a","mode":1}]}'), MODE),
+    (config('{"resources":[{"resource":"a","mode":["Remove"]}]}'), MODE),
+    (config('{"resources":[{"resource":"a","mode":null}]}'), config_kept(("", "Propagate", "a"))),
+    (config('{"resources":[{"resource":"a","mode":""}]}'), config_kept(("", "Propagate", "a"))),
+    (config('{"resources":[{"resource":"a","mode":"Propagate"},{"resource":"a","mode":"Remove"},{"resource":"b","mode":"Ignore","group":"g"}]}'), config_kept(("", "Propagate", "a"),
+    ("", "Remove", "a"), ("g", "Ignore", "b"))),
+    # all groups, then all resources, then all modes
+    (config('{"resources":[{"group":1}]}'), GROUP),
+    (config('{"resources":[{},{"group":1,"resource":"a"}]}'), GROUP),
+    (config('{"resources":[{"mode":"x","resource":"a"},{"group":1,"resource":"a"}]}'), GROUP),
+    (config('{"resources":[{"mode":"x"}]}'), NO_RESOURCE),
+    (config('{"resources":[{"mode":"x","resource":"a"},{}]}'), NO_RESOURCE),
+    (config('{"resources":[{},{"resource":1}]}'), NO_RESOURCE),
+    (config('{"resources":[{"resource":1},{}]}'), RESOURCE),
+    # the metadata before the members of the kind, and those before another place and the grammar
+    ('{"apiVersion":"hnc.x-k8s.io/v1alpha2","kind":"HNCConfiguration","metadata":{"name":"c","annotations":[]},"spec":[]}', wrong_type("metadata.annotations")),
+    ('{"apiVersion":"hnc.x-k8s.io/v1alpha2","kind":"HNCConfiguration","metadata":{"name":"c","namespace":"acme"},"spec":[]}', RESOURCES),
+    ('{"apiVersion":"hnc.x-k8s.io/v1alpha2","kind":"HNCConfiguration","metadata":{"name":"c","namespace":"acme"},"spec":{"resources":[{"resource":"a","mode":"x"}]}}', MODE),
+    ('{"apiVersion":"hnc.x-k8s.io/v1alpha2","kind":"HNCConfiguration","metadata":{"name":"c","namespace":"acme"}}', OTHER_PLACE),
+    (config("[]", name="C"), RESOURCES),
+]
+
+
+def hierarchy(spec, metadata='{"name":"h"}'):
+    return f'{{"apiVersion":"hnc.x-k8s.io/v1alpha2","kind":"HierarchyConfiguration","metadata":{metadata},"spec":{spec}}}'
+
+
+def hierarchy_kept(**spec):
+    return thing("HierarchyConfiguration", "h", "acme", spec=spec)
+
+
+PARENT = wrong_type("spec.parent")
+CASCADE = wrong_type("spec.allowCascadingDeletion")
+
+HIERARCHY_FAULTS = [
+    ('{"apiVersion":"hnc.x-k8s.io/v1","kind":"HierarchyConfiguration","metadata":{"name":"h"}}', not_kind("HierarchyConfiguration")),
+    ('{"apiVersion":"hnc.x-k8s.io/v1alpha2","kind":"HierarchyConfiguration","metadata":{"name":"h"}}', hierarchy_kept()),
+    (hierarchy("null"), hierarchy_kept()),
+    (hierarchy("{}"), hierarchy_kept()),
+    (hierarchy("[]"), PARENT),
+    (hierarchy('"beta"'), PARENT),
+    (hierarchy("true"), PARENT),
+    (hierarchy('{"parent":1}'), PARENT),
+    (hierarchy('{"parent":["beta"]}'), PARENT),
+    (hierarchy('{"parent":null}'), hierarchy_kept()),
+    (hierarchy('{"parent":""}'), hierarchy_kept()),
+    (hierarchy('{"parent":"No Name"}'), hierarchy_kept(parent="No Name")),
+    (hierarchy('{"allowCascadingDeletion":"true"}'), CASCADE),
+    (hierarchy('{"allowCascadingDeletion":1}'), CASCADE),
+    (hierarchy('{"allowCascadingDeletion":{}}'), CASCADE),
+    (hierarchy('{"allowCascadingDeletion":null}'), hierarchy_kept()),
+    (hierarchy('{"allowCascadingDeletion":false,"parent":"beta"}'), hierarchy_kept(parent="beta")),
+    (hierarchy('{"allowCascadingDeletion":true}'), hierarchy_kept(allowCascadingDeletion=True)),
+    (hierarchy('{"allowCascadingDeletion":1,"parent":1}'), PARENT),
+    (hierarchy('{"parent":1}', '{"name":"h","annotations":1}'), wrong_type("metadata.annotations")),
+    (hierarchy('{"allowCascadingDeletion":1}', '{"name":"h","namespace":"beta"}'), CASCADE),
+    (hierarchy("{}", '{"name":"h","namespace":"beta"}'), OTHER_PLACE),
+]
+
+SECRET_FAULTS = [
+    (thing("Secret", "s", type=1), wrong_type("type")),
+    (thing("Secret", "s", type=["Opaque"]), wrong_type("type")),
+    (thing("Secret", "s", type={}), wrong_type("type")),
+    (thing("Secret", "s", type=None), thing("Secret", "s", "acme", type=None)),
+    (thing("Secret", "s", type=""), thing("Secret", "s", "acme", type="")),
+    (thing("Secret", "s"), thing("Secret", "s", "acme")),
+    (thing("Secret", "s", annotations=[], type=1), wrong_type("metadata.annotations")),
+    (thing("Secret", "s", "beta", type=1), wrong_type("type")),
+    (thing("Secret", "S", "beta"), OTHER_PLACE),
+    (thing("Secret", "S", type=1), wrong_type("type")),
+    (thing("ConfigMap", "s", type=1), not_kind("Secret")),
+]
+
+
+def own_members(t):
+    t.part("bodies: members of configurations")
+    t.tries(CONFIGS, CONFIG_FAULTS)
+    t.part("bodies: members of hierarchies")
+    t.tries(HIERARCHIES, HIERARCHY_FAULTS)
+    t.part("bodies: types of Secrets")
+    t.tries(SECRETS, SECRET_FAULTS)
+    t.tries(CONFIGMAPS, [(cm('"spec":1,"type":5'), configmap("x", spec=1, type=5))])
+
+
+def replacements(t):
+    t.part("bodies: replacements")
+    one = f"{CONFIGMAPS}/x"
+    stored = t.creates(post(CONFIGMAPS, MINIMAL), configmap("x"))
+    t.shows(put(one, cm_metadata("{}")), stored)
+    t.shows(put(one, cm_metadata('{"name":null,"namespace":null}')), stored)
+    t.shows(put(one, cm_metadata('{"name":"x","namespace":"acme","resourceVersion":null}')), stored)
+    version = stored["metadata"]["resourceVersion"]
+    for metadata, wanted in [
+        ("null", wrong_type("metadata")),
+        ('{"name":7}', wrong_type("metadata.name")),
+        ('{"name":7,"namespace":7}', wrong_type("metadata.name")),
+        ('{"resourceVersion":7}', wrong_type("metadata.resourceVersion")),
+        ('{"resourceVersion":7,"name":"y"}', wrong_type("metadata.resourceVersion")),
+        ('{"name":"y"}', OTHER_PLACE),
+        ('{"name":""}', OTHER_PLACE),
+        ('{"name":"X"}', OTHER_PLACE),
+        ('{"namespace":"beta"}', OTHER_PLACE),
+        ('{"namespace":"beta","labels":{"-":""}}', OTHER_PLACE),
+        ('{"labels":{"-":""},"resourceVersion":"7"}', BAD_LABEL),
+        ('{"resourceVersion":"7"}', has_version("configmaps", "x", version)),
+        ('{"resourceVersion":"x"}', has_version("configmaps", "x", version)),
+    ]:
+        t.refuses(put(one, cm_metadata(metadata)), wanted)
+    t.refuses(put(one, ""), NOT_JSON)
+    t.refuses(put(one, '{"apiVersion":"v1","kind":"ConfigMap"}'), missing("metadata"))
+    t.refuses(put(f"{CONFIGMAPS}/X", cm_metadata("{}")), BAD_NAME)
+    t.refuses(put(f"{CONFIGMAPS}/X", cm_metadata('{"name":"x"}')), OTHER_PLACE)
+    t.refuses(put("/api/v1/namespaces/ACME/configmaps/x", cm_metadata("{}")), BAD_NAME)
+    t.refuses(put(f"{CONFIGMAPS}/y", cm_metadata('{"resourceVersion":"7"}')), not_found("configmaps", "y"))
+    t.refuses(put("/api/v1/namespaces/none/configmaps/x", cm_metadata("{}")), not_found("configmaps", "x"))
+    t.changes(put(one, cm_metadata('{"annotations":{"a":"1"}}')), configmap("x", annotations={"a": "1"}))
+    t.changes(put(one, cm_metadata('{"annotations":{"a":"1"},"labels":{"a":"1"}}')), configmap("x", annotations={"a": "1"}, labels={"a": "1"}))
+    t.changes(put(one, cm('"data":{"b":1,"a":[]}')), configmap("x", data={"a": [], "b": 1}))
+    stored = t.changes(put(one, cm('"data":{"a":[],"b":2}')), configmap("x", data={"a": [], "b": 2}))
+    t.shows(put(one, cm('"data" : {"b":2,"a":[]}')), stored)
+    t.removes(delete(one))
+
+
+# ---- names
+
+LONG_NAME = "a" * 253
+
+NAMESPACE_NAMES = [
+    ("", False), ("a", True), ("7", True), ("a" * 63, True), ("a" * 64, False), ("a-b", True), ("a--b", True),
+    ("0-9", True), ("-a", False), ("a-", False), ("-", False), ("A", False), ("aB", False),
+    ("a.b", False), ("a_b", False), ("a b", False), ("a/b", False), ("é", False), ("a\n", False),
+]
+
+SUBDOMAIN_NAMES = [
+    ("", False), ("a", True), ("0", True), ("a" * 63, True), ("a" * 64, True), (LONG_NAME, True),
+    (LONG_NAME + "a", False), ("a.b", True), ("a.b-c.d", True), ("1.2", True), ("a.", False), (".a", False),
+    ("a..b", False), (".", False), ("a-.b", False), ("a.-b", False), ("-a", False), ("a-", False), ("A", False),
+    ("a.B", False), ("a_b", False), ("a/b", False), ("a:b", False), ("a b", False), ("é", False),
+    ("a." * 126 + "a", True), ("a." * 126 + "aa", False),
+]
+
+ROLE_NAMES = [
+    ("", False), ("a", True), ("A", True), ("!", True), ("~", True), ("_", True), ("-", True), ("system:a", True),
+    ("a" * 253, True), ("a" * 254, False), (".", False), ("..", False), ("...", True), (".a", True),
+    ("a/b", False), ("/", False), ("a%b", False), ("%", False), ("a b", False), (" ", False), ("\u007f", False),
+    ("é", False), ("\u001f", False), ('"', True), ("\\", True),
+]
+
+
+def names(t):
+    t.part("bodies: names")
+    for name, fits in NAMESPACE_NAMES:
+        t.tries(NAMESPACES, [(thing("Namespace", name), namespace(name) if fits else BAD_NAME)])
+    for name, fits in SUBDOMAIN_NAMES:
+        t.tries(CONFIGMAPS, [(thing("ConfigMap", name), configmap(name) if fits else BAD_NAME)])
+    for name, fits in ROLE_NAMES:
+        t.tries(ROLES, [(thing("Role", name), thing("Role", name, "acme") if fits else BAD_NAME)])
+    t.tries(ROLES.replace("roles", "rolebindings"), [(thing("RoleBinding", "A:b"), thing("RoleBinding", "A:b", "acme")), (thing("RoleBinding", "a/b"), BAD_NAME)])
+    t.tries(CONFIGS, [(thing("HNCConfiguration", "C"), BAD_NAME), (thing("HNCConfiguration", "c.d"), thing("HNCConfiguration", "c.d", spec={"resources": []}))])
+    t.tries(HIERARCHIES, [(thing("HierarchyConfiguration", "h_"), BAD_NAME), (thing("HierarchyConfiguration", LONG_NAME), thing("HierarchyConfiguration", LONG_NAME, "acme", spec={}))])
+    t.tries(SERVICES, [(thing("Service", "1.a"), thing("Service", "1.a", "acme")), (thing("Service", "Web"), BAD_NAME)])
+    for ns in ("ACME", "a.b", "-a", "a" * 64, "a%2Fb", "%20"):
+        t.refuses(post(f"/api/v1/namespaces/{ns}/configmaps", MINIMAL), BAD_NAME)
+    t.refuses(post(f"/api/v1/namespaces/{'b' * 63}/configmaps", MINIMAL), not_found("namespaces", "b" * 63))
+    # before labels and sizes, and before what is stored
+    t.refuses(post("/api/v1/namespaces/none/configmaps", thing("ConfigMap", "X")), BAD_NAME)
+    t.tries(NAMESPACES, [(thing("Namespace", "A", labels={"-": ""}), BAD_NAME)])
+    t.tries(CONFIGMAPS, [(thing("ConfigMap", "X", annotations={"-": ""}), BAD_NAME), (thing("ConfigMap", "", labels={"-": ""}), BAD_NAME)])
+
+
+# ---- labels and annotations
+
+# Keys, whether labels may have them, and whether annotations may.
+KEYS = [
+    ("", False, False), ("a", True, True), ("A", True, True), ("0", True, True), ("a" * 63, True, True),
+    ("a" * 64, False, False), ("a-b_c.d", True, True), ("-a", False, False), ("a-", False, False),
+    ("_a", False, False), ("a_", False, False), (".a", False, False), ("a.", False, False), ("a b", False, False),
+    ("é", False, False), ("/a", False, False), ("a/", False, False), ("a/b/c", False, False), ("a//b", False, False),
+    ("a/b", True, True), ("a.b/C_d", True, True), ("A/b", False, True), ("a.B/c", False, True), ("a_b/c", False, False),
+    ("-a/b", False, False), ("a-/b", False, False), ("a../b", False, False), ("a./b", False, False),
+    (LONG_NAME + "/a", True, True), (LONG_NAME + "a/a", False, False), ("a/" + "b" * 63, True, True),
+    ("a/" + "b" * 64, False, False), ("a/-b", False, False),
+]
+
+# Values of labels. An annotation's value is any text.
+LABEL_VALUES = [
+    ("", True), ("a", True), ("A.b_c-9", True), ("0", True), ("a" * 63, True), ("a" * 64, False), ("-", False),
+    ("-a", False), ("a-", False), ("_a", False), ("a.", False), ("a/b", False), ("a b", False), (" ", False),
+    ("é", False),
+]
+
+
+def labels(t):
+    t.part("bodies: labels and annotations")
+    for key, for_label, for_annotation in KEYS:
+        t.tries(CONFIGMAPS, [
+            (thing("ConfigMap", "x", labels={key: "v"}), configmap("x", labels={key: "v"}) if for_label else BAD_LABEL),
+            (thing("ConfigMap", "x", annotations={key: "v"}), configmap("x", annotations={key: "v"}) if for_annotation else BAD_LABEL),
+        ])
+    for value, fits in LABEL_VALUES:
+        t.tries(CONFIGMAPS, [
+            (thing("ConfigMap", "x", labels={"a": value}), configmap("x", labels={"a": value}) if fits else BAD_LABEL),
+            (thing("ConfigMap", "x", annotations={"a": value}), configmap("x", annotations={"a": value})),
+        ])
+    t.tries(CONFIGMAPS, [
+        (thing("ConfigMap", "x", labels={"a": "b", "z": "-"}), BAD_LABEL),
+        (thing("ConfigMap", "x", labels={"a": "b"}, annotations={"-": ""}), BAD_LABEL),
+    ])
+
+
+# Labels that don't count.
+UNCOUNTED = {"acme.tree.hnc.x-k8s.io/depth": "0", "x.tree.hnc.x-k8s.io/depth": "1", "hnc.x-k8s.io/included-namespace": "true", "hnc.x-k8s.io/inherited-from": "beta"}
+
+
+def some_labels(count):
+    return {f"k{number}": "" for number in range(count)}
+
+
+def sizes(t):
+    t.part("bodies: numbers of labels and sizes")
+    t.tries(CONFIGMAPS, [
+        (thing("ConfigMap", "x", labels=some_labels(256)), configmap("x", labels=some_labels(256))),
+        (thing("ConfigMap", "x", labels=some_labels(257)), TOO_MANY_LABELS),
+        (thing("ConfigMap", "x", labels={**some_labels(256), **UNCOUNTED}), configmap("x", labels={**some_labels(256), **UNCOUNTED})),
+        (thing("ConfigMap", "x", labels={**some_labels(256), "tree.hnc.x-k8s.io/depth": "0"}), TOO_MANY_LABELS),
+        (thing("ConfigMap", "x", labels={**some_labels(256), "hnc.x-k8s.io/managed-by": ""}), TOO_MANY_LABELS),
+        (thing("ConfigMap", "x", labels={**some_labels(256), "-": ""}), BAD_LABEL),
+        (thing("ConfigMap", "x", labels=some_labels(257), annotations={"-": ""}), BAD_LABEL),
+    ])
+    # `{"data":".."}` has 11 bytes beside the text, the label 2 and the annotation 6. `é` has two bytes, and a
+    # quotation mark is written in two. Labels that don't count have none
+    full = {"labels": {"a": "b", **UNCOUNTED}, "annotations": {"a": 'é"\n\n'}}
+    t.tries(CONFIGMAPS, [
+        (thing("ConfigMap", "x", data='"é' + "a" * 65513, **full), configmap("x", data='"é' + "a" * 65513, **full)),
+        (thing("ConfigMap", "x", data='"é' + "a" * 65514, **full), TOO_LARGE),
+        (thing("ConfigMap", "x", data="a" * 65526, labels=some_labels(257)), TOO_MANY_LABELS),
+    ])
+    # a namespace has 2 bytes beside its labels and annotations
+    t.tries(NAMESPACES, [(thing("Namespace", "over", annotations={"a": "é" * 32766 + "aa"}), TOO_LARGE)])
+
+
+# ---- targets
+
+# All kinds: the prefix, the plural, the resource, and whether they lie in no namespace.
+ALL_KINDS = [
+    ("Namespace", "/api/v1", "namespaces", "namespaces", True),
+    ("HNCConfiguration", "/apis/hnc.x-k8s.io/v1alpha2", "hncconfigurations", "hncconfigurations.hnc.x-k8s.io", True),
+    ("HierarchyConfiguration", "/apis/hnc.x-k8s.io/v1alpha2", "hierarchyconfigurations", "hierarchyconfigurations.hnc.x-k8s.io", False),
+    ("SubnamespaceAnchor", "/apis/hnc.x-k8s.io/v1alpha2", "subnamespaceanchors", "subnamespaceanchors.hnc.x-k8s.io", False),
+    ("HierarchicalResourceQuota", "/apis/hnc.x-k8s.io/v1alpha2", "hierarchicalresourcequotas", "hierarchicalresourcequotas.hnc.x-k8s.io", False),
+    ("Role", "/apis/rbac.authorization.k8s.io/v1", "roles", "roles.rbac.authorization.k8s.io", False),
+    ("RoleBinding", "/apis/rbac.authorization.k8s.io/v1", "rolebindings", "rolebindings.rbac.authorization.k8s.io", False),
+    ("ConfigMap", "/api/v1", "configmaps", "configmaps", False),
+    ("Secret", "/api/v1", "secrets", "secrets", False),
+    ("NetworkPolicy", "/apis/networking.k8s.io/v1", "networkpolicies", "networkpolicies.networking.k8s.io", False),
+    ("LimitRange", "/api/v1", "limitranges", "limitranges", False),
+    ("Pod", "/api/v1", "pods", "pods", False),
+    ("Service", "/api/v1", "services", "services", False),
+    ("PersistentVolumeClaim", "/api/v1", "persistentvolumeclaims", "persistentvolumeclaims", False),
+]
+
+OUTSIDE = [
+    "/", "//", "/?watch=1", "/api", "/api/", "/api/v1", "/api/v1/", "/API/v1/pods", "/api/V1/pods", "/api/v2/pods",
+    "/api/v1/pods/", "/api/v1//pods", "//api/v1/pods", "/api/v1/Pods", "/api/v1/pod", "/api/v1/namespace",
+    "/api/v1/namespaces/", "/api/v1/namespaces//pods", "/api/v1/namespaces/n/pods/", "/api/v1/namespaces/n//a",
+    "/api/v1/namespaces/n/pods/a/", "/api/v1/namespaces/n/pods/a/b", "/api/v1/namespaces/n/namespaces",
+    "/api/v1/namespaces/n/namespaces/a", "/api/v1/namespace/n/pods", "/api/v1/Namespaces/n/pods", "/api/v1/pods/a/b",
+    "/api%2Fv1/pods", "/api/v1/%70ods", "/api/v1/roles", "/api/v1/namespaces/n/roles/a", "/api/v1/events",
+    "/apis", "/apis/v1/pods", "/apis/hnc.x-k8s.io/v1alpha2", "/apis/hnc.x-k8s.io/v1/hncconfigurations",
+    "/apis/hnc.x-k8s.io/v1alpha2/roles", "/apis/hnc.x-k8s.io/v1alpha2/namespaces/n/hncconfigurations",
+    "/apis/hnc.x-k8s.io/v1alpha2/namespaces", "/apis/hnc.x-k8s.io/v1alpha2/namespaces/n",
+    "/apis/rbac.authorization.k8s.io/v1beta1/roles", "/apis/rbac.authorization.k8s.io/v1/configmaps",
+    "/apis/rbac.authorization.k8s.io/v1/clusterroles", "/hnc", "/hnc/v1", "/hnc/v1/event", "/hnc/v1/events/",
+    "/hnc/v1/events/a", "/hnc/v2/events?since=0", "/healthz", "/api/v1/pods#a", "/%61pi/v1/pods",
+]
+
+# Segments of an object's path, and the name that they stand for.
+SEGMENTS = [
+    ("a%2Fb", "a/b"), ("a%2fb", "a/b"), ("%6eone", "none"), ("%6Eone", "none"), ("%", "%"), ("%4", "%4"),
+    ("%zz", "%zz"), ("%%6e", "%n"), ("a+b", "a+b"), ("a%2Bb", "a+b"), ("a%20b", "a b"), ("%00", "\u0000"),
+    ("%c3%a9", "é"), ("é", "é"), ("a#", "a#"),
+    ("%22", '"'), ("%5C", "\\"), ("a&b=c", "a&b=c"), ("%3F", "?"), ("%2525", "%25"), (";", ";"), ("..", ".."),
+    ("%F0%9F%98%80", "😀"), ("x" * 300, "x" * 300),
+]
+
+# Methods that a path doesn't take.
+METHODS = [
+    ("PUT", NAMESPACES), ("DELETE", NAMESPACES), ("POST", f"{NAMESPACES}/acme"), ("POST", "/api/v1/configmaps"),
+    ("POST", "/api/v1/pods"), ("PUT", "/api/v1/configmaps"), ("DELETE", "/api/v1/configmaps"), ("PUT", CONFIGMAPS),
+    ("DELETE", CONFIGMAPS), ("POST", f"{CONFIGMAPS}/x"), ("PUT", CONFIGS), ("DELETE", CONFIGS),
+    ("POST", f"{CONFIGS}/c"), ("POST", "/apis/rbac.authorization.k8s.io/v1/roles"), ("POST", "/hnc/v1/events"),
+    ("PUT", "/hnc/v1/events"), ("DELETE", "/hnc/v1/events"),
+]
+
+# What a list of Pods answers to a query: nothing, or the refusal.
+QUERIES = [
+    ("", None), ("limit=5&pretty", None), ("watch", None), ("watch=", None), ("watch=1", bad_query("watch")),
+    ("watch=0", bad_query("watch")), ("watch=false", bad_query("watch")), ("watch=&watch=1", None),
+    ("watch=1&watch=", bad_query("watch")),
+    ("%77atch=1", bad_query("watch")), ("watch=%20", bad_query("watch")), ("watch=+", bad_query("watch")),
+    ("watch=%ff", bad_query("watch")), ("Watch=1", None), ("watch+=1", None), ("a=b;watch=1", None), ("?watch=1", None),
+    ("&&watch=1", bad_query("watch")), ("=1", None),
+    ("fieldSelector=a%3Db", bad_query("fieldSelector")), ("fieldSelector=", None), ("dryRun=All", bad_query("dryRun")),
+    ("dryRun", None), ("continue=x", bad_query("continue")), ("continue=", None), ("admission=skip", None),
+    ("admission=sk%69p", None),
+    ("admission=skip&admission=x", None), ("admission=x&admission=skip", bad_query("admission")),
+    ("admission=", bad_query("admission")), ("admission", bad_query("admission")),
+    ("admission=Skip", bad_query("admission")), ("admission=skip+", bad_query("admission")), ("since=x", None),
+    ("labelSelector=", None), ("labelSelector", None), ("labelSelector=a", NOT_SERVED),
+    ("labelSelector=a%3Db", NOT_SERVED), ("%6cabelSelector=+", NOT_SERVED), ("labelSelector=&labelSelector=a", None),
+    ("limit=1&labelSelector=a", NOT_SERVED),
+    # of two the earlier in their order goes first
+    ("watch=1&admission=x", bad_query("admission")), ("fieldSelector=1&watch=1", bad_query("watch")),
+    ("dryRun=1&fieldSelector=1", bad_query("fieldSelector")), ("continue=x&dryRun=1", bad_query("dryRun")),
+    ("labelSelector=a&continue=x", bad_query("continue")),
+    ("continue=x&dryRun=1&fieldSelector=1&watch=1&admission=x", bad_query("admission")),
+]
+
+FEED = [
+    ("", bad_query("since")), ("?", bad_query("since")), ("?since", bad_query("since")),
+    ("?since=", bad_query("since")), ("?since=01", bad_query("since")), ("?since=+1", bad_query("since")),
+    ("?since=-1", bad_query("since")), ("?since=1x", bad_query("since")),
+    ("?since=1%20", bad_query("since")), ("?since=12345678901234567890", bad_query("since")),
+    ("?since=x&since=1", bad_query("since")), ("?since=0", NOT_SERVED), ("?since=1&since=x", NOT_SERVED),
+    ("?since=%31", NOT_SERVED), ("?since=1234567890123456789", NOT_SERVED),
+    ("?since=9999999999999999999", NOT_SERVED), ("?since=0&admission=skip", NOT_SERVED),
+    ("?since=0&labelSelector=a", NOT_SERVED), ("?since=x&admission=no", bad_query("admission")),
+    ("?since=x&watch=1", bad_query("since")), ("?since=0&watch=1", bad_query("watch")),
+    ("?since=0&continue=1", bad_query("continue")),
+]
+
+# Lines with two faults.
+ORDERS = [
+    ("PUT /api/v1/namespaces//x", NO_PATH),
+    ("POST /api/v1/pods/a?watch=1 {", NO_PATH),
+    ("DELETE /api/v1/namespaces/n/roles/%ff", NO_PATH),
+    ("POST /api/v1/namespaces/%ff {", NO_METHOD),
+    ("DELETE /api/v1/namespaces?admission=x", NO_METHOD),
+    ("POST /api/v1/pods {", NO_METHOD),
+    ("PUT /api/v1/namespaces/n/pods {", NO_METHOD),
+    ("GET /api/v1/namespaces/%ff?watch=1", BAD_PATH),
+    ("POST /api/v1/namespaces/%ff/pods {", BAD_PATH),
+    ("PUT /api/v1/namespaces/%ff/configmaps/a {", BAD_PATH),
+    ("PUT /api/v1/namespaces/a/configmaps/%C3 {", BAD_PATH),
+    ("DELETE /api/v1/namespaces/%ed%a0%80", BAD_PATH),
+    ("DELETE /api/v1/namespaces/acme?dryRun=All", bad_query("dryRun")),
+    ("POST /api/v1/namespaces/n/pods?dryRun=All {", bad_query("dryRun")),
+    ("PUT /api/v1/namespaces/n/configmaps/a?admission=no {", bad_query("admission")),
+    ("POST /api/v1/namespaces/n/pods {", NOT_SERVED),
+    ("PUT /api/v1/namespaces/n/persistentvolumeclaims/A {", NOT_SERVED),
+    ("POST /apis/hnc.x-k8s.io/v1alpha2/namespaces/N/subnamespaceanchors", NOT_SERVED),
+    ("PUT /apis/hnc.x-k8s.io/v1alpha2/namespaces/n/hierarchicalresourcequotas/a", NOT_SERVED),
+    ("DELETE /api/v1/namespaces/N", NOT_SERVED),
+    ("POST /api/v1/namespaces/none/configmaps {", NOT_JSON),
+]
+
+
+def target_kinds(t):
+    t.part("targets: kinds")
+    for kind, prefix, plural, resource, in_cluster in ALL_KINDS:
+        if in_cluster:
+            t.refuses(get(f"{prefix}/{plural}/none"), not_found(resource, "none"))
+            t.refuses(get(f"{prefix}/namespaces/n/{plural}"), NO_PATH)
+            t.refuses(get(f"{prefix}/namespaces/n/{plural}/none"), NO_PATH)
+        else:
+            t.lists(get(f"{prefix}/{plural}"), kind, [])
+            t.lists(get(f"{prefix}/namespaces/n/{plural}"), kind, [])
+            t.refuses(get(f"{prefix}/namespaces/n/{plural}/none"), not_found(resource, "none"))
+            t.refuses(delete(f"{prefix}/namespaces/n/{plural}/none"), not_found(resource, "none"))
+            t.refuses(get(f"{prefix}/{plural}/none"), NO_PATH)
+        t.refuses(get(f"/apis{prefix}/{plural}"), NO_PATH)
+
+
+def outside(t):
+    t.part("targets: paths that aren't served")
+    for target in OUTSIDE:
+        t.refuses(get(target), NO_PATH)
+
+
+def segments(t):
+    t.part("targets: segments")
+    for segment, name in SEGMENTS:
+        t.refuses(get(f"{NAMESPACES}/{segment}"), not_found("namespaces", name))
+        t.refuses(delete(f"/api/v1/namespaces/{segment}/pods/{segment}"), not_found("pods", name))
+        t.lists(get(f"/api/v1/namespaces/{segment}/pods"), "Pod", [])
+    for segment in ("%ff", "%C3", "%c3%28", "a%80", "%ed%a0%80", "%c0%80"):
+        t.refuses(get(f"{NAMESPACES}/{segment}"), BAD_PATH)
+        t.refuses(get(f"{NAMESPACES}/{segment}/pods"), BAD_PATH)
+        t.refuses(get(f"{NAMESPACES}/{segment}/pods/a"), BAD_PATH)
+        t.refuses(get(f"{NAMESPACES}/n/pods/{segment}"), BAD_PATH)
+
+
+def decoded_segments(t):
+    t.part("targets: segments that name what is stored")
+    stored = t.creates(post(f"{NAMESPACES}/%61c%6De/configmaps", MINIMAL), configmap("x"))
+    t.shows(get(f"{NAMESPACES}/acm%65/configmaps/%78?limit=1"), stored)
+    t.shows(put(f"{NAMESPACES}/acm%65/configmaps/%78", MINIMAL), stored)
+    t.removes(delete(f"{NAMESPACES}/acm%65/configmaps/%78"))
+    role = t.creates(post(ROLES, thing("Role", "a?b#c")), thing("Role", "a?b#c", "acme"))
+    t.shows(get(f"{ROLES}/a%3Fb#c"), role)
+    t.shows(get(f"{ROLES}/a%3fb%23c?x"), role)
+    t.refuses(get(f"{ROLES}/a?b#c"), not_found("roles.rbac.authorization.k8s.io", "a"))
+    t.removes(delete(f"{ROLES}/a%3Fb%23c"))
+
+
+def methods(t):
+    t.part("targets: methods")
+    for method, target in METHODS:
+        t.refuses(f"{method} {target}", NO_METHOD)
+
+
+def queries(t):
+    t.part("targets: queries")
+    for query, wanted in QUERIES:
+        if wanted is None:
+            t.lists(get(f"/api/v1/pods?{query}"), "Pod", [])
+        else:
+            t.refuses(get(f"/api/v1/pods?{query}"), wanted)
+    t.refuses(get(f"{NAMESPACES}?labelSelector=a"), NOT_SERVED)
+    t.refuses(get(f"{NAMESPACES}/none?labelSelector=a"), not_found("namespaces", "none"))
+    t.refuses(get(f"{NAMESPACES}/none#?watch=1"), bad_query("watch"))
+    t.refuses(delete(f"{SERVICES}/none?admission=skip"), not_found("services", "none"))
+    t.refuses(delete(f"{SERVICES}/none?labelSelector=a"), not_found("services", "none"))
+    t.refuses(delete(f"{SERVICES}/none?continue=a"), bad_query("continue"))
+    stored = t.creates(post(f"{CONFIGMAPS}?admission=skip&watch=", MINIMAL), configmap("x"))
+    t.shows(put(f"{CONFIGMAPS}/x?admission=skip&labelSelector=a", MINIMAL), stored)
+    t.removes(delete(f"{CONFIGMAPS}/x?admission=skip"))
+
+
+def feed(t):
+    t.part("targets: the feed of events")
+    for query, wanted in FEED:
+        t.refuses(get(f"/hnc/v1/events{query}"), wanted)
+
+
+def orders(t):
+    t.part("targets: of two faults the earlier")
+    for line, wanted in ORDERS:
+        t.refuses(line, wanted)
+
+
+# ---- lines
+
+# Lines in no form.
+FORMLESS = [
+    " ", "x", "GET", "GET ", "GET  ", "GET x", "GET  /x", "GET /x ", "GET /x y", "GET /x  ", "GET\t/x", "DELETE",
+    "DELETE x", "DELETE /x ", "DELETE /x {}", "POST", "POST ", "POST x", "POST x {}", "POST  /x {}", "PUT", "PUT ",
+    "PUT x {}", "PUT  /x",
+    " GET /x", "\tGET /x", "get /x", "Get /x", "GETS /x", "post /x {}", "Post /x {}", "put /x {}", "delete /x",
+    "PATCH /x {}", "HEAD /x", "OPTIONS /x", "GET http://x/", "GET %2Fx", "GET ?x", "/x", "{}", " # x", "\ufeffGET /x",
+    "//", "; x", "\u0000",
+]
+
+# Lines for reconcilers.
+WORKERS = [
+    "check", "take 1", "take 64", "take 9 tree acme", "take 1 report acme", "take 1 purge acme",
+    "take 1 copy acme roles system:a", "take 1 copy acme rolebindings A", "take 1 copy acme configmaps a.b",
+    "take 1 copy acme secrets a", "take 1 copy acme networkpolicies a",
+    "take 1 copy acme limitranges a", "take 1 child acme beta", "take 1 anchor acme beta", "take 1 used acme a.b",
+    "finish 1", "finish 64", "drop 1", "drop 64", "settle 0", "settle 1", "settle 1000000000",
+]
+
+# Lines that are almost such.
+NO_WORKERS = [
+    "check ", "check 1", "Check", "take", "take ", "take 0", "take 65", "take 01", "take +1", "take -1", "take 1 ",
+    "take 1x", "take  1", "take 1 tree", "take 1 tree ", "take 1 tree Acme", "take 1 tree acme ", "take 1 tree acme x",
+    "take 1  tree acme", "take 1 shrub acme", "take 0 tree acme",
+    "take 1 copy acme pods a", "take 1 copy acme services a", "take 1 copy acme roles", "take 1 copy acme roles .",
+    "take 1 copy acme configmaps A", "take 1 copy acme", "take 1 child acme", "take 1 child acme b.c",
+    "take 1 anchor acme b.c", "take 1 used acme A", "take 1 used ACME a",
+    "finish", "finish ", "finish 0", "finish 65", "finish 1 x", "drop", "drop 0", "drop 1 ", "settle", "settle ",
+    "settle -1", "settle 00", "settle 01", "settle 1000000001", "settle 99999999999", "settle 18446744073709551616",
+    "Take 1", " take 1",
+]
+
+LONGEST = 131_072
+
+
+def silent_lines(t):
+    t.part("lines: those that answer nothing")
+    for line in ("", "\r", "#", "#\r", "# GET /x", "#GET /x\r", "##", "#\u0000"):
+        t.silent(line)
+    t.silent(b"# \xff")
+
+
+def line_ends(t):
+    t.part("lines: ends")
+    t.refuses("GET /x\r", NO_PATH)
+    t.refuses(f"GET {NAMESPACES}/none\r", not_found("namespaces", "none"))
+    t.refuses(f"GET {NAMESPACES}/none\r\r", not_found("namespaces", "none\r"))
+    t.refuses(f"GET {NAMESPACES}/no\rne", not_found("namespaces", "no\rne"))
+    t.refuses("\r\r", BAD_LINE)
+    t.refuses("\r# x", BAD_LINE)
+    t.refuses("take 1\r", NOT_SERVED)
+    t.refuses("take 1\r\r", BAD_LINE)
+    stored = t.creates(post(CONFIGMAPS, MINIMAL) + "\r", configmap("x"))
+    t.shows(post(CONFIGMAPS, MINIMAL).replace("POST", "PUT").replace("configmaps ", "configmaps/x ") + "\r\r", stored)
+    t.removes(delete(f"{CONFIGMAPS}/x\r"))
+
+
+def line_forms(t):
+    t.part("lines: forms")
+    for line in FORMLESS:
+        t.refuses(line, BAD_LINE)
+    t.refuses("GET /", NO_PATH)
+    t.refuses("POST /", NO_PATH)
+    t.refuses("POST / ", NO_PATH)
+    t.refuses("PUT / x", NO_PATH)
+    t.refuses("DELETE /", NO_PATH)
+    t.refuses(f"POST {CONFIGMAPS}", NOT_JSON)
+    t.refuses(f"POST {CONFIGMAPS} ", NOT_JSON)
+    t.refuses(f"PUT {CONFIGMAPS}/x", NOT_JSON)
+    t.refuses(f"PUT {CONFIGMAPS}/x ", NOT_JSON)
+    t.refuses(f"POST {NAMESPACES}", NOT_JSON)
+
+
+def line_bytes(t):
+    t.part("lines: bytes that aren't UTF-8")
+    t.refuses(b"GET /api/v1/namespaces/\xff", BAD_LINE)
+    t.refuses(b"GET /\xc3", BAD_LINE)
+    t.refuses(b"POST /\xff {}", BAD_LINE)
+    t.refuses(b"\xff", BAD_LINE)
+    t.refuses(b"GET\xff /x", BAD_LINE)
+    t.refuses(b"take 1 copy acme configmaps \xff", BAD_LINE)
+    t.refuses(b"take 1 copy acme roles \xff", BAD_LINE)
+    collection = CONFIGMAPS.encode()
+    t.refuses(b"POST " + collection + b" \xff", NOT_JSON)
+    t.refuses(b"POST " + collection + b' {"apiVersion":"v1","kind":"ConfigMap","metadata":{"name":"x"},"a":"\xff"}', NOT_JSON)
+    t.refuses(b"POST " + collection + b' {"apiVersion":"v1","kind":"ConfigMap","metadata":{"name":"x"},"a":"\xed\xa0\x80"}', NOT_JSON)
+    t.refuses(b"POST " + collection + b' {"apiVersion":"v1","kind":"ConfigMap","metadata":{"name":"x"},"a":1.5,"b":"\xc3"}', NOT_JSON)
+    t.refuses(b"PUT " + collection + b"/x " + MINIMAL.encode() + b"\x80", NOT_JSON)
+    t.refuses(b"POST /x \xff", NO_PATH)
+
+
+def worker_lines(t):
+    t.part("lines: reconcilers")
+    for line in WORKERS:
+        t.refuses(line, NOT_SERVED)
+    for line in NO_WORKERS:
+        t.refuses(line, BAD_LINE)
+
+
+def lengths(t):
+    t.part("lines: lengths")
+    asked = post(CONFIGMAPS, MINIMAL)
+    # a carriage return at the end doesn't count
+    t.creates(asked.ljust(LONGEST) + "\r", configmap("x"))
+    t.refuses(post(CONFIGMAPS, MINIMAL).ljust(LONGEST + 1), TOO_LONG)
+    t.removes(delete(f"{CONFIGMAPS}/x"))
+    # the last line has no end
+    t.refuses(f"GET {NAMESPACES}/none\r", not_found("namespaces", "none"))
+
+
+PARTS = [
+    namespaces,
+    configurations,
+    stored_kinds,
+    order_of_lists,
+    unwritten_kinds,
+    users_members,
+    bodies,
+    own_members,
+    replacements,
+    names,
+    labels,
+    sizes,
+    target_kinds,
+    outside,
+    segments,
+    decoded_segments,
+    methods,
+    queries,
+    feed,
+    orders,
+    silent_lines,
+    line_ends,
+    line_forms,
+    line_bytes,
+    worker_lines,
+    lengths,
+]
+
+
+def table():
+    t = Table()
+    for part in PARTS:
+        part(t)
+    return t
+
+
+def main():
+    t = table()
+    if sys.argv[1:] == ["script"]:
+        sys.stdout.buffer.write(b"\n".join(t.lines))
+    elif sys.argv[1:] == ["answers"]:
+        sys.stdout.buffer.write("".join(f"{answer}\n" for answer in t.answers).encode())
+    elif sys.argv[1:] == ["rows"]:
+        for title, count in t.parts:
+            print(f"{count:5} {title}")
+    else:
+        sys.exit(__doc__)
+
+
+if __name__ == "__main__":
+    main()

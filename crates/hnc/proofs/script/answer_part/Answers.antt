@@ -1,6 +1,0 @@
-use Rattle.std.proofs.Common.{◌∙◌, sym}
-use Rattle.hnc.proofs.Running.{Does-quiet}
-use Rattle.hnc.proofs.script.answer_part.Goals as goal
-
-pub returns-then-not-is_asking-clause-does : goal.returns-then-not-is_asking-clause-does
-returns-then-not-is_asking-clause-does g c = Does-quiet c.args.part.now c.without_return-line.result.now _ _ c.without_return-line.ensures (sym c.is_asking.ensures ∙ c.if-not-is_asking.true)
