@@ -1,7 +1,7 @@
 -- What counts, where no anchors are stored, and how many may.
 --     names_served     the names are those of the namespaces
 --     objects_fit      at most as many objects count as there are
-use Rattle.std.proofs.Common.{◌≡◌, ◌≤◌, ◌+◌, ℕ, Bool, true, false, cond, not, ◌&&◌, ◌||◌, List, [], ◌∷◌, None, Some, refl, sym, ap, ◌∙◌, subst, arith, true≢false, ◌==◌, sum_by, filter, map, length}
+use Rattle.std.proofs.Common.{◌≡◌, ◌≤◌, ℕ, Bool, true, false, cond, ◌&&◌, ◌||◌, List, [], ◌∷◌, refl, sym, ap, ◌∙◌, arith, true≢false, sum_by, filter, length}
 use Rattle.std.specs.Prelude.{is_none, if◌then◌else◌}
 use Rattle.std.specs.List.{AllByRecursion, list_any}
 use Rattle.std.specs.Str.{bytes_eq}
@@ -10,7 +10,7 @@ use Rattle.hx_object.specs.declared.kind.Kind.{Kind}
 use Rattle.hx_object.specs.declared.kind.Kind.TheVariants.{Namespace, HncConfiguration, HierarchyConfiguration, SubnamespaceAnchor, HierarchicalResourceQuota, Role, RoleBinding, ConfigMap, Secret, NetworkPolicy, LimitRange, Pod, Service, PersistentVolumeClaim}
 use Rattle.hx_object.specs.declared.object.Object.{Object}
 use Rattle.hx_model.specs.State.{Rows, row_of, namespace_id}
-use Rattle.hx_model.specs.Limits.{is_anchor, is_lone, counts, counted_one, namespace_one, names_in, objects_in, is_named, distinct_in}
+use Rattle.hx_model.specs.Limits.{is_anchor, is_lone, counts, counted_one, namespace_one, names_in, objects_in}
 use Rattle.hx_model.specs.Serving.{IsServed, is_written}
 
 pub no_anchor : (kind : Kind) → is_written kind ≡ true → is_anchor kind ≡ false

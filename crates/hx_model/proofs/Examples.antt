@@ -1,16 +1,14 @@
 -- Short histories, texts and counts, computed. Each expected value is written out.
 use Rattle.std.specs.Prelude.{codes, replicate}
-use Rattle.std.proofs.Common.{◌≡◌, ℕ, true, false, true≢false, List, [], ◌∷◌, Option, None, Some, refl}
+use Rattle.std.proofs.Common.{◌≡◌, ℕ, true, false, true≢false, List, [], ◌∷◌, None, Some, refl}
 use Rattle.std.specs.Fmt.{digits}
 use Rattle.serde_json.proofs.OnLiterals.{serde_json_on_literals}
 use Rattle.hx_object.specs.Json.{object_text}
 use Rattle.hx_object.specs.Sizes.{size_of, is_tree_key, is_reconciled_key, is_counted}
-use Rattle.hx_object.specs.declared.kind.Kind.{Kind}
 use Rattle.hx_object.specs.declared.kind.Kind.TheVariants.{Namespace, HierarchyConfiguration, SubnamespaceAnchor, Role, ConfigMap, Service}
 use Rattle.hx_object.specs.declared.object.Id.{Id}
 use Rattle.hx_object.specs.declared.object.Need.{Need}
 use Rattle.hx_object.specs.declared.object.Object.{Object}
-use Rattle.hx_object.specs.declared.object.Payload.{Payload}
 use Rattle.hx_object.specs.declared.object.Payload.TheVariants.{Namespace as NamespaceOf, Hierarchy, Anchor, Plain}
 use Rattle.hx_object.specs.declared.object.Condition.TheVariants.{ParentMissing, AnchorMissing}
 use Rattle.hx_object.specs.declared.object.AnchorStatus.TheVariants.{Ok}
@@ -157,15 +155,15 @@ pub out_of_order : ascends (stored team 1 ∷ stored acme 2 ∷ []) ≡ false
 out_of_order = refl
 
 -- one write of two objects takes one version
-pub one_version : state_after (opening_state 0) (Put (stored acme 1) ∷ Put (stored team 1) ∷ []) ≡ record { rows = stored acme 1 ∷ stored team 1 ∷ []; last = 1 }
+pub one_version : state_after (opening_state [] false 0) (Put (stored acme 1) ∷ Put (stored team 1) ∷ []) ≡ record { rows = stored acme 1 ∷ stored team 1 ∷ []; last = 1; excluded = []; may_skip = false }
 one_version = refl
 
 -- a write goes on from the last version of the store
-pub next_version : state_after (opening_state 6) (Cut (namespace_id team) ∷ []) ≡ record { rows = []; last = 7 }
+pub next_version : state_after (opening_state [] false 6) (Cut (namespace_id team) ∷ []) ≡ record { rows = []; last = 7; excluded = []; may_skip = false }
 next_version = refl
 
 -- a write of nothing takes no version
-pub no_version : state_after (opening_state 6) [] ≡ record { rows = []; last = 6 }
+pub no_version : state_after (opening_state [] false 6) [] ≡ record { rows = []; last = 6; excluded = []; may_skip = false }
 no_version = refl
 
 -- ---- histories
@@ -180,11 +178,11 @@ first_requests =
     ∷ Refused NotServed
     ∷ []
 
-pub first_requests_legal : IsHistory (opening_world false 0) first_requests
+pub first_requests_legal : IsHistory (opening_world false (opening_state [] false 0)) first_requests
 unfolding counts
 first_requests_legal = ((refl, λ _. refl), ((refl, λ _. refl), ((refl, λ _. refl), ((refl, λ _. refl), (tt, tt)))))
 
-pub first_requests_leave : replay (opening_world false 0) first_requests ≡ record { state = record { rows = stored acme 1 ∷ []; last = 1 }; hands = []; broken = false; torn = None }
+pub first_requests_leave : replay (opening_world false (opening_state [] false 0)) first_requests ≡ record { state = record { rows = stored acme 1 ∷ []; last = 1; excluded = []; may_skip = false }; hands = []; broken = false; torn = None }
 unfolding counts
 first_requests_leave = refl
 
@@ -198,22 +196,22 @@ replacements =
     ∷ Request (Replace (new_namespace team) None false) (Refusing (NotFound Namespace team))
     ∷ []
 
-pub replacements_legal : IsHistory (opening_world false 0) replacements
+pub replacements_legal : IsHistory (opening_world false (opening_state [] false 0)) replacements
 unfolding same_object counts
 replacements_legal = ((refl, λ _. refl), ((refl, λ _. refl), ((refl, λ _. refl), ((refl, λ _. refl), ((refl, λ _. refl), tt)))))
 
-pub replacements_leave : replay (opening_world false 0) replacements ≡ record { state = record { rows = labelled 2 ∷ []; last = 2 }; hands = []; broken = false; torn = None }
+pub replacements_leave : replay (opening_world false (opening_state [] false 0)) replacements ≡ record { state = record { rows = labelled 2 ∷ []; last = 2; excluded = []; may_skip = false }; hands = []; broken = false; torn = None }
 unfolding same_object counts
 replacements_leave = refl
 
 -- the same content leaves the state as it is
-pub same_content : answer_to (record { rows = stored acme 1 ∷ []; last = 4 }) (Replace (new_namespace acme) (Some 1) false) ≡ (One (stored acme 1) false, record { rows = stored acme 1 ∷ []; last = 4 })
+pub same_content : answer_to (record { rows = stored acme 1 ∷ []; last = 4; excluded = []; may_skip = false }) (Replace (new_namespace acme) (Some 1) false) ≡ (One (stored acme 1) false, record { rows = stored acme 1 ∷ []; last = 4; excluded = []; may_skip = false })
 unfolding same_object counts
 same_content = refl
 
 -- a terminating namespace goes on terminating when it gets a label
-pub same_phase : answer_to (record { rows = record (stored acme 1) { payload = NamespaceOf true } ∷ []; last = 4 }) (Replace (labelled 0) None false)
-    ≡ (One (record (labelled 5) { payload = NamespaceOf true }) false, record { rows = record (labelled 5) { payload = NamespaceOf true } ∷ []; last = 5 })
+pub same_phase : answer_to (record { rows = record (stored acme 1) { payload = NamespaceOf true } ∷ []; last = 4; excluded = []; may_skip = false }) (Replace (labelled 0) None false)
+    ≡ (One (record (labelled 5) { payload = NamespaceOf true }) false, record { rows = record (labelled 5) { payload = NamespaceOf true } ∷ []; last = 5; excluded = []; may_skip = false })
 unfolding same_object counts
 same_phase = refl
 
@@ -231,12 +229,12 @@ config_requests =
     ∷ Request (ListOf ConfigMap None) (Many ConfigMap [] 3)
     ∷ []
 
-pub config_requests_legal : IsHistory (opening_world false 0) config_requests
+pub config_requests_legal : IsHistory (opening_world false (opening_state [] false 0)) config_requests
 unfolding counts is_copy size_of
 config_requests_legal =
     ((refl, λ _. refl), ((refl, λ _. refl), ((refl, λ _. refl), ((refl, λ _. refl), ((refl, λ _. refl), ((refl, λ _. refl), ((refl, λ _. refl), ((refl, λ _. refl), ((refl, λ _. refl), tt)))))))))
 
-pub config_requests_leave : replay (opening_world false 0) config_requests ≡ record { state = record { rows = stored acme 1 ∷ []; last = 3 }; hands = []; broken = false; torn = None }
+pub config_requests_leave : replay (opening_world false (opening_state [] false 0)) config_requests ≡ record { state = record { rows = stored acme 1 ∷ []; last = 3; excluded = []; may_skip = false }; hands = []; broken = false; torn = None }
 unfolding counts is_copy size_of
 config_requests_leave = refl
 
@@ -253,12 +251,12 @@ listings =
     ∷ Request (ListOf Namespace None) (Many Namespace (stored (codes "a") 3 ∷ stored (codes "a-b") 1 ∷ []) 5)
     ∷ []
 
-pub listings_legal : IsHistory (opening_world false 0) listings
+pub listings_legal : IsHistory (opening_world false (opening_state [] false 0)) listings
 unfolding counts is_copy size_of
 listings_legal = ((refl, λ _. refl), ((refl, λ _. refl), ((refl, λ _. refl), ((refl, λ _. refl), ((refl, λ _. refl), ((refl, λ _. refl), ((refl, λ _. refl), ((refl, λ _. refl), tt))))))))
 
-pub listings_leave : replay (opening_world false 0) listings ≡ record {
-  state = record { rows = stored (codes "a") 3 ∷ stored (codes "a-b") 1 ∷ config (codes "a") (codes "b") 5 ∷ config (codes "a") (codes "d") 4 ∷ config (codes "a-b") (codes "c") 2 ∷ []; last = 5 };
+pub listings_leave : replay (opening_world false (opening_state [] false 0)) listings ≡ record {
+  state = record { rows = stored (codes "a") 3 ∷ stored (codes "a-b") 1 ∷ config (codes "a") (codes "b") 5 ∷ config (codes "a") (codes "d") 4 ∷ config (codes "a-b") (codes "c") 2 ∷ []; last = 5; excluded = []; may_skip = false };
   hands = [];
   broken = false;
   torn = None;
@@ -274,16 +272,16 @@ used_up =
     ∷ Request (ListOf Namespace None) (Many Namespace [] 9223372036854775807)
     ∷ []
 
-pub used_up_legal : IsHistory (opening_world false 9223372036854775807) used_up
+pub used_up_legal : IsHistory (opening_world false (opening_state [] false 9223372036854775807)) used_up
 unfolding counts
 used_up_legal = ((refl, λ _. refl), ((refl, λ _. refl), ((refl, λ _. refl), tt)))
 
-pub used_up_leaves : replay (opening_world false 9223372036854775807) used_up ≡ record { state = record { rows = []; last = 9223372036854775807 }; hands = []; broken = false; torn = None }
+pub used_up_leaves : replay (opening_world false (opening_state [] false 9223372036854775807)) used_up ≡ record { state = record { rows = []; last = 9223372036854775807; excluded = []; may_skip = false }; hands = []; broken = false; torn = None }
 unfolding counts
 used_up_leaves = refl
 
 -- the last version is given out
-pub last_version : IsLegal (opening_world false 9223372036854775806) (Request (Create (new_namespace acme) false) (One (stored acme 9223372036854775807) true))
+pub last_version : IsLegal (opening_world false (opening_state [] false 9223372036854775806)) (Request (Create (new_namespace acme) false) (One (stored acme 9223372036854775807) true))
 unfolding counts
 last_version = (refl, λ _. refl)
 
@@ -297,15 +295,15 @@ third_fails =
     ∷ LostRequest (Create (new_namespace (codes "d")) false) KeeperFault
     ∷ []
 
-pub third_fails_legal : IsHistory (opening_world false 0) third_fails
+pub third_fails_legal : IsHistory (opening_world false (opening_state [] false 0)) third_fails
 unfolding counts
 third_fails_legal = ((refl, λ _. refl), ((refl, λ _. refl), ((refl, λ none. cc), ((refl, λ changes. absurd (changes.1 refl)), ((refl, λ none. cc), tt)))))
 
-pub third_fails_leaves : replay (opening_world false 0) third_fails ≡ record {
-  state = record { rows = stored (codes "a") 1 ∷ stored (codes "b") 2 ∷ []; last = 2 };
+pub third_fails_leaves : replay (opening_world false (opening_state [] false 0)) third_fails ≡ record {
+  state = record { rows = stored (codes "a") 1 ∷ stored (codes "b") 2 ∷ []; last = 2; excluded = []; may_skip = false };
   hands = [];
   broken = true;
-  torn = Some (record { rows = stored (codes "a") 1 ∷ stored (codes "b") 2 ∷ stored (codes "c") 3 ∷ []; last = 3 });
+  torn = Some (record { rows = stored (codes "a") 1 ∷ stored (codes "b") 2 ∷ stored (codes "c") 3 ∷ []; last = 3; excluded = []; may_skip = false });
 }
 unfolding counts
 third_fails_leaves = refl
@@ -314,17 +312,17 @@ pub third_fails_loses : loses_to_fault third_fails ≡ true
 third_fails_loses = refl
 
 -- a broken store takes no write
-pub no_write_when_broken : IsLegal (opening_world true 0) (Request (Create (new_namespace acme) false) (One (stored acme 1) true)) → ⊥
+pub no_write_when_broken : IsLegal (opening_world true (opening_state [] false 0)) (Request (Create (new_namespace acme) false) (One (stored acme 1) true)) → ⊥
 unfolding counts
 no_write_when_broken legal = true≢false (legal.1 (refl, λ none. cc))
 
 -- a broken store answers a replacement by the same content, which writes nothing
-pub same_content_when_broken : IsLegal (record { state = record { rows = stored acme 1 ∷ []; last = 1 }; hands = []; broken = true; torn = None }) (Request (Replace (new_namespace acme) None false) (One (stored acme 1) false))
+pub same_content_when_broken : IsLegal (record { state = record { rows = stored acme 1 ∷ []; last = 1; excluded = []; may_skip = false }; hands = []; broken = true; torn = None }) (Request (Replace (new_namespace acme) None false) (One (stored acme 1) false))
 unfolding same_object counts
 same_content_when_broken = (refl, λ changes. absurd (changes.1 refl))
 
 -- an answer from another state isn't legal
-pub no_stale_answer : IsLegal (replay (opening_world false 0) first_requests) (Request (Get (namespace_id acme)) (Refusing (NotFound Namespace acme))) → ⊥
+pub no_stale_answer : IsLegal (replay (opening_world false (opening_state [] false 0)) first_requests) (Request (Get (namespace_id acme)) (Refusing (NotFound Namespace acme))) → ⊥
 unfolding counts
 no_stale_answer legal = absurd (let e : Refusing (NotFound Namespace acme) ≡ One (stored acme 1) false = legal.0 in cc)
 
@@ -396,7 +394,7 @@ service_counts = refl
 
 -- acme, and so many objects of one kind, of which only the number counts here
 abbrev crowd : ℕ → Object → State
-crowd count x = record { rows = stored acme 1 ∷ replicate count x; last = 1 }
+crowd count x = record { rows = stored acme 1 ∷ replicate count x; last = 1; excluded = []; may_skip = false }
 
 -- the 4,096th name is taken, and the next one isn't
 pub last_name : refusal_of (crowd 4094 (stored team 1)) (Create (new_namespace (codes "a")) false) ≡ None
@@ -436,7 +434,7 @@ no_byte_is_left = refl
 
 -- a namespace and a ConfigMap, and no version is left
 abbrev ended : State
-ended = record { rows = stored acme 1 ∷ config acme (codes "c") 2 ∷ []; last = 9223372036854775807 }
+ended = record { rows = stored acme 1 ∷ config acme (codes "c") 2 ∷ []; last = 9223372036854775807; excluded = []; may_skip = false }
 
 pub place_before_version : refusal_of ended (Replace (new_namespace team) (Some 7) false) ≡ Some (NotFound Namespace team)
 place_before_version = refl

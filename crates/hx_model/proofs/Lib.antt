@@ -4,4 +4,11 @@ pub mod Histories
 pub mod Legality
 pub mod Counting
 pub mod Replying
+pub mod Climbing
+pub mod Parents
+pub mod Walking
+pub mod Moving
+pub mod Planting
+pub mod Listing
 pub mod Examples
+pub mod TreeExamples

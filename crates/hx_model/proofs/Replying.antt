@@ -1,8 +1,7 @@
 -- The answers of the machine, by its refusals and its writes.
-use Rattle.std.proofs.Common.{◌≡◌, ◌≢◌, ℕ, [], None, Some, refl, ap, sym, ◌∙◌, subst}
+use Rattle.std.proofs.Common.{◌≡◌, [], None, Some, ap, sym, ◌∙◌}
 use Rattle.std.specs.Prelude.{List}
 use Rattle.hx_model.specs.declared.ask.Ask.{Ask}
-use Rattle.hx_model.specs.declared.ask.Answer.{Answer}
 use Rattle.hx_model.specs.declared.ask.Answer.TheVariants.{Refused}
 use Rattle.hx_model.specs.declared.key.Write.{Write}
 use Rattle.hx_model.specs.declared.refusal.Refusal.{Refusal}

@@ -1,5 +1,5 @@
 -- Rows after a put and a cut.
-use Rattle.std.proofs.Common.{◌++◌, ◌≡◌, ℕ, ◌+◌, Bool, true, false, cond, not, ◌&&◌, Option, Some, None, List, [], ◌∷◌, sum_by, Ordering, Less, Equal, Greater, is_eq, is_lt, refl, sym, ap, ◌∙◌, subst, arith, true≢false, eqb, eq-eqb, eqb-true, ◌==◌}
+use Rattle.std.proofs.Common.{◌++◌, ◌≡◌, ℕ, ◌+◌, Bool, true, false, cond, not, ◌&&◌, Option, Some, None, List, [], ◌∷◌, filter, length, sum_by, Ordering, Less, Equal, Greater, is_eq, is_lt, refl, sym, ap, ◌∙◌, subst, arith, true≢false, eqb, eq-eqb, eqb-true, ◌==◌}
 use Rattle.std.specs.Prelude.{is_some, unwrap_or}
 use Rattle.std.specs.Cmp.{IsTotalOrder, Equal-is, tied_itself, both_ways}
 use Rattle.std.proofs.lemmas.Slice.Eq.{bytes_eq-Decides}
@@ -8,6 +8,7 @@ use Rattle.std.specs.FinMap.Entries.{by_order}
 use Rattle.std.proofs.lemmas.Cmp.{then_total, on_total, nat_cmp_total, nat_list_cmp_total}
 use Rattle.std.proofs.lemmas.Map.Lookups.{CmpEqualImpliesEq, exact_bytes, exact_unsigned}
 use Rattle.std.proofs.lemmas.List.Sums.{sum_by-cons}
+use Rattle.std.proofs.lemmas.Map.Entries.{option_filter}
 use Rattle.std.proofs.lemmas.Bool.{and_parts, and_from}
 use Rattle.hx_object.specs.Kinds.{number_of}
 use Rattle.hx_object.specs.declared.kind.Kind.{Kind}
@@ -142,7 +143,7 @@ found_id (y ∷ rows) id x e =
 -- ---- sums
 
 -- an identity that is less than all isn't found
-none_below : (id : Id) (rows : Rows) → is_below_all id rows ≡ true → row_of rows id ≡ None
+pub none_below : (id : Id) (rows : Rows) → is_below_all id rows ≡ true → row_of rows id ≡ None
 none_below id [] h = refl
 none_below id (y ∷ rows) h =
     let parts = and_parts (is_lt (id_cmp id y.id)) (is_below_all id rows) h in
@@ -212,23 +213,60 @@ ascends-put x (y ∷ rows) h =
       | Greater ↦ λ e. and_from _ _ (below_put y.id x rows (id_total.antisymm y.id x.id ∙ ap ordering_reverse e) parts.0) (ascends-put x rows parts.1)
     ] refl
 
-below_cut : (a id : Id) (rows : Rows) → is_below_all a rows ≡ true → is_below_all a (cut id rows) ≡ true
-below_cut a id [] h = refl
-below_cut a id (y ∷ rows) h =
-    let parts = and_parts (is_lt (id_cmp a y.id)) (is_below_all a rows) h in
-    elim (same_id id y.id) as (λ b. is_below_all a (cond (not b) (y ∷ cut id rows) (cut id rows)) ≡ true) [
-      | true ↦ below_cut a id rows parts.1
-      | false ↦ and_from _ _ parts.0 (below_cut a id rows parts.1)
+below_filter : (p : Object → Bool) (id : Id) (rows : Rows) → is_below_all id rows ≡ true → is_below_all id (filter p rows) ≡ true
+below_filter p id [] h = refl
+below_filter p id (y ∷ rows) h =
+    let parts = and_parts (is_lt (id_cmp id y.id)) (is_below_all id rows) h in
+    elim (p y) as (λ b. is_below_all id (cond b (y ∷ filter p rows) (filter p rows)) ≡ true) [
+      | true ↦ and_from _ _ parts.0 (below_filter p id rows parts.1)
+      | false ↦ below_filter p id rows parts.1
+    ]
+
+pub ascends-filter : (p : Object → Bool) (rows : Rows) → ascends rows ≡ true → ascends (filter p rows) ≡ true
+ascends-filter p [] h = refl
+ascends-filter p (y ∷ rows) h =
+    let parts = and_parts (is_below_all y.id rows) (ascends rows) h in
+    elim (p y) as (λ b. ascends (cond b (y ∷ filter p rows) (filter p rows)) ≡ true) [
+      | true ↦ and_from _ _ (below_filter p y.id rows parts.0) (ascends-filter p rows parts.1)
+      | false ↦ ascends-filter p rows parts.1
     ]
 
 pub ascends-cut : (id : Id) (rows : Rows) → ascends rows ≡ true → ascends (cut id rows) ≡ true
-ascends-cut id [] h = refl
-ascends-cut id (y ∷ rows) h =
+ascends-cut id rows h = ascends-filter _ rows h
+
+-- ---- filters, and how many rows a put makes
+
+-- in rows that ascend, what a filter keeps is found, and nothing else
+pub row_of-filter : (p : Object → Bool) (rows : Rows) (q : Id) → ascends rows ≡ true → row_of (filter p rows) q ≡ option_filter p (row_of rows q)
+row_of-filter p [] q h = refl
+row_of-filter p (y ∷ rows) q h =
     let parts = and_parts (is_below_all y.id rows) (ascends rows) h in
-    elim (same_id id y.id) as (λ b. ascends (cond (not b) (y ∷ cut id rows) (cut id rows)) ≡ true) [
-      | true ↦ ascends-cut id rows parts.1
-      | false ↦ and_from _ _ (below_cut y.id id rows parts.0) (ascends-cut id rows parts.1)
-    ]
+    elim (p y) as (λ b. p y ≡ b → row_of (cond b (y ∷ filter p rows) (filter p rows)) q ≡ option_filter p (cond (same_id q y.id) (Some y) (row_of rows q))) [
+      | true ↦ λ e. ap (cond (same_id q y.id) (Some y)) (row_of-filter p rows q parts.1) ∙ kept (same_id q y.id) e
+      | false ↦ λ e. row_of-filter p rows q parts.1 ∙ dropped (same_id q y.id) refl e parts.0
+    ] refl
+  where
+    kept : (b : Bool) → p y ≡ true → cond b (Some y) (option_filter p (row_of rows q)) ≡ option_filter p (cond b (Some y) (row_of rows q))
+    kept true e = sym (ap (λ t. cond t (Some y) None) e)
+    kept false e = refl
+
+    dropped : (b : Bool) → same_id q y.id ≡ b → p y ≡ false → is_below_all y.id rows ≡ true → option_filter p (row_of rows q) ≡ option_filter p (cond b (Some y) (row_of rows q))
+    dropped true same e low = ap (option_filter p) (subst (λ (k : Id). row_of rows k ≡ None) (sym (is_same_id q y.id same)) (none_below y.id rows low)) ∙ sym (ap (λ t. cond t (Some y) None) e)
+    dropped false same e low = refl
+
+-- a put of an object that isn't there makes one row more
+pub length-put : (x : Object) (rows : Rows) → row_of rows x.id ≡ None → length (put x rows) ≡ length rows + 1
+length-put x [] none = refl
+length-put x (y ∷ rows) none =
+    elim (id_cmp x.id y.id) as (λ o. id_cmp x.id y.id ≡ o → length (by_order o (x ∷ y ∷ rows) (x ∷ rows) (y ∷ put x rows)) ≡ length (y ∷ rows) + 1) [
+      | Less ↦ λ e. omega arith
+      | Equal ↦ λ e. absurd (true≢false (ap is_some (sym (ap (λ b. cond b (Some y) (row_of rows x.id)) (same_id-cmp x.id y.id ∙ ap is_eq e)) ∙ none)))
+      | Greater ↦ λ e. let more : length (put x rows) ≡ length rows + 1 = length-put x rows (rest (same_id x.id y.id) (same_id-cmp x.id y.id ∙ ap is_eq e) none) in omega arith
+    ] refl
+  where
+    rest : (b : Bool) → b ≡ false → cond b (Some y) (row_of rows x.id) ≡ None → row_of rows x.id ≡ None
+    rest true e h = absurd (true≢false e)
+    rest false e h = h
 
 -- ---- rows in order that answer alike are the same
 

@@ -1,11 +1,12 @@
 -- What is answered to an ask, and the state that it leaves.
 --     place_refusal     the refusal for want of the object or its namespace, or because the object is there
 --     version_refusal   the refusal because the object has another version than the one that is expected
+--     rule_refusal      the refusal by the first rule of admission that is broken
 --     limit_refusals    the refusals by the limits, in their order
 --     refusal_of        the first refusal that holds
 --     writes_of         what an ask changes where nothing refuses it
 --     answer_to         the answer and the next state. A refusal and a read leave the state
-use Rattle.std.specs.Prelude.{◌≡◌, ◌≢◌, ℕ, ◌+◌, Bool, true, false, not, ◌&&◌, ◌||◌, ◌==◌, nat_lt, nat_le, is_some, is_none, List, [], ◌∷◌, ◌++◌, filter, Option, Some, None, if◌then◌else◌}
+use Rattle.std.specs.Prelude.{◌≡◌, ◌≢◌, ℕ, ◌+◌, Bool, true, false, not, ◌&&◌, ◌||◌, ◌==◌, nat_lt, nat_le, is_some, is_none, List, [], ◌∷◌, filter, Option, Some, None, if◌then◌else◌, option_map, option_and_then}
 use Rattle.std.specs.Option.{option_map_or}
 use Rattle.std.specs.Str.{bytes_eq}
 use Rattle.hx_object.specs.Kinds.{number_of, is_in_cluster}
@@ -27,7 +28,9 @@ use Rattle.hx_model.specs.declared.key.Write.{Write}
 use Rattle.hx_model.specs.declared.key.Write.TheVariants.{Put, Cut}
 use Rattle.hx_model.specs.First.{so, first}
 use Rattle.hx_model.specs.Limits.{is_namespace, is_anchor, is_named, counts, names_in, objects_in, bytes_in, most_names, most_objects, most_bytes, greatest_version}
-use Rattle.hx_model.specs.State.{State, Rows, row_of, namespace_id, stamped, written, state_after}
+use Rattle.hx_model.specs.Rules.{Case, rules}
+use Rattle.hx_model.specs.Tree.{forest_of}
+use Rattle.hx_model.specs.State.{State, Rows, row_of, home_in, stamped, written, state_after}
 
 -- ---- what an ask changes
 
@@ -70,7 +73,7 @@ already_there id = Exists id.kind id.name
 
 -- the namespace of an identity isn't there
 abbrev pub is_homeless : State → Id → Bool
-is_homeless s id = not (is_in_cluster id.kind) && is_none (row_of s.rows (namespace_id id.ns))
+is_homeless s id = not (is_in_cluster id.kind) && is_none (home_in s.rows id)
 
 -- the object or its namespace isn't there, or the object is there already
 abbrev pub place_refusal : State → Ask → Option Refusal
@@ -88,6 +91,31 @@ other_version _ _ = None
 abbrev pub version_refusal : State → Ask → Option Refusal
 version_refusal s (Replace x expected skip) = other_version expected (row_of s.rows x.id)
 version_refusal s _ = None
+
+-- what the rules look at, by the identity, what is there and what is given
+abbrev pub case_at : State → List Write → Id → Option Object → Option Object → Bool → Case
+case_at s writes id old new skip = record {
+  id = id;
+  old = old;
+  new = new;
+  home = home_in s.rows id;
+  tree = forest_of s;
+  moved = forest_of (state_after s writes);
+  excluded = s.excluded;
+  may_skip = s.may_skip;
+  skip = skip;
+}
+
+-- the case of a write or a removal
+abbrev pub case_of : State → Ask → Option Case
+case_of s (Create x skip) = Some (case_at s (writes_of s (Create x skip)) x.id None (Some x) skip)
+case_of s (Replace x expected skip) = Some (case_at s (writes_of s (Replace x expected skip)) x.id (row_of s.rows x.id) (Some x) skip)
+case_of s (Delete id skip) = Some (case_at s (writes_of s (Delete id skip)) id (row_of s.rows id) None skip)
+case_of s _ = None
+
+-- the first rule of admission that is broken
+abbrev pub rule_refusal : State → Ask → Option Refusal
+rule_refusal s ask = option_map Broken (option_and_then (λ c. first (rules c)) (case_of s ask))
 
 -- a POST brings a name that no namespace or anchor has
 abbrev pub brings_name : State → Ask → Bool
@@ -119,7 +147,7 @@ limit_refusals s ask =
 
 -- the first refusal that holds, in their order
 abbrev pub refusal_of : State → Ask → Option Refusal
-refusal_of s ask = first (place_refusal s ask ∷ version_refusal s ask ∷ limit_refusals s ask)
+refusal_of s ask = first (place_refusal s ask ∷ version_refusal s ask ∷ rule_refusal s ask ∷ limit_refusals s ask)
 
 -- ---- answers
 

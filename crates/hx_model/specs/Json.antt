@@ -1,6 +1,5 @@
--- Lists of objects and refusals as JSON values, and their compact texts.
+-- Lists of objects as JSON values, and their compact texts.
 --     list_text       a list of objects of one kind
---     status_text     a refusal, as a Kubernetes `Status`
 -- Members stand in byte order of their names.
 use Rattle.std.specs.Prelude.{ℕ, List, [], ◌∷◌, ◌++◌, codes}
 use Rattle.std.specs.Fmt.{decimal}

@@ -1,10 +1,15 @@
 pub mod First
+pub mod Forest
+pub mod Walks
 pub mod State
+pub mod Tree
 pub mod Texts
 pub mod Json
 pub mod Replies
 pub mod Bodies
 pub mod Limits
+pub mod Rules
 pub mod Answers
 pub mod Serving
+pub mod Valid
 pub mod Machine

@@ -16,7 +16,7 @@ use Rattle.hx_model.specs.declared.refusal.Refusal.TheVariants.{StoreFailed, NoM
 use Rattle.hx_model.specs.declared.key.Key.{Key}
 use Rattle.hx_model.specs.declared.key.Guard.{Guard}
 use Rattle.hx_model.specs.declared.key.Write.{Write}
-use Rattle.hx_model.specs.State.{State, opening_state, state_after}
+use Rattle.hx_model.specs.State.{State, state_after}
 use Rattle.hx_model.specs.Answers.{answer_to, writes_of, Changes}
 
 -- what a worker took: its key with the version, the guards and the wanted write, all as they were then
@@ -34,9 +34,9 @@ pub record World : Type 0 where
   pub broken : Bool
   pub torn : Option State
 
--- the first world of a run, by the last version of the store
-abbrev pub opening_world : Bool → ℕ → World
-opening_world broken last = record { state = opening_state last; hands = []; broken = broken; torn = None }
+-- the first world of a run, by its first state
+abbrev pub opening_world : Bool → State → World
+opening_world broken state = record { state = state; hands = []; broken = broken; torn = None }
 
 -- why an entry was lost
 pub data Cause : Type 0 where

@@ -1,10 +1,11 @@
 -- Refusals as a Kubernetes `Status`.
 --     name_of_rule, rule_message     a rule as refusals name it, and what they say of it
+--     is_limit                       whether it is a limit of the store
 --     code_of, reason_of     the HTTP status;  the reason in one word
 --     message_of             the message
 --     details_of             the rule that was broken
 --     status_data, status_text      the whole body, as a JSON value and as its compact text
-use Rattle.std.specs.Prelude.{ℕ, List, [], ◌∷◌, ◌++◌, codes}
+use Rattle.std.specs.Prelude.{ℕ, Bool, true, false, if◌then◌else◌, List, ◌++◌, codes}
 use Rattle.std.specs.Fmt.{decimal}
 use Rattle.serde_json.specs.Data.{Data, string, object, number, unsigned, Members, no_members, member}
 use Rattle.serde_json.specs.Written.{compact_text}
@@ -12,7 +13,7 @@ use Rattle.hx_object.specs.Json.{unless_empty}
 use Rattle.hx_object.specs.Kinds.{name_of, resource_of}
 use Rattle.hx_object.specs.declared.kind.Kind.{Kind}
 use Rattle.hx_model.specs.declared.rule.Rule.{Rule}
-use Rattle.hx_model.specs.declared.rule.Rule.TheVariants.{L1, L2, L3, L4}
+use Rattle.hx_model.specs.declared.rule.Rule.TheVariants.{X1, H7, N3, H1, H2, H3, H4, H6, H8, L1, L2, L3, L4}
 use Rattle.hx_model.specs.declared.refusal.Refusal.{Refusal}
 use Rattle.hx_model.specs.declared.refusal.Refusal.TheVariants.{BadLine, BadPath, BadQuery, NotJson, NotWhole, NotKind, OtherPlace, Broken, NoPath, NotFound, NoMethod, Exists, OtherVersion, TooLong, Missing, WrongType, BadName, BadLabel, TooManyLabels, TooLarge, StoreFailed, NotServed, NoMemory}
 
@@ -20,6 +21,15 @@ use Rattle.hx_model.specs.declared.refusal.Refusal.TheVariants.{BadLine, BadPath
 
 -- a rule as refusals name it
 abbrev pub name_of_rule : Rule → List ℕ
+name_of_rule X1 = codes "X1"
+name_of_rule H7 = codes "H7"
+name_of_rule N3 = codes "N3"
+name_of_rule H1 = codes "H1"
+name_of_rule H2 = codes "H2"
+name_of_rule H3 = codes "H3"
+name_of_rule H4 = codes "H4"
+name_of_rule H6 = codes "H6"
+name_of_rule H8 = codes "H8"
 name_of_rule L1 = codes "L1"
 name_of_rule L2 = codes "L2"
 name_of_rule L3 = codes "L3"
@@ -27,10 +37,33 @@ name_of_rule L4 = codes "L4"
 
 -- what a refusal says of a rule
 abbrev pub rule_message : Rule → List ℕ
+rule_message X1 = codes "skipping admission is not allowed"
+rule_message H7 = codes "the name must be hierarchy"
+rule_message N3 = codes "the subnamespace annotation cannot be changed"
+rule_message H1 = codes "the new parent does not exist"
+rule_message H2 = codes "the new parent is in the subtree of the namespace"
+rule_message H3 = codes "the parent of a subnamespace cannot be changed"
+rule_message H4 = codes "the tree is halted"
+rule_message H6 = codes "the namespace is excluded"
+rule_message H8 = codes "the tree would be deeper than 64"
 rule_message L1 = codes "too many namespaces"
 rule_message L2 = codes "too many objects"
 rule_message L3 = codes "too many bytes"
 rule_message L4 = codes "no version is left"
+
+-- the limits of a store. The others are rules of admission
+abbrev pub is_limit : Rule → Bool
+is_limit L1 = true
+is_limit L2 = true
+is_limit L3 = true
+is_limit L4 = true
+is_limit _ = false
+
+abbrev pub rule_code : Rule → ℕ
+rule_code rule = if is_limit rule then 507 else 403
+
+abbrev pub rule_reason : Rule → List ℕ
+rule_reason rule = if is_limit rule then codes "InsufficientStorage" else codes "Forbidden"
 
 -- ---- codes and reasons
 
@@ -43,7 +76,7 @@ code_of NotJson = 400
 code_of NotWhole = 400
 code_of (NotKind kind) = 400
 code_of OtherPlace = 400
-code_of (Broken rule) = 507
+code_of (Broken rule) = rule_code rule
 code_of NoPath = 404
 code_of (NotFound kind name) = 404
 code_of NoMethod = 405
@@ -69,7 +102,7 @@ reason_of NotJson = codes "BadRequest"
 reason_of NotWhole = codes "BadRequest"
 reason_of (NotKind kind) = codes "BadRequest"
 reason_of OtherPlace = codes "BadRequest"
-reason_of (Broken rule) = codes "InsufficientStorage"
+reason_of (Broken rule) = rule_reason rule
 reason_of NoPath = codes "NotFound"
 reason_of (NotFound kind name) = codes "NotFound"
 reason_of NoMethod = codes "MethodNotAllowed"

@@ -4,16 +4,17 @@
 --     row_of rows id     the object of an identity
 --     put, cut           the rows with an object in its place;  without one
 --     rows_from          the rows of objects in any order: of two with one identity the first one counts
---     State              the rows, and the last version
+--     State              the rows and the last version, with what is fixed for a run: which names are excluded from trees, and whether admission may be skipped
 --     opening_state      the state without objects, of a store's last version
 --     namespace_id       the identity of a namespace
+--     home_in rows id    the namespace that an identity lies in, where its kind has one
 --     stamped            an object with another version
 --     state_after        the state after a write: one new version for all that it changes
-use Rattle.std.specs.Prelude.{ℕ, ◌+◌, Bool, true, not, ◌&&◌, ◌==◌, List, [], ◌∷◌, filter, find, Option}
+use Rattle.std.specs.Prelude.{ℕ, ◌+◌, Bool, true, not, ◌&&◌, ◌==◌, List, [], ◌∷◌, filter, find, Option, Some, None, option_and_then, if◌then◌else◌}
 use Rattle.std.specs.Ordering.{is_lt}
 use Rattle.std.specs.Str.{bytes_eq}
 use Rattle.std.specs.FinMap.Entries.{by_order}
-use Rattle.hx_object.specs.Kinds.{number_of}
+use Rattle.hx_object.specs.Kinds.{number_of, is_in_cluster}
 use Rattle.hx_object.specs.Order.{id_cmp}
 use Rattle.hx_object.specs.declared.kind.Kind.TheVariants.{Namespace}
 use Rattle.hx_object.specs.declared.object.Id.{Id}
@@ -59,14 +60,24 @@ rows_from (x ∷ xs) = put x (rows_from xs)
 pub record State : Type 0 where
   pub rows : Rows
   pub last : ℕ
+  pub excluded : List (List ℕ)
+  pub may_skip : Bool
 
 -- no objects
-abbrev pub opening_state : ℕ → State
-opening_state last = record { rows = []; last = last }
+abbrev pub opening_state : List (List ℕ) → Bool → ℕ → State
+opening_state excluded may_skip last = record { rows = []; last = last; excluded = excluded; may_skip = may_skip }
 
 -- the identity of a namespace
 abbrev pub namespace_id : List ℕ → Id
 namespace_id name = record { kind = Namespace; ns = []; name = name }
+
+-- the identity of the namespace that an identity lies in
+abbrev pub home_id : Id → Option Id
+home_id id = if is_in_cluster id.kind then None else Some (namespace_id id.ns)
+
+-- that namespace, where it is there
+abbrev pub home_in : Rows → Id → Option Object
+home_in rows id = option_and_then (row_of rows) (home_id id)
 
 -- the object with another version
 abbrev pub stamped : Object → ℕ → Object

@@ -5,10 +5,13 @@
 
 mod ask;
 mod key;
+mod node;
+pub mod plain;
 mod refusal;
 mod rule;
 
 pub use ask::{Answer, Ask};
 pub use key::{Guard, Key, Write};
+pub use node::{Halt, Node};
 pub use refusal::Refusal;
 pub use rule::Rule;

@@ -26,7 +26,7 @@ pub enum Refusal {
     },
     /// 400: the body names another place than the path.
     OtherPlace,
-    /// 507: a limit of the store would be passed.
+    /// 403 or 507: a rule of admission is broken, or a limit of the store would be passed.
     Broken {
         rule: Rule,
     },
@@ -113,7 +113,7 @@ impl Refusal {
             Refusal::StoreFailed => 500,
             Refusal::NotServed => 501,
             Refusal::NoMemory => 503,
-            Refusal::Broken { .. } => 507,
+            Refusal::Broken { rule } => rule.code(),
         }
     }
 
@@ -143,7 +143,7 @@ impl Refusal {
             Refusal::StoreFailed => "InternalError",
             Refusal::NotServed => "NotImplemented",
             Refusal::NoMemory => "ServiceUnavailable",
-            Refusal::Broken { .. } => "InsufficientStorage",
+            Refusal::Broken { rule } => rule.reason(),
         }
     }
 }

@@ -1,0 +1,20 @@
+-- What every state of a run keeps.
+--     IsStored last x     an object that may be stored, with a version that was given out
+--     IsValid s           the rows are in order, each is stored, and the last version isn't past the greatest
+use Rattle.std.specs.Prelude.{◌≡◌, ◌≤◌, ℕ, true}
+use Rattle.std.specs.List.{AllByRecursion}
+use Rattle.hx_object.specs.declared.object.Object.{Object}
+use Rattle.hx_model.specs.Limits.{greatest_version}
+use Rattle.hx_model.specs.Serving.{IsServed}
+use Rattle.hx_model.specs.State.{State, ascends}
+
+-- an object that is stored is served, and has a version that was given out
+pub record IsStored (last : ℕ) (x : Object) : Type 0 where
+  pub served : IsServed x
+  pub given : 1 ≤ x.version
+  pub known : x.version ≤ last
+
+pub record IsValid (s : State) : Type 0 where
+  pub in_order : ascends s.rows ≡ true
+  pub stored : AllByRecursion (IsStored s.last) s.rows
+  pub fits : s.last ≤ greatest_version
