@@ -18,9 +18,8 @@ use Rattle.hx_object.specs.contracts.object.IdEq.TheImpl.Laws.{laws-law}
 use Rattle.hx_object.specs.contracts.object.IdOrd.TheImpl.Laws.{matches_eq-law}
 use Rattle.hx_object.proofs.Identities.{derived_cmp}
 use Rattle.hx_model.specs.State.{same_id, row_of, put, cut}
-use Rattle.hx_model.proofs.Rows.{same_id-cmp, is_same_id, row_of-put, row_of-cut, ascends-put, same_rows, row_of-rows_from, ascends-rows_from}
+use Rattle.hx_model.proofs.Rows.{same_id-cmp, is_same_id, row_of-put, row_of-cut, ascends-put, ascends-cut, length-put, same_rows, row_of-rows_from, ascends-rows_from}
 use Rattle.hx_store.specs.Inside.{AreKeyed, id_test, rows_of}
-use Rattle.hx_store.proofs.Rows.{ascends-cut, length-put}
 
 pub id_laws : IsEquivalence id_test
 id_laws = laws-law

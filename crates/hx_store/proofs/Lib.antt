@@ -1,4 +1,3 @@
 pub mod Counts
 pub mod Entries
 pub mod Listing
-pub mod Rows

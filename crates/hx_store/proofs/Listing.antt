@@ -19,10 +19,9 @@ use Rattle.hx_object.specs.declared.object.Id.{Id}
 use Rattle.hx_object.specs.declared.object.Object.{Object}
 use Rattle.hx_object.specs.Order.{id_cmp}
 use Rattle.hx_model.specs.State.{row_of, is_below_all, ascends}
-use Rattle.hx_model.proofs.Rows.{id_total, same_from_Equal, same_rows, row_of-rows_from, ascends-rows_from}
+use Rattle.hx_model.proofs.Rows.{id_total, same_from_Equal, same_rows, ascends-filter, row_of-filter, row_of-rows_from, ascends-rows_from}
 use Rattle.hx_store.specs.Inside.{AreKeyed, id_test, rows_of}
 use Rattle.hx_store.proofs.Entries.{id_laws, id_test-same}
-use Rattle.hx_store.proofs.Rows.{ascends-filter, row_of-filter}
 
 abbrev ids : List Object → List Id
 ids xs = map (λ x. x.id) xs

@@ -1,6 +1,6 @@
 // Writes that are ready to be made.
-ghost use Rattle.std.specs.Prelude.{◌≡◌, IfOk};
-ghost use Rattle.hx_store.specs.Changes.{IsChange};
+ghost use Rattle.std.specs.Prelude.{◌≡◌, IfOk, option_copied};
+ghost use Rattle.hx_store.specs.Changes.{IsChange, id_of, object_of};
 
 use hx_model::Write;
 use hx_object::{Id, NoMemory, Object};
@@ -45,6 +45,20 @@ impl Change {
             key: id,
             object: None,
         }
+    }
+
+    /// The identity of the object that is stored or taken away.
+    pub fn id(&self) -> &Id
+        ensures { result.now ≡ id_of self.now }
+    {
+        &self.key
+    }
+
+    /// The object that is stored, unless one is taken away.
+    pub fn object(&self) -> Option<&Object>
+        ensures { option_copied result ≡ object_of self.now }
+    {
+        self.object.as_ref()
     }
 
     /// The key, and the object that is stored.
