@@ -1,11 +1,16 @@
 // Bodies as texts.
-use crate::{JsonFault, Read, read_object};
+ghost use Rattle.std.specs.Prelude.{IfOk};
+ghost use Rattle.hx_object.specs.Faults.{IsLegal};
+
+use crate::{JsonFault, Read, read_object, text_tells};
 use hx_object::{Kind, Payload, Text};
 use std::alloc::Global;
 use std::test::Fail;
 
 /// What reading a PUT of the ConfigMap `a/x` gives.
-fn read(alloc: Global, body: &[u8]) -> Result<Read, JsonFault> {
+fn read(alloc: Global, body: &[u8]) -> Result<Read, JsonFault>
+    ensures { IfOk result (λ r. IsLegal r.object) }
+{
     let ns = Text::of(alloc, "a")?;
     let name = Text::of(alloc, "x")?;
     read_object(alloc, body, Kind::ConfigMap, &ns, Some(&name))
@@ -79,4 +84,17 @@ fn unknown_members_stay(rt: HostRuntime) {
     let outcome = read(rt.alloc(), SAID.as_bytes());
     assert_eq!(rt; kept(&outcome), r#"{"data":{"k":"é"},"status":{"x":1}}"#);
     assert_eq!(rt; expected(&outcome), Some(7));
+}
+
+#[test]
+fn a_text_tells_its_object(rt: HostRuntime) {
+    let one = read(rt.alloc(), SAID.as_bytes());
+    let other = read(rt.alloc(), SAID.as_bytes());
+    assert!(rt; one.is_ok() && other.is_ok());
+    if let (Ok(one), Ok(other)) = (&one, &other) {
+        if one.object.id.kind != Kind::HierarchicalResourceQuota {
+            text_tells(&one.object, &other.object);
+        }
+        assert!(rt; one.object.is_same(&other.object));
+    }
 }
