@@ -1,0 +1,4 @@
+pub mod Nodes
+pub mod Stepping
+pub mod Halting
+pub mod Listing
