@@ -1,0 +1,7 @@
+pub mod Counting
+pub mod Sameness
+pub mod Homes
+pub mod Planting
+pub mod Refusing
+pub mod Reviewing
+pub mod Ruling
