@@ -1,10 +1,11 @@
 -- The entry that a ready write makes, by how the keeper took it.
+--     standing           what a cluster is seen as
+--     passes_entry       an answer of success is a request's own entry
+--     sound_landed       the fields are sound after the batch landed
 --     enters_landed      the batch landed
 --     enters_lost        the keeper refused it
---     sound_landed       the fields are sound after it landed
-use Rattle.std.proofs.Common.{◌≡◌, ◌≤◌, ◌+◌, ℕ, Bool, true, false, List, [], ◌∷◌, None, Some, IfSome, refl, sym, ap, subst, ◌∙◌, inl, inr, ◌⊎◌, is_some}
-use Rattle.std.specs.Prelude.{option_map}
-use Rattle.std.specs.declared.option.Option.{Option}
+use Rattle.std.proofs.Common.{◌≡◌, ◌≤◌, ◌+◌, ℕ, Bool, true, false, List, [], ◌∷◌, None, Some, Option, refl, sym, ap, subst, ◌∙◌, inl, inr, ◌⊎◌, is_some}
+use Rattle.std.specs.Prelude.{option_map, IfSome}
 use Rattle.hx_object.specs.declared.object.Id.{Id}
 use Rattle.hx_object.specs.declared.object.Object.{Object}
 use Rattle.hx_ports.specs.Causes.{Rose}
@@ -12,28 +13,27 @@ use Rattle.hx_ports.specs.Keeping.{Kept, Lands, with_batch}
 use Rattle.hx_ports.specs.declared.keeper.Batch.{Batch}
 use Rattle.hx_ports.specs.declared.keeper.KeepFault.{KeepFault}
 use Rattle.hx_ports.specs.declared.keeper.KeepFault.TheVariants.{Fault, NoMemory}
-use Rattle.hx_model.specs.Answers.{success, shown, writes_of, Changes}
+use Rattle.hx_model.specs.Answers.{success, shown, Changes}
 use Rattle.hx_model.specs.Machine.{Request, request_entry}
-use Rattle.hx_model.specs.State.{State, Rows, written, state_after, row_of}
+use Rattle.hx_model.specs.State.{State, state_after, row_of}
+use Rattle.hx_model.specs.Valid.{IsValid}
 use Rattle.hx_model.specs.declared.ask.Ask.{Ask}
 use Rattle.hx_model.specs.declared.ask.Ask.TheVariants.{Get, List as ListOf, Create, Replace, Delete}
 use Rattle.hx_model.specs.declared.ask.Answer.{Answer}
 use Rattle.hx_model.specs.declared.ask.Answer.TheVariants.{Refused as Refusing}
 use Rattle.hx_model.specs.declared.key.Write.{Write}
-use Rattle.hx_model.specs.declared.key.Write.TheVariants.{Put, Cut}
 use Rattle.hx_model.specs.declared.refusal.Refusal.TheVariants.{StoreFailed, NoMemory as NoRoom}
 use Rattle.hx_model.proofs.Replying.{answer-passed}
+use Rattle.hx_admit.specs.Reviewing.{Passes}
 use Rattle.hx_core.specs.Batches.{batch_of}
-use Rattle.hx_core.specs.Committing.{IsReady, Answers}
-use Rattle.hx_core.specs.Inside.{state_of, IsSound}
+use Rattle.hx_core.specs.Inside.{IsSound}
 use Rattle.hx_core.specs.Standing.{Standing, Makes, kept_of}
-use Rattle.hx_core.specs.declared.tally.Tally.{Tally}
 use Rattle.hx_core.proofs.Making.{makes_nothing, makes_write, makes_fault}
-use Rattle.hx_core.proofs.Storing.{landed_held}
+use Rattle.hx_core.proofs.Storing.{OneWrite, landed_held}
 
 -- what a cluster is seen as
-abbrev pub standing : Option Kept → Bool → ℕ → Rows → ℕ → Standing
-standing kept broken faults rows last = record { state = state_of rows last; kept = kept; broken = broken; faults = faults }
+abbrev pub standing : State → Option Kept → Bool → ℕ → Standing
+standing s kept broken faults = record { state = s; kept = kept; broken = broken; faults = faults }
 
 -- a success is a request's own entry
 shown_entry : (ask : Ask) (found : Option Object) (fresh : Bool) (id : Id) → request_entry ask (shown found fresh id) ≡ Request ask (shown found fresh id)
@@ -47,8 +47,8 @@ success_entry s t (Create x skip) = shown_entry (Create x skip) (row_of t.rows x
 success_entry s t (Replace x expected skip) = shown_entry (Replace x expected skip) (row_of t.rows x.id) false x.id
 success_entry s t (Delete id skip) = refl
 
-pub answers_entry : (s : State) (ask : Ask) (writes : List Write) (answer : Answer) → Answers s ask writes answer → request_entry ask answer ≡ Request ask answer
-answers_entry s ask writes answer answers = subst (λ a. request_entry ask a ≡ Request ask a) answers.says (success_entry s (state_after s writes) ask)
+pub passes_entry : (s : State) (ask : Ask) (writes : List Write) (answer : Answer) → Passes s ask writes answer → request_entry ask answer ≡ Request ask answer
+passes_entry s ask writes answer passes = subst (λ a. request_entry ask a ≡ Request ask a) passes.says (success_entry s (state_after s writes) ask)
 
 still_told : (o : Option Kept) (f : Kept → Kept) → is_some (option_map f o) ≡ is_some o
 still_told None f = refl
@@ -56,59 +56,40 @@ still_told (Some h) f = refl
 
 -- ---- the batch landed
 
-pub sound_landed : (rows rows' : Rows) (last last' : ℕ) (before : Tally) (changes : List Write) (batch : Batch) (answer : Answer) (after after' : Tally) (kept kept' : Option Kept) (broken broken' : Bool)
-    → IsSound kept broken rows last before → IsReady (state_of rows last) changes batch answer after → broken ≡ false → Lands batch kept kept' → rows' ≡ written changes rows → last' ≡ batch.version → after' ≡ after → IsSound kept' broken' rows' last' after'
-sound_landed rows rows' last last' before changes batch answer after after' kept kept' broken broken' sound ready whole lands grown next numbers =
-    let now : rows' ≡ written (ready.write ∷ []) rows = grown ∙ ap (λ ws. written ws rows) ready.prepared.changed in
-    let version : last' ≡ last + 1 = next ∙ ap (λ (b : Batch). b.version) ready.prepared.batched ∙ same_version ready.write in
-    subst (λ t. IsSound kept' broken' rows' last' t) (sym numbers) (subst (λ rs. IsSound kept' broken' rs last' after) (sym now) (subst (λ n. IsSound kept' broken' (written (ready.write ∷ []) rows) n after) (sym version) (record {
-      held = λ _. landed_held ready.write rows last before after batch kept kept' sound.counted ready.counted ready.may ready.prepared.batched (sound.held whole) lands;
-      counted = ready.counted;
-    })))
-  where
-    same_version : (write : Write) → (batch_of write (last + 1)).version ≡ last + 1
-    same_version (Put x) = refl
-    same_version (Cut id) = refl
+pub sound_landed : (s s' : State) (writes : List Write) (batch : Batch) (kept kept' : Option Kept) (broken broken' : Bool) → IsSound kept broken s → IsValid (state_after s writes) → OneWrite s writes → broken ≡ false → batch ≡ batch_of writes (s.last + 1) → Lands batch kept kept'
+    → s' ≡ state_after s writes → IsSound kept' broken' s'
+sound_landed s s' writes batch kept kept' broken broken' sound after one whole batched lands moves =
+    subst (IsSound kept' broken') (sym moves) (record { valid = after; held = λ _. landed_held s writes batch kept kept' sound.valid after one batched (sound.held whole) lands })
 
-pub enters_landed : (rows rows' : Rows) (last last' : ℕ) (before : Tally) (changes : List Write) (batch : Batch) (answer : Answer) (after : Tally) (kept kept' : Option Kept) (broken broken' : Bool) (faults faults' : ℕ) (ask : Ask)
-    → IsSound kept broken rows last before → IsReady (state_of rows last) changes batch answer after → broken ≡ false → broken' ≡ false → Lands batch kept kept' → rows' ≡ written changes rows → last' ≡ batch.version → faults ≤ faults'
-    → Answers (state_of rows last) ask changes answer → Makes (standing kept broken faults rows last) (request_entry ask answer ∷ []) (standing kept' broken' faults' rows' last')
-enters_landed rows rows' last last' before changes batch answer after kept kept' broken broken' faults faults' ask sound ready whole whole' lands grown next later answers =
-    let now : rows' ≡ written (ready.write ∷ []) rows = grown ∙ ap (λ ws. written ws rows) ready.prepared.changed in
-    let version : last' ≡ last + 1 = next ∙ ap (λ (b : Batch). b.version) ready.prepared.batched ∙ same_version ready.write in
-    let state : state_after (state_of rows last) changes ≡ state_of rows' last' = ap (state_after (state_of rows last)) ready.prepared.changed ∙ (λ i. state_of (sym now i) (sym version i)) in
-    makes_write (standing kept broken faults rows last) (standing kept' broken' faults' rows' last') ask answer (answers_entry (state_of rows last) ask changes answer answers)
-    (answer-passed (state_of rows last) ask changes answers.passes answers.changes ∙ (λ i. (answers.says i, state i)))
-    whole whole'
-    (subst (λ s. IfSome kept' (λ held. held ≡ kept_of s)) (λ i. state_of (sym now i) (sym version i)) (landed_held ready.write rows last before after batch kept kept' sound.counted ready.counted ready.may ready.prepared.batched (sound.held whole) lands))
-    later (ap is_some lands ∙ still_told kept (with_batch batch))
-  where
-    same_version : (write : Write) → (batch_of write (last + 1)).version ≡ last + 1
-    same_version (Put x) = refl
-    same_version (Cut id) = refl
+pub enters_landed : (s s' : State) (writes : List Write) (batch : Batch) (answer : Answer) (kept kept' : Option Kept) (broken broken' : Bool) (faults faults' : ℕ) (ask : Ask)
+    → IsSound kept broken s → IsValid (state_after s writes) → OneWrite s writes → broken ≡ false → broken' ≡ false → batch ≡ batch_of writes (s.last + 1) → Lands batch kept kept' → s' ≡ state_after s writes → faults ≤ faults'
+    → Passes s ask writes answer → Makes (standing s kept broken faults) (request_entry ask answer ∷ []) (standing s' kept' broken' faults')
+enters_landed s s' writes batch answer kept kept' broken broken' faults faults' ask sound after one whole whole' batched lands moves later passes =
+    let held = landed_held s writes batch kept kept' sound.valid after one batched (sound.held whole) lands in
+    makes_write (standing s kept broken faults) (standing s' kept' broken' faults') ask answer (passes_entry s ask writes answer passes)
+    (answer-passed s ask writes passes.passes passes.changes ∙ (λ i. (passes.says i, sym moves i))) whole whole'
+    (subst (λ t. IfSome kept' (λ held. held ≡ kept_of t)) (sym moves) held) later (ap is_some lands ∙ still_told kept (with_batch batch))
 
 -- ---- the keeper refused the batch
 
-no_write : (changes : List Write) (write : Write) → changes ≡ write ∷ [] → changes ≡ [] → ⊥
-no_write changes write is none = let h : write ∷ [] ≡ [] = sym is ∙ none in cc
+no_writes : (s : State) (writes : List Write) → OneWrite s writes → writes ≡ [] → ⊥
+no_writes s writes one none = let h : one.write ∷ [] ≡ [] = sym one.is ∙ none in cc
 
-pub enters_lost : (rows rows' : Rows) (last last' : ℕ) (before : Tally) (changes : List Write) (batch : Batch) (answer : Answer) (after : Tally) (fault : KeepFault) (lost : Answer) (kept kept' : Option Kept) (broken broken' : Bool) (faults faults' : ℕ) (ask : Ask)
-    → IsSound kept broken rows last before → IsReady (state_of rows last) changes batch answer after → rows' ≡ rows → last' ≡ last
+pub enters_lost : (s s' : State) (writes : List Write) (batch : Batch) (answer : Answer) (fault : KeepFault) (lost : Answer) (kept kept' : Option Kept) (broken broken' : Bool) (faults faults' : ℕ) (ask : Ask)
+    → IsSound kept broken s → IsValid (state_after s writes) → OneWrite s writes → batch ≡ batch_of writes (s.last + 1) → s' ≡ s
     → (fault ≡ Fault → (broken' ≡ true) × ((kept' ≡ kept) ⊎ (Lands batch kept kept' × (broken ≡ false))) × (lost ≡ Refusing StoreFailed) × Rose faults faults')
     → (fault ≡ NoMemory → (kept' ≡ kept) × (broken' ≡ broken) × (lost ≡ Refusing NoRoom)) → faults ≤ faults'
-    → Answers (state_of rows last) ask changes answer → Makes (standing kept broken faults rows last) (request_entry ask lost ∷ []) (standing kept' broken' faults' rows' last')
-enters_lost rows rows' last last' before changes batch answer after Fault lost kept kept' broken broken' faults faults' ask sound ready same still failed memory later answers =
+    → Passes s ask writes answer → Makes (standing s kept broken faults) (request_entry ask lost ∷ []) (standing s' kept' broken' faults')
+enters_lost s s' writes batch answer Fault lost kept kept' broken broken' faults faults' ask sound after one batched same failed memory later passes =
     let facts = failed refl in
-    let old = standing kept broken faults rows last in
-    let changing : Changes (state_of rows last) ask = (answers.passes, λ none. no_write changes ready.write ready.prepared.changed (sym answers.changes ∙ none)) in
-    let torn : state_of (written (ready.write ∷ []) rows) (last + 1) ≡ state_after (state_of rows last) (writes_of (state_of rows last) ask) = ap (state_after (state_of rows last)) (sym (answers.changes ∙ ready.prepared.changed)) in
-    makes_fault old (standing kept' broken' faults' rows' last') ask lost facts.2 changing (λ i. state_of (same i) (still i)) facts.0
-    (elim facts.1 [ inl e ↦ inl e | inr lands ↦ inr (lands.1, subst (λ s. IfSome kept' (λ held. held ≡ kept_of s)) torn (landed_held ready.write rows last before after batch kept kept' sound.counted ready.counted ready.may ready.prepared.batched (sound.held lands.1) lands.0)) ])
+    let changing : Changes s ask = (passes.passes, λ none. no_writes s writes one (sym passes.changes ∙ none)) in
+    makes_fault (standing s kept broken faults) (standing s' kept' broken' faults') ask lost facts.2 changing same facts.0
+    (elim facts.1 [ inl e ↦ inl e | inr lands ↦ inr (lands.1, subst (λ ws. IfSome kept' (λ held. held ≡ kept_of (state_after s ws))) (sym passes.changes) (landed_held s writes batch kept kept' sound.valid after one batched (sound.held lands.1) lands.0)) ])
     facts.3 later (told facts.1)
   where
     told : (kept' ≡ kept) ⊎ (Lands batch kept kept' × (broken ≡ false)) → is_some kept' ≡ is_some kept
     told (inl e) = ap is_some e
     told (inr (lands, whole)) = ap is_some lands ∙ still_told kept (with_batch batch)
-enters_lost rows rows' last last' before changes batch answer after NoMemory lost kept kept' broken broken' faults faults' ask sound ready same still failed memory later answers =
+enters_lost s s' writes batch answer NoMemory lost kept kept' broken broken' faults faults' ask sound after one batched same failed memory later passes =
     let facts = memory refl in
-    makes_nothing (standing kept broken faults rows last) (standing kept' broken' faults' rows' last') ask lost facts.2 (λ i. state_of (same i) (still i)) facts.0 facts.1 later
+    makes_nothing (standing s kept broken faults) (standing s' kept' broken' faults') ask lost facts.2 same facts.0 facts.1 later

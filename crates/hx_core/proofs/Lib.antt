@@ -1,7 +1,7 @@
 pub mod Making
-pub mod Counting
-pub mod Refusing
+pub mod Keys
+pub mod Batches
 pub mod Storing
 pub mod Committing
 pub mod Starting
-pub mod Asking
+pub mod Refusing

@@ -39,12 +39,17 @@ abbrev pub kept_code : Coded Kept
 kept_code = code_by (ℕ × (ℕ × Rows)) (coded× coded_ℕ (coded× coded_ℕ (map.code (coded_list coded_ℕ) (coded× coded_ℕ (coded_list coded_ℕ)))))
     (λ k. (k.schema, (k.version, k.rows))) (λ p. record { schema = p.0; version = p.1.0; rows = p.1.1 }) (λ _. refl)
 
+-- a state, as pairs
+abbrev pub state_code : Coded State
+state_code = code_by (List Object × (ℕ × (List (List ℕ) × Bool)))
+    (coded× (coded_list object.the_row.coded) (coded× coded_ℕ (coded× (coded_list (coded_list coded_ℕ)) coded_bool)))
+    (λ s. (s.rows, (s.last, (s.excluded, s.may_skip)))) (λ p. record { rows = p.0; last = p.1.0; excluded = p.1.1.0; may_skip = p.1.1.1 }) (λ _. refl)
+
 -- a standing, as pairs
 abbrev pub standing_code : Coded Standing
-standing_code = code_by (List Object × (ℕ × (Option Kept × (Bool × ℕ))))
-    (coded× (coded_list object.the_row.coded) (coded× coded_ℕ (coded× (coded_option kept_code) (coded× coded_bool coded_ℕ))))
-    (λ s. (s.state.rows, (s.state.last, (s.kept, (s.broken, s.faults)))))
-    (λ p. record { state = record { rows = p.0; last = p.1.0 }; kept = p.1.1.0; broken = p.1.1.1.0; faults = p.1.1.1.1 }) (λ _. refl)
+standing_code = code_by (State × (Option Kept × (Bool × ℕ)))
+    (coded× state_code (coded× (coded_option kept_code) (coded× coded_bool coded_ℕ)))
+    (λ s. (s.state, (s.kept, (s.broken, s.faults)))) (λ p. record { state = p.0; kept = p.1.0; broken = p.1.1.0; faults = p.1.1.1 }) (λ _. refl)
 
 -- the cluster stands for the world: it has its state, and its keeper holds what it may
 pub record StandsFor (c : Standing) (w : World) : Type 0 where

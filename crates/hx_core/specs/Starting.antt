@@ -14,6 +14,7 @@ is_damaged meta = not (meta.schema == current_schema) || (nat_lt greatest_versio
 abbrev pub IsDamaged : Kept → Type 0
 IsDamaged held = is_damaged (meta_of held) ≡ true
 
+-- it isn't
 abbrev pub IsUndamaged : Kept → Type 0
 IsUndamaged held = is_damaged (meta_of held) ≡ false
 

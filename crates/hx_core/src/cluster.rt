@@ -1,20 +1,17 @@
 // The cluster.
-ghost use Rattle.std.specs.Prelude.{◌≡◌, Bool, false, [], ◌∷◌, IfOk, IfErr, IfSome};
+ghost use Rattle.std.specs.Prelude.{◌≡◌, ◌≢◌, [], ◌∷◌, IfOk, IfErr, IfSome};
 ghost use Rattle.hx_ports.specs.Causes.{Rose};
 ghost use Rattle.hx_model.specs.Machine.{opening_world, request_entry};
 ghost use Rattle.hx_model.specs.Serving.{IsServedAsk, IsLegalAnswer};
-ghost use Rattle.hx_core.specs.Committing.{IsReady, Answers};
+ghost use Rattle.hx_model.specs.State.{opening_state};
+ghost use Rattle.hx_admit.specs.Reviewing.{IsReady, Passes};
 ghost use Rattle.hx_core.specs.Standing.{StandsFor, Makes};
 ghost use Rattle.hx_core.specs.Starting.{IsDamaged, IfDamaged, IsUndamaged, IsUntouched};
 
-use crate::books::{Books, home_of};
-use crate::check::{GREATEST_VERSION, Hurdle, check_growth, check_version};
-use crate::prepare::{Prepared, prepare_create, prepare_cut, prepare_put, replaced_by};
-use crate::tally::Tally;
+use crate::batch::prepare;
+use hx_admit::{Books, GREATEST_VERSION, Reviewed, Terms};
 use hx_model::{Answer, Ask, Refusal};
-use hx_object::{Id, NoMemory, Object};
 use hx_ports::{KeepFault, Keeper};
-use hx_store::Store;
 use std::alloc::Global;
 use std::marker::Model;
 
@@ -28,15 +25,15 @@ pub struct Cluster<K: Keeper> {
 
 impl<K: Keeper> Model for Cluster<K> {
     ghost use Rattle.hx_core.specs.Standing.{Standing, standing_code};
-    ghost use Rattle.hx_core.specs.Inside.{state_of, IsSound};
+    ghost use Rattle.hx_core.specs.Inside.{IsSound};
 
     ghost Value = { Standing };
 
     ghost coded = { standing_code };
 
-    ghost view = { λ c. record { state = state_of c.books.store.rows c.books.store.version; kept = K.kept c.keeper; broken = K.broken c.keeper; faults = K.keeper_faults c.keeper } };
+    ghost view = { λ c. record { state = c.books.state; kept = K.kept c.keeper; broken = K.broken c.keeper; faults = K.keeper_faults c.keeper } };
 
-    ghost invariant = { λ c. IsSound (K.kept c.keeper) (K.broken c.keeper) c.books.store.rows c.books.store.version c.books.tally };
+    ghost invariant = { λ c. IsSound (K.kept c.keeper) (K.broken c.keeper) c.books.state };
 }
 
 /// The schema of the stored rows.
@@ -59,9 +56,9 @@ pub struct Unstarted<K> {
 }
 
 impl<K: Keeper> Cluster<K> {
-    /// Starts on a keeper without rows. The keeper has been attached.
-    pub fn start(alloc: Global, mut keeper: K) -> Result<Cluster<K>, Unstarted<K>>
-        ensures opens { IfOk result (λ c. StandsFor c (opening_world (K.broken keeper) c.state.last)) }
+    /// Starts on a keeper without rows, under terms that are fixed for the run. The keeper has been attached.
+    pub fn start(alloc: Global, mut keeper: K, terms: Terms) -> Result<Cluster<K>, Unstarted<K>>
+        ensures opens { IfOk result (λ c. StandsFor c (opening_world (K.broken keeper) (opening_state terms.excluded terms.may_skip c.state.last))) }
         ensures version { IfOk result (λ c. IfSome (K.kept keeper) (λ held. c.state.last ≡ held.version)) }
         ensures started { IfOk result (λ c. IsUntouched (K.kept keeper) c.kept (K.broken keeper) c.broken (K.keeper_faults keeper) c.faults) }
         ensures undamaged { IfOk result (λ c. IfSome (K.kept keeper) IsUndamaged) }
@@ -78,10 +75,7 @@ impl<K: Keeper> Cluster<K> {
                         keeper,
                     });
                 }
-                let books = Books {
-                    store: Store::new(alloc, meta.version),
-                    tally: Tally::none(),
-                };
+                let books = Books::new(alloc, meta.version, terms);
                 Ok(Cluster { keeper, books })
             }
             Err(KeepFault::Fault) => Err(Unstarted {
@@ -101,16 +95,15 @@ impl<K: Keeper> Cluster<K> {
         ensures makes { Makes self.old (request_entry ask.now result ∷ []) self.new }
         ensures legal { IsLegalAnswer result }
     {
-        match ask {
-            Ask::Get { id } => self.books.get(id),
-            Ask::List { kind, ns } => self.books.list(*kind, ns.as_ref()),
-            Ask::Create { object, .. } => self.create(object),
-            Ask::Replace {
-                object,
-                expected,
-                ..
-            } => self.replace(object, *expected),
-            Ask::Delete { id, .. } => self.delete(id),
+        match self.books.review(ask) {
+            Err(refusal) => Answer::Refused(refusal),
+            Ok(reviewed) => {
+                if reviewed.changes.writes.is_empty() {
+                    reviewed.answer
+                } else {
+                    self.commit(reviewed)
+                }
+            }
         }
     }
 
@@ -125,101 +118,26 @@ impl<K: Keeper> Cluster<K> {
         keeper
     }
 
-    /// Stores an object that isn't there.
-    fn create(&mut self, object: &Object) -> Answer
-        requires { IsServedAsk (Ask.Create object.now false) }
-        ensures makes { (skip : Bool) → Makes self.old (request_entry (Ask.Create object.now skip) result ∷ []) self.new }
+    /// Asks the keeper to take changes, and then makes them.
+    fn commit(&mut self, reviewed: Reviewed) -> Answer
+        requires ready { IsReady self.old.state reviewed.changes.writes.items reviewed.changes.tally reviewed.changes.tree }
+        requires legal { IsLegalAnswer reviewed.answer }
+        requires some { reviewed.changes.writes.items ≢ [] }
+        ensures makes { (ask : Ask) → Passes self.old.state ask reviewed.changes.writes.items reviewed.answer → Makes self.old (request_entry ask result ∷ []) self.new }
         ensures legal { IsLegalAnswer result }
     {
-        let alloc = self.books.store.allocator();
-        let Ok(home) = home_of(alloc, &object.id) else {
+        let Ok(batch) = prepare(&mut self.books, &reviewed.changes) else {
             return Answer::Refused(Refusal::NoMemory);
         };
-        let after = match self.books.check_create(home.as_ref(), object) {
-            Ok(after) => after,
-            Err(hurdle) => return hurdle.answer(&object.id),
-        };
-        let version = self.books.store.version() + 1;
-        match prepare_create(alloc, object, version, after) {
-            Ok(prepared) => self.commit(prepared),
-            Err(NoMemory) => Answer::Refused(Refusal::NoMemory),
-        }
-    }
-
-    /// Stores an object in the place of another, unless the two are the same.
-    fn replace(&mut self, object: &Object, expected: Option<u64>) -> Answer
-        requires { IsServedAsk (Ask.Replace object.now expected false) }
-        ensures makes { (skip : Bool) → Makes self.old (request_entry (Ask.Replace object.now expected skip) result ∷ []) self.new }
-        ensures legal { IsLegalAnswer result }
-    {
-        let Some(old) = self.books.store.get(&object.id) else {
-            return Hurdle::NotFound.answer(&object.id);
-        };
-        if let Err(hurdle) = check_version(old, expected) {
-            return hurdle.answer(&object.id);
-        }
-        let Ok(next) = replaced_by(old, object) else {
-            return Answer::Refused(Refusal::NoMemory);
-        };
-        if next.is_same(old) {
-            return Answer::One {
-                object: next,
-                fresh: false,
-            };
-        }
-        let after = self.books.tally.after(Some(old), Some(&next));
-        let last = self.books.store.version();
-        if let Err(hurdle) = check_growth(self.books.tally, after, last) {
-            return hurdle.answer(&object.id);
-        }
-        match prepare_put(self.books.store.allocator(), next, last + 1, false, after) {
-            Ok(prepared) => self.commit(prepared),
-            Err(NoMemory) => Answer::Refused(Refusal::NoMemory),
-        }
-    }
-
-    /// Removes an object.
-    fn delete(&mut self, id: &Id) -> Answer
-        requires { IsServedAsk (Ask.Delete id.now false) }
-        ensures makes { (skip : Bool) → Makes self.old (request_entry (Ask.Delete id.now skip) result ∷ []) self.new }
-        ensures legal { IsLegalAnswer result }
-    {
-        let Some(old) = self.books.store.get(id) else {
-            return Hurdle::NotFound.answer(id);
-        };
-        let after = self.books.tally.after(Some(old), None);
-        let last = self.books.store.version();
-        if let Err(hurdle) = check_growth(self.books.tally, after, last) {
-            return hurdle.answer(id);
-        }
-        match prepare_cut(self.books.store.allocator(), id, last + 1, after) {
-            Ok(prepared) => self.commit(prepared),
-            Err(NoMemory) => Answer::Refused(Refusal::NoMemory),
-        }
-    }
-
-    /// Asks the keeper to take a write, and then makes it.
-    fn commit(&mut self, prepared: Prepared) -> Answer
-        requires { IsReady self.old.state prepared.changes.items prepared.batch prepared.answer prepared.tally }
-        ensures makes { (ask : Ask) → Answers self.old.state ask prepared.changes.items prepared.answer → Makes self.old (request_entry ask result ∷ []) self.new }
-        ensures legal { IsLegalAnswer result }
-    {
-        if self.books.store.reserve(1).is_err() {
-            return Answer::Refused(Refusal::NoMemory);
-        }
-        let Prepared {
-            changes,
-            batch,
-            answer,
-            tally,
-        } = prepared;
         match self.keeper.commit(&batch) {
             Ok(()) => {
-                self.books.store.apply(changes, batch.version);
-                self.books.tally = tally;
-                answer
+                self.books.apply(reviewed.changes);
+                reviewed.answer
             }
-            Err(fault) => lost(fault),
+            Err(fault) => {
+                drop(reviewed);
+                lost(fault)
+            }
         }
     }
 }
