@@ -4,6 +4,7 @@
 #[cfg(test)]
 mod tests;
 mod top;
+mod words;
 
 use crate::top::{Status, top};
 use hx_object::NoMemory;

@@ -33,6 +33,10 @@ const NO_ROWS: Meta = Meta {
 // The greatest version.
 const MOST_VERSION: u64 = 9_223_372_036_854_775_807;
 
+// The answer where a namespace would come below itself, behind another line.
+const IN_SUBTREE: &str =
+    "\n403 {\"apiVersion\":\"v1\",\"code\":403,\"details\":{\"rule\":\"H2\"},\"kind\":\"Status\",\"message\":\"the new parent is in the subtree of the namespace\",\"metadata\":{},\"reason\":\"Forbidden\",\"status\":\"Failure\"}\n";
+
 // Ports that do not fail: calls are counted from 1.
 fn plain() -> Setting {
     Setting {
@@ -120,15 +124,55 @@ fn five_lines(alloc: Global) -> Result<Vec<u8>, AllocError> {
     Ok(script)
 }
 
-// The codes at the beginnings of the lines, each with a space.
+// The line that gives a namespace its first parent.
+fn set_parent(alloc: Global, name: &str, parent: &str) -> Result<String, AllocError> {
+    hierarchy(alloc, "POST", name, "", parent)
+}
+
+// A line that writes the hierarchy of a namespace. The place is what follows the collection's path, and the empty text is no parent.
+fn hierarchy(
+    alloc: Global,
+    method: &str,
+    name: &str,
+    place: &str,
+    parent: &str,
+) -> Result<String, AllocError> {
+    format!(in alloc;
+        "{method} /apis/hnc.x-k8s.io/v1alpha2/namespaces/{name}/hierarchyconfigurations{place} {{\"apiVersion\":\"hnc.x-k8s.io/v1alpha2\",\"kind\":\"HierarchyConfiguration\",\"metadata\":{{\"name\":\"hierarchy\"}},\"spec\":{{\"parent\":\"{parent}\"}}}}\n"
+    )
+}
+
+// Lines that create namespaces.
+fn create_all(alloc: Global, names: &[&str]) -> Result<String, AllocError> {
+    let mut script = String::new(alloc);
+    for name in names {
+        script.push_str(create(alloc, name)?.as_str())?;
+    }
+    Ok(script)
+}
+
+// The codes at the beginnings of the lines, each with the rule that the line names, if any, and with spaces.
 fn codes_of(alloc: Global, answers: &[u8]) -> Result<Vec<u8>, AllocError> {
     let mut codes = Vec::new(alloc);
     for line in answers.split(|byte| *byte == b'\n') {
         if let [first, second, third, ..] = line {
             codes.extend_from_slice(&[*first, *second, *third, b' '])?;
         }
+        if let Some(rule) = rule_in(line) {
+            codes.extend_from_slice(rule)?;
+            codes.push(b' ')?;
+        }
     }
     Ok(codes)
+}
+
+// The rule that an answer names.
+fn rule_in(line: &[u8]) -> Option<&[u8]> {
+    let mut texts = line.split(|byte| *byte == b'"');
+    match texts.nth(9) {
+        Some(member) if member == b"rule".as_slice() => texts.nth(1),
+        _ => None,
+    }
 }
 
 // The last letters of the keys.
@@ -256,21 +300,41 @@ fn a_read_or_a_write_fails(rt: HostRuntime) -> Result<(), Fail> {
 }
 
 #[test]
+fn words(rt: HostRuntime) -> Result<(), Fail> {
+    for (words, status) in [
+        ("run", Status::Done),
+        ("run --allow-skip", Status::Done),
+        ("run --excluded-namespace a,b", Status::Done),
+        ("run --allow-skip --excluded-namespace a,b", Status::Done),
+        ("run --excluded-namespace ", Status::Done),
+        ("run --excluded-namespace a --allow-skip", Status::Usage),
+        ("run --allow-skip --allow-skip", Status::Usage),
+        ("run --excluded-namespace a,,b", Status::Usage),
+        ("run --excluded-namespace A", Status::Usage),
+        ("run --excluded-namespace", Status::Usage),
+        ("run x", Status::Usage),
+        ("", Status::Usage),
+        ("Run", Status::Usage),
+        ("--help", Status::Usage),
+    ] {
+        let left = run(rt.alloc(), words, b"", &plain())?;
+        assert_eq!(rt; left.status, status, "{words}");
+    }
+    Ok(())
+}
+
+#[test]
 fn no_run_begins(rt: HostRuntime) -> Result<(), Fail> {
-    // the words; schema, version and rows of the keeper; the number of its call that fails
-    for (words, schema, version, rows, fails, status) in [
-        ("run", 1, 0, 0, 0, Status::Damaged),
-        ("run", 2, 1, 0, 0, Status::Done),
-        ("run", 2, MOST_VERSION, 0, 0, Status::Done),
-        ("run", 2, MOST_VERSION + 1, 0, 0, Status::Damaged),
-        ("run", 2, 0, 1, 0, Status::Damaged),
-        ("run", 2, 0, 0, 1, Status::KeeperFault),
-        ("run", 2, 0, 0, 2, Status::KeeperFault),
-        ("run", 2, 0, 0, 3, Status::Done),
-        ("", 2, 0, 0, 0, Status::Usage),
-        ("run run", 2, 0, 0, 0, Status::Usage),
-        ("Run", 2, 0, 0, 0, Status::Usage),
-        ("--help", 2, 0, 0, 0, Status::Usage),
+    // schema, version and rows of the keeper; the number of its call that fails
+    for (schema, version, rows, fails, status) in [
+        (1, 0, 0, 0, Status::Damaged),
+        (2, 1, 0, 0, Status::Done),
+        (2, MOST_VERSION, 0, 0, Status::Done),
+        (2, MOST_VERSION + 1, 0, 0, Status::Damaged),
+        (2, 0, 1, 0, Status::Damaged),
+        (2, 0, 0, 1, Status::KeeperFault),
+        (2, 0, 0, 2, Status::KeeperFault),
+        (2, 0, 0, 3, Status::Done),
     ] {
         let mut setting = plain();
         setting.meta = Meta {
@@ -279,8 +343,8 @@ fn no_run_begins(rt: HostRuntime) -> Result<(), Fail> {
             rows,
         };
         setting.failing_keeper = fails;
-        let left = run(rt.alloc(), words, b"GET /x", &setting)?;
-        assert_eq!(rt; left.status, status, "{words}");
+        let left = run(rt.alloc(), "run", b"GET /x", &setting)?;
+        assert_eq!(rt; left.status, status, "version {version}, call {fails}");
         assert_eq!(rt; left.sink.bytes().is_empty(), status != Status::Done);
     }
     Ok(())
@@ -298,11 +362,19 @@ fn names_at_the_edge(rt: HostRuntime) -> Result<(), Fail> {
     Ok(())
 }
 
+// A request that skips admission, where a limit would refuse it too.
+const SKIPS: &str =
+    "POST /api/v1/namespaces?admission=skip {\"apiVersion\":\"v1\",\"kind\":\"Namespace\",\"metadata\":{\"name\":\"b\"}}\n";
+
 #[test]
 fn no_version_is_left(rt: HostRuntime) -> Result<(), Fail> {
     let mut script = create(rt.alloc(), "a")?;
     script.push_str(get(rt.alloc(), "a")?.as_str())?;
-    for (version, codes) in [(MOST_VERSION - 1, "201 200 "), (MOST_VERSION, "507 404 ")] {
+    script.push_str(SKIPS)?;
+    for (version, codes) in [
+        (MOST_VERSION - 1, "201 200 403 X1 "),
+        (MOST_VERSION, "507 L4 404 403 X1 "),
+    ] {
         let mut setting = plain();
         setting.meta.version = version;
         let left = run(rt.alloc(), "run", script.as_str().as_bytes(), &setting)?;
@@ -311,5 +383,108 @@ fn no_version_is_left(rt: HostRuntime) -> Result<(), Fail> {
         assert_eq!(rt; answered.as_slice(), codes.as_bytes(), "version {version}");
         assert_eq!(rt; left.keeper.version(), MOST_VERSION);
     }
+    Ok(())
+}
+
+#[test]
+fn parents(rt: HostRuntime) -> Result<(), Fail> {
+    for (parent, codes) in [
+        ("app", "201 201 201 201 201 403 H2 "),
+        ("acme", "201 201 201 201 201 403 H2 "),
+        ("gone", "201 201 201 201 201 403 H1 "),
+    ] {
+        let mut script = create_all(rt.alloc(), &["acme", "team", "app"])?;
+        script.push_str(set_parent(rt.alloc(), "team", "acme")?.as_str())?;
+        script.push_str(set_parent(rt.alloc(), "app", "team")?.as_str())?;
+        script.push_str(set_parent(rt.alloc(), "acme", parent)?.as_str())?;
+        let left = run(rt.alloc(), "run", script.as_str().as_bytes(), &plain())?;
+        let answered = codes_of(rt.alloc(), left.sink.bytes())?;
+        assert_eq!(rt; answered.as_slice(), codes.as_bytes());
+        assert_eq!(rt; left.keeper.version(), 5);
+        let is_told = left.sink.bytes().ends_with(IN_SUBTREE.as_bytes());
+        assert_eq!(rt; is_told, parent != "gone");
+    }
+    Ok(())
+}
+
+#[test]
+fn skipping(rt: HostRuntime) -> Result<(), Fail> {
+    // the words, the namespace that loses its parent at last, and the codes
+    for (words, last, codes) in [
+        ("run --allow-skip", "c", "201 201 201 201 201 201 403 H4 "),
+        ("run --allow-skip", "a", "201 201 201 201 201 201 200 "),
+        ("run", "c", "201 201 201 201 201 403 X1 200 "),
+    ] {
+        let mut script = create_all(rt.alloc(), &["a", "b", "c"])?;
+        script.push_str(set_parent(rt.alloc(), "b", "a")?.as_str())?;
+        script.push_str(set_parent(rt.alloc(), "c", "b")?.as_str())?;
+        let skips = hierarchy(rt.alloc(), "POST", "a", "?admission=skip", "b")?;
+        script.push_str(skips.as_str())?;
+        let mends = hierarchy(rt.alloc(), "PUT", last, "/hierarchy", "")?;
+        script.push_str(mends.as_str())?;
+        let left = run(rt.alloc(), words, script.as_str().as_bytes(), &plain())?;
+        let answered = codes_of(rt.alloc(), left.sink.bytes())?;
+        assert_eq!(rt; answered.as_slice(), codes.as_bytes(), "{words}, {last}");
+    }
+    Ok(())
+}
+
+#[test]
+fn excluded_namespaces(rt: HostRuntime) -> Result<(), Fail> {
+    for (words, name, parent, codes) in [
+        (
+            "run --excluded-namespace kube-system",
+            "kube-system",
+            "",
+            "201 201 403 H6 ",
+        ),
+        (
+            "run --excluded-namespace kube-system",
+            "a",
+            "kube-system",
+            "201 201 403 H6 ",
+        ),
+        (
+            "run --excluded-namespace b,a",
+            "a",
+            "kube-system",
+            "201 201 403 H6 ",
+        ),
+        (
+            "run --excluded-namespace b",
+            "a",
+            "kube-system",
+            "201 201 201 ",
+        ),
+    ] {
+        let mut script = create_all(rt.alloc(), &["kube-system", "a"])?;
+        script.push_str(set_parent(rt.alloc(), name, parent)?.as_str())?;
+        let left = run(rt.alloc(), words, script.as_str().as_bytes(), &plain())?;
+        let answered = codes_of(rt.alloc(), left.sink.bytes())?;
+        assert_eq!(rt; answered.as_slice(), codes.as_bytes(), "{words}, {name}");
+    }
+    Ok(())
+}
+
+#[test]
+fn the_deepest_tree(rt: HostRuntime) -> Result<(), Fail> {
+    let mut script = create(rt.alloc(), "n0")?;
+    let mut codes = String::from_str(rt.alloc(), "201 ")?;
+    for depth in 1..66u64 {
+        let name = format!(in rt.alloc(); "n{depth}")?;
+        let parent = format!(in rt.alloc(); "n{}", depth - 1)?;
+        script.push_str(create(rt.alloc(), name.as_str())?.as_str())?;
+        script.push_str(set_parent(rt.alloc(), name.as_str(), parent.as_str())?.as_str())?;
+        codes.push_str(if depth < 65 {
+            "201 201 "
+        } else {
+            "201 403 H8 "
+        })?;
+    }
+    let mut setting = plain();
+    setting.room = 65536;
+    let left = run(rt.alloc(), "run", script.as_str().as_bytes(), &setting)?;
+    let answered = codes_of(rt.alloc(), left.sink.bytes())?;
+    assert_eq!(rt; answered.as_slice(), codes.as_str().as_bytes());
     Ok(())
 }

@@ -1,11 +1,13 @@
 // The top call.
-ghost use Rattle.std.specs.Prelude.{ℕ, ◌≡◌, ◌≢◌, ◌≤◌, ◌<◌, ◌⊎◌, ◌↔◌, true, false, [], ◌∷◌, IfSome, IsSomeAnd, map, length, string_bytes};
+ghost use Rattle.std.specs.Prelude.{ℕ, ◌≡◌, ◌≢◌, ◌≤◌, ◌<◌, ◌⊎◌, ◌↔◌, true, false, [], None, IfSome, IsSomeAnd, map, length, string_bytes};
 ghost use Rattle.std.specs.Io.KnownBytes.{IsAtEnd};
 ghost use Rattle.hx_ports.specs.Causes.{Rose};
 ghost use Rattle.hx_core.specs.Starting.{IsDamaged, IsUndamaged};
-ghost use Rattle.hnc.specs.Headline.{Leaves, LeavesFront, IsUnbegun, accepted_words, is_cut_short, has_not_begun};
+ghost use Rattle.hnc.specs.Headline.{Leaves, LeavesFront, IsUnbegun, is_cut_short, has_not_begun};
+ghost use Rattle.hnc.specs.Words.{terms_of};
 ghost use Rattle.hx_script.specs.Running.{most_bytes};
 
+use crate::words::options_of;
 use hx_core::{Cluster, StartFault, Unstarted};
 use hx_ports::{KeepFault, Keeper, Sink, Source};
 use hx_script::{RunEnd, run_script};
@@ -46,19 +48,19 @@ pub fn top<S: Source, W: Sink, K: Keeper>(
     mut keeper: K,
 ) -> Ended<K>
     // Answers and stored objects are a run of the machine.
-    ensures done { result.status ≡ Status.Done → IfSome (S.left source.old) (λ script.
-        Leaves script [] [] (W.written sink.old) (W.written sink.new) (K.kept keeper) (K.kept result.keeper) (K.broken keeper) (K.broken result.keeper) (K.keeper_faults keeper) (K.keeper_faults result.keeper)) }
-    ensures cut { is_cut_short result.status ≡ true → IfSome (S.left source.old) (λ script.
-        LeavesFront script (W.written sink.old) (W.written sink.new) (K.kept keeper) (K.kept result.keeper) (K.broken keeper) (K.broken result.keeper) (K.keeper_faults keeper) (K.keeper_faults result.keeper)) }
+    ensures done { result.status ≡ Status.Done → IsSomeAnd (terms_of (map string_bytes words.now)) (λ terms. IfSome (S.left source.old) (λ script.
+        Leaves terms script [] [] (W.written sink.old) (W.written sink.new) (K.kept keeper) (K.kept result.keeper) (K.broken keeper) (K.broken result.keeper) (K.keeper_faults keeper) (K.keeper_faults result.keeper))) }
+    ensures cut { is_cut_short result.status ≡ true → IsSomeAnd (terms_of (map string_bytes words.now)) (λ terms. IfSome (S.left source.old) (λ script.
+        LeavesFront terms script (W.written sink.old) (W.written sink.new) (K.kept keeper) (K.kept result.keeper) (K.broken keeper) (K.broken result.keeper) (K.keeper_faults keeper) (K.keeper_faults result.keeper))) }
     ensures unbegun { has_not_begun result.status ≡ true →
         IsUnbegun source.old source.new sink.old sink.new (K.kept keeper) (K.kept result.keeper) (K.broken keeper) (K.broken result.keeper) }
     ensures memory { result.status ≡ Status.NoMemory →
         IsUnbegun source.old source.new sink.old sink.new (K.kept keeper) (K.kept result.keeper) (K.broken keeper) (K.broken result.keeper)
-        ⊎ IfSome (S.left source.old) (λ script.
-        LeavesFront script (W.written sink.old) (W.written sink.new) (K.kept keeper) (K.kept result.keeper) (K.broken keeper) (K.broken result.keeper) (K.keeper_faults keeper) (K.keeper_faults result.keeper)) }
+        ⊎ IsSomeAnd (terms_of (map string_bytes words.now)) (λ terms. IfSome (S.left source.old) (λ script.
+        LeavesFront terms script (W.written sink.old) (W.written sink.new) (K.kept keeper) (K.kept result.keeper) (K.broken keeper) (K.broken result.keeper) (K.keeper_faults keeper) (K.keeper_faults result.keeper))) }
 
     // Each status has its cause; want of memory alone is free.
-    ensures usage { (result.status ≡ Status.Usage) ↔ (map string_bytes words.now ≢ accepted_words) }
+    ensures usage { (result.status ≡ Status.Usage) ↔ (terms_of (map string_bytes words.now) ≡ None) }
     ensures read_fault { result.status ≡ Status.ReadFault → Rose (S.read_faults source.old) (S.read_faults source.new) }
     ensures write_fault { result.status ≡ Status.WriteFault → Rose (W.write_faults sink.old) (W.write_faults sink.new) ⊎ Rose (W.stalls sink.old) (W.stalls sink.new) }
     ensures keeper_fault { result.status ≡ Status.KeeperFault → Rose (K.keeper_faults keeper) (K.keeper_faults result.keeper) }
@@ -67,7 +69,7 @@ pub fn top<S: Source, W: Sink, K: Keeper>(
     ensures too_long { result.status ≡ Status.TooLong → IfSome (S.left source.old) (λ script. most_bytes < length script) }
     ensures whole { result.status ≡ Status.Done → IfSome (S.left source.old) (λ script. length script ≤ most_bytes) }
     ensures end { result.status ≡ Status.Done → IsAtEnd (S.left source.new) }
-    ensures complete { map string_bytes words.now ≡ accepted_words
+    ensures complete { terms_of (map string_bytes words.now) ≢ None
         → (Rose (S.read_faults source.old) (S.read_faults source.new) → ⊥)
         → (Rose (W.write_faults sink.old) (W.write_faults sink.new) ⊎ Rose (W.stalls sink.old) (W.stalls sink.new) → ⊥)
         → (Rose (K.keeper_faults keeper) (K.keeper_faults result.keeper) → ⊥)
@@ -75,19 +77,25 @@ pub fn top<S: Source, W: Sink, K: Keeper>(
         → IsSomeAnd (S.left source.old) (λ script. length script ≤ most_bytes)
         → (result.status ≡ Status.Done) ⊎ (result.status ≡ Status.NoMemory) }
 {
-    if !is_run(words) {
+    let Some(options) = options_of(words) else {
         return Ended {
             status: Status::Usage,
             keeper,
         };
-    }
+    };
+    let Ok(terms) = options.terms(alloc) else {
+        return Ended {
+            status: Status::NoMemory,
+            keeper,
+        };
+    };
     if let Err(fault) = keeper.attach("") {
         return Ended {
             status: status_of_keeper(fault),
             keeper,
         };
     }
-    match Cluster::start(alloc, keeper) {
+    match Cluster::start(alloc, keeper, terms) {
         Err(Unstarted { fault, keeper }) => Ended {
             status: status_of_start(fault),
             keeper,
@@ -99,16 +107,6 @@ pub fn top<S: Source, W: Sink, K: Keeper>(
                 keeper: cluster.close(),
             }
         }
-    }
-}
-
-/// Whether the words are those of the one command.
-fn is_run(words: &[String]) -> bool
-    ensures { (result ≡ true) ↔ (map string_bytes words.now ≡ accepted_words) }
-{
-    match words {
-        [word] => word.as_str() == "run",
-        _ => false,
     }
 }
 

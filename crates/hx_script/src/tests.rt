@@ -1,9 +1,11 @@
 // The forms of lines at their edges, and what lines of every length are answered.
 use crate::line::read_line;
 use crate::{RunEnd, run_script};
+use hx_admit::Terms;
 use hx_api::Routes;
 use hx_core::{Cluster, Unstarted};
 use hx_model::Refusal;
+use hx_object::List;
 use hx_ports::{Meta, SureKeeper, SureSink, SureSource};
 use std::alloc::{AllocError, Global};
 use std::test::Fail;
@@ -128,7 +130,11 @@ fn answers(alloc: Global, script: &[u8]) -> Result<(RunEnd, SureSink), AllocErro
     let Ok(keeper) = SureKeeper::new(Vec::new(alloc), meta) else {
         return Err(AllocError);
     };
-    match Cluster::start(alloc, keeper) {
+    let terms = Terms {
+        excluded: List::of(Vec::new(alloc)),
+        may_skip: false,
+    };
+    match Cluster::start(alloc, keeper, terms) {
         Err(Unstarted { fault: _, keeper }) => {
             drop(keeper);
             Err(AllocError)
