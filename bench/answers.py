@@ -6,11 +6,14 @@ Usage: bench/answers.py script >crates/hnc/stdin
        bench/answers.py rows
 
 Each row is a line of the script and, written by hand beside it, what it is to answer: by docs/BEHAVIOUR.md and
-the definitions in the crates' specs/, never by what the program printed. A row that writes has the next version;
-nothing else of the service is known here. `rows` prints how many rows each part has.
+the definitions in the crates' specs/, never by what the program printed. A row that writes has the next version.
+The rule that a row on the tree breaks is written beside it too, and held against the plain rules of rules.py.
+`rows` prints how many rows each part has. The program is run with the words of crates/hnc/args.
 """
 import json
 import sys
+
+from rules import Tree
 
 # ---- values and texts
 
@@ -38,7 +41,9 @@ VERSIONS = {
 
 NAMESPACES = "/api/v1/namespaces"
 CONFIGS = "/apis/hnc.x-k8s.io/v1alpha2/hncconfigurations"
-HIERARCHIES = "/apis/hnc.x-k8s.io/v1alpha2/namespaces/acme/hierarchyconfigurations"
+HIERARCHIES_IN = "/apis/hnc.x-k8s.io/v1alpha2/namespaces/{}/hierarchyconfigurations"
+HIERARCHIES = HIERARCHIES_IN.format("acme")
+ALL_HIERARCHIES = "/apis/hnc.x-k8s.io/v1alpha2/hierarchyconfigurations"
 CONFIGMAPS = "/api/v1/namespaces/acme/configmaps"
 SECRETS = "/api/v1/namespaces/acme/secrets"
 ROLES = "/apis/rbac.authorization.k8s.io/v1/namespaces/acme/roles"
@@ -87,7 +92,7 @@ def put(target, body):
     return f"PUT {target} {body if isinstance(body, str) else text(body)}"
 
 
-# ---- refusals: the status, the reason and the message
+# ---- refusals: the status, the reason and the message, and of a rule its name
 
 NOT_JSON = (400, "BadRequest", "body is not JSON")
 NOT_WHOLE = (400, "BadRequest", "body has a number that is not whole")
@@ -132,6 +137,22 @@ def has_version(resource, name, version):
     return (409, "Conflict", f'{resource} "{name}" has version {version}')
 
 
+# What a refusal says of a rule of admission.
+RULES = {
+    "H7": "the name must be hierarchy",
+    "N3": "the subnamespace annotation cannot be changed",
+    "H1": "the new parent does not exist",
+    "H2": "the new parent is in the subtree of the namespace",
+    "H4": "the tree is halted",
+    "H6": "the namespace is excluded",
+    "H8": "the tree would be deeper than 64",
+}
+
+
+def broken(rule):
+    return (403, "Forbidden", RULES[rule], rule)
+
+
 class Table:
     """The lines of a script, what they answer, and the last version that was given."""
 
@@ -155,8 +176,10 @@ class Table:
         self.answers.append(f"{status} {text(body)}")
 
     def refuses(self, line, refusal):
-        status, reason, message = refusal
+        status, reason, message, *rules = refusal
         body = {"apiVersion": "v1", "code": status, "kind": "Status", "message": message, "metadata": {}, "reason": reason, "status": "Failure"}
+        for rule in rules:
+            body["details"] = {"rule": rule}
         self.answers_with(line, status, body)
 
     def shows(self, line, stored):
@@ -198,11 +221,6 @@ class Table:
 # Kind, resource, path in a namespace, name, what a first body has, what is stored of it, and the same of a second body.
 # Each name comes behind `a` and `a-b`.
 STORED = [
-    (
-        "HierarchyConfiguration", "hierarchyconfigurations.hnc.x-k8s.io", "/apis/hnc.x-k8s.io/v1alpha2/namespaces/{}/hierarchyconfigurations", "hierarchy",
-        {"spec": {"parent": "beta"}}, {"spec": {"parent": "beta"}},
-        {"spec": {"allowCascadingDeletion": True, "parent": "beta"}}, {"spec": {"allowCascadingDeletion": True, "parent": "beta"}},
-    ),
     (
         "Role", "roles.rbac.authorization.k8s.io", "/apis/rbac.authorization.k8s.io/v1/namespaces/{}/roles", "system:reader",
         {"rules": [{"verbs": ["get", "list"], "apiGroups": [""], "resources": ["pods"]}]}, {"rules": [{"apiGroups": [""], "resources": ["pods"], "verbs": ["get", "list"]}]},
@@ -298,6 +316,41 @@ def configurations(t):
     t.lists(get(CONFIGS), "HNCConfiguration", [])
 
 
+HIERARCHY = "hierarchyconfigurations.hnc.x-k8s.io"
+
+
+def hierarchies(t):
+    t.part("worked examples: HierarchyConfiguration")
+    kind, name = "HierarchyConfiguration", "hierarchy"
+    here, there = HIERARCHIES, HIERARCHIES_IN.format("beta")
+    said = thing(kind, name, spec={"parent": "beta"})
+    t.refuses(get(f"{here}/{name}"), not_found(HIERARCHY, name))
+    t.refuses(delete(f"{here}/{name}"), not_found(HIERARCHY, name))
+    t.refuses(put(f"{here}/{name}", said), not_found(HIERARCHY, name))
+    t.refuses(post(HIERARCHIES_IN.format("none"), said), not_found("namespaces", "none"))
+    t.lists(get(here), kind, [])
+    stored = t.creates(post(here, said), thing(kind, name, "acme", spec={"parent": "beta"}))
+    t.refuses(post(here, said), exists(HIERARCHY, name))
+    t.shows(get(f"{here}/{name}"), stored)
+    t.shows(put(f"{here}/{name}", said), stored)
+    t.refuses(get(f"{there}/{name}"), not_found(HIERARCHY, name))
+    second = {"allowCascadingDeletion": True, "parent": "beta"}
+    t.refuses(put(f"{here}/{name}", with_version(thing(kind, name, spec=second), 1)), has_version(HIERARCHY, name, t.version))
+    last = t.creates(post(there, thing(kind, name, spec={"parent": "acme-2", "allowCascadingDeletion": True})), thing(kind, name, "beta", spec={"allowCascadingDeletion": True, "parent": "acme-2"}))
+    between = t.creates(post(HIERARCHIES_IN.format("acme-2"), thing(kind, name)), thing(kind, name, "acme-2", spec={}))
+    t.lists(get(here), kind, [stored])
+    t.lists(get(there), kind, [last])
+    t.lists(get(HIERARCHIES_IN.format("none")), kind, [])
+    t.lists(get(ALL_HIERARCHIES), kind, [stored, between, last])
+    changed = t.changes(put(f"{here}/{name}", with_version(thing(kind, name, spec=second), stored["metadata"]["resourceVersion"])), thing(kind, name, "acme", spec=second))
+    t.shows(get(f"{here}/{name}"), changed)
+    for ns in ("acme", "acme-2", "beta"):
+        t.removes(delete(f"{HIERARCHIES_IN.format(ns)}/{name}"))
+    t.refuses(delete(f"{here}/{name}"), not_found(HIERARCHY, name))
+    t.refuses(get(f"{here}/{name}"), not_found(HIERARCHY, name))
+    t.lists(get(ALL_HIERARCHIES), kind, [])
+
+
 def stored_kinds(t):
     for kind, resource, path, name, first, first_kept, second, second_kept in STORED:
         t.part(f"worked examples: {kind}")
@@ -385,7 +438,7 @@ def users_members(t):
     stored = t.creates(post(NAMESPACES, said), namespace("users"))
     t.shows(put(f"{NAMESPACES}/users", said), stored)
     t.tries(HIERARCHIES, [
-        (thing("HierarchyConfiguration", "h", spec={"parent": "beta", "x": 1}, status={"children": ["beta"], "conditions": []}, data=1), thing("HierarchyConfiguration", "h", "acme", spec={"parent": "beta"})),
+        (thing("HierarchyConfiguration", "hierarchy", spec={"parent": "beta", "x": 1}, status={"children": ["beta"], "conditions": []}, data=1), thing("HierarchyConfiguration", "hierarchy", "acme", spec={"parent": "beta"})),
     ])
     t.tries(CONFIGS, [
         (thing("HNCConfiguration", "c", spec={"resources": [{"resource": "pods", "x": 1}], "types": []}, status={}, data=1), thing("HNCConfiguration", "c", spec={"resources": [{"group": "", "mode": "Propagate", "resource": "pods"}]})),
@@ -690,20 +743,20 @@ CONFIG_FAULTS = [
 ]
 
 
-def hierarchy(spec, metadata='{"name":"h"}'):
+def hierarchy(spec, metadata='{"name":"hierarchy"}'):
     return f'{{"apiVersion":"hnc.x-k8s.io/v1alpha2","kind":"HierarchyConfiguration","metadata":{metadata},"spec":{spec}}}'
 
 
 def hierarchy_kept(**spec):
-    return thing("HierarchyConfiguration", "h", "acme", spec=spec)
+    return thing("HierarchyConfiguration", "hierarchy", "acme", spec=spec)
 
 
 PARENT = wrong_type("spec.parent")
 CASCADE = wrong_type("spec.allowCascadingDeletion")
 
 HIERARCHY_FAULTS = [
-    ('{"apiVersion":"hnc.x-k8s.io/v1","kind":"HierarchyConfiguration","metadata":{"name":"h"}}', not_kind("HierarchyConfiguration")),
-    ('{"apiVersion":"hnc.x-k8s.io/v1alpha2","kind":"HierarchyConfiguration","metadata":{"name":"h"}}', hierarchy_kept()),
+    ('{"apiVersion":"hnc.x-k8s.io/v1","kind":"HierarchyConfiguration","metadata":{"name":"hierarchy"}}', not_kind("HierarchyConfiguration")),
+    ('{"apiVersion":"hnc.x-k8s.io/v1alpha2","kind":"HierarchyConfiguration","metadata":{"name":"hierarchy"}}', hierarchy_kept()),
     (hierarchy("null"), hierarchy_kept()),
     (hierarchy("{}"), hierarchy_kept()),
     (hierarchy("[]"), PARENT),
@@ -713,7 +766,7 @@ HIERARCHY_FAULTS = [
     (hierarchy('{"parent":["beta"]}'), PARENT),
     (hierarchy('{"parent":null}'), hierarchy_kept()),
     (hierarchy('{"parent":""}'), hierarchy_kept()),
-    (hierarchy('{"parent":"No Name"}'), hierarchy_kept(parent="No Name")),
+    (hierarchy('{"parent":"No Name"}'), broken("H1")),
     (hierarchy('{"allowCascadingDeletion":"true"}'), CASCADE),
     (hierarchy('{"allowCascadingDeletion":1}'), CASCADE),
     (hierarchy('{"allowCascadingDeletion":{}}'), CASCADE),
@@ -721,9 +774,9 @@ HIERARCHY_FAULTS = [
     (hierarchy('{"allowCascadingDeletion":false,"parent":"beta"}'), hierarchy_kept(parent="beta")),
     (hierarchy('{"allowCascadingDeletion":true}'), hierarchy_kept(allowCascadingDeletion=True)),
     (hierarchy('{"allowCascadingDeletion":1,"parent":1}'), PARENT),
-    (hierarchy('{"parent":1}', '{"name":"h","annotations":1}'), wrong_type("metadata.annotations")),
-    (hierarchy('{"allowCascadingDeletion":1}', '{"name":"h","namespace":"beta"}'), CASCADE),
-    (hierarchy("{}", '{"name":"h","namespace":"beta"}'), OTHER_PLACE),
+    (hierarchy('{"parent":1}', '{"name":"hierarchy","annotations":1}'), wrong_type("metadata.annotations")),
+    (hierarchy('{"allowCascadingDeletion":1}', '{"name":"hierarchy","namespace":"beta"}'), CASCADE),
+    (hierarchy("{}", '{"name":"hierarchy","namespace":"beta"}'), OTHER_PLACE),
 ]
 
 SECRET_FAULTS = [
@@ -746,6 +799,9 @@ def own_members(t):
     t.tries(CONFIGS, CONFIG_FAULTS)
     t.part("bodies: members of hierarchies")
     t.tries(HIERARCHIES, HIERARCHY_FAULTS)
+    # a parent is any text
+    t.creates(post(f"{HIERARCHIES}?admission=skip", hierarchy('{"parent":"No Name"}')), hierarchy_kept(parent="No Name"))
+    t.removes(delete(f"{HIERARCHIES}/hierarchy"))
     t.part("bodies: types of Secrets")
     t.tries(SECRETS, SECRET_FAULTS)
     t.tries(CONFIGMAPS, [(cm('"spec":1,"type":5'), configmap("x", spec=1, type=5))])
@@ -826,7 +882,13 @@ def names(t):
         t.tries(ROLES, [(thing("Role", name), thing("Role", name, "acme") if fits else BAD_NAME)])
     t.tries(ROLES.replace("roles", "rolebindings"), [(thing("RoleBinding", "A:b"), thing("RoleBinding", "A:b", "acme")), (thing("RoleBinding", "a/b"), BAD_NAME)])
     t.tries(CONFIGS, [(thing("HNCConfiguration", "C"), BAD_NAME), (thing("HNCConfiguration", "c.d"), thing("HNCConfiguration", "c.d", spec={"resources": []}))])
-    t.tries(HIERARCHIES, [(thing("HierarchyConfiguration", "h_"), BAD_NAME), (thing("HierarchyConfiguration", LONG_NAME), thing("HierarchyConfiguration", LONG_NAME, "acme", spec={}))])
+    # of those that fit their grammar one alone is allowed
+    t.tries(HIERARCHIES, [
+        (thing("HierarchyConfiguration", "h_"), BAD_NAME),
+        (thing("HierarchyConfiguration", LONG_NAME + "a"), BAD_NAME),
+        (thing("HierarchyConfiguration", LONG_NAME), broken("H7")),
+        (thing("HierarchyConfiguration", "hierarchy"), thing("HierarchyConfiguration", "hierarchy", "acme", spec={})),
+    ])
     t.tries(SERVICES, [(thing("Service", "1.a"), thing("Service", "1.a", "acme")), (thing("Service", "Web"), BAD_NAME)])
     for ns in ("ACME", "a.b", "-a", "a" * 64, "a%2Fb", "%20"):
         t.refuses(post(f"/api/v1/namespaces/{ns}/configmaps", MINIMAL), BAD_NAME)
@@ -1108,6 +1170,627 @@ def orders(t):
         t.refuses(line, wanted)
 
 
+# ---- the tree of namespaces
+
+# As crates/hnc/args has it.
+EXCLUDED = ("kube-system", "hnc-system")
+SUBNAMESPACE_OF = "hnc.x-k8s.io/subnamespace-of"
+
+DONE = "done"
+# a PUT that changes nothing
+SAME = "same"
+
+
+class Grove:
+    """Rows on HierarchyConfigurations named `hierarchy`. A row without a rule beside it is carried out."""
+
+    def __init__(self, t):
+        self.t = t
+        self.tree = Tree(EXCLUDED)
+        self.stored = {}
+
+    def namespaces(self, *names):
+        for name in names:
+            self.t.creates(post(NAMESPACES, thing("Namespace", name)), namespace(name))
+            self.tree.namespaces.add(name)
+
+    def post(self, ns, parent, wanted=DONE, **options):
+        self.write("POST", ns, parent, wanted, **options)
+
+    def put(self, ns, parent, wanted=DONE, **options):
+        self.write("PUT", ns, parent, wanted, **options)
+
+    def write(self, method, ns, parent, wanted, cascade=False, skip=False, **metadata):
+        old = self.stored.get(ns)
+        assert (old is None) == (method == "POST")
+        spec = {"allowCascadingDeletion": True} if cascade else {}
+        if parent is not None:
+            spec["parent"] = parent
+        made = thing("HierarchyConfiguration", "hierarchy", ns, spec=spec, **metadata)
+        line = f"{method} {self.target(method, ns, skip)} {text(made)}"
+        if self.is_refused(line, method, ns, parent, wanted, skip):
+            return
+        changed = old is None or with_version(made, old["metadata"]["resourceVersion"]) != old
+        assert changed == (wanted == DONE), line
+        if changed:
+            writes = self.t.creates if method == "POST" else self.t.changes
+            self.stored[ns] = writes(line, made)
+            self.tree.parents[ns] = parent
+        else:
+            self.t.shows(line, old)
+
+    def delete(self, ns, wanted=DONE, skip=False):
+        line = delete(self.target("DELETE", ns, skip))
+        if not self.is_refused(line, "DELETE", ns, None, wanted, skip):
+            self.t.removes(line)
+            del self.stored[ns], self.tree.parents[ns]
+
+    def target(self, method, ns, skip):
+        name = "" if method == "POST" else "/hierarchy"
+        return HIERARCHIES_IN.format(ns) + name + ("?admission=skip" if skip else "")
+
+    def is_refused(self, line, method, ns, parent, wanted, skip):
+        """Gives the row of a refusal. The rule that is written in it is the one that is found, or none is."""
+        found = self.tree.broken(method, ns, "hierarchy", parent, skip)
+        assert found == (wanted if wanted in RULES else None), (line, wanted, found)
+        if wanted in RULES:
+            self.t.refuses(line, broken(wanted))
+        return wanted in RULES
+
+    def shows(self, ns, parent):
+        """What is there of a namespace's HierarchyConfiguration, and which parent it names."""
+        assert self.stored[ns]["spec"].get("parent") == parent
+        self.t.shows(get(self.target("GET", ns, False)), self.stored[ns])
+
+    def lacks(self, ns):
+        assert ns not in self.stored
+        self.t.refuses(get(self.target("GET", ns, False)), not_found(HIERARCHY, "hierarchy"))
+
+    def lists(self, *names):
+        """All HierarchyConfigurations that are there, by their namespaces."""
+        assert sorted(self.stored) == list(names)
+        self.t.lists(get(ALL_HIERARCHIES), "HierarchyConfiguration", [self.stored[ns] for ns in names])
+
+    def clear(self):
+        for ns in sorted(self.stored):
+            self.delete(ns, skip=True)
+
+
+def tree_building(t, g):
+    t.part("tree: building and moving")
+    g.namespaces("root", "left", "right", "leaf", "twig")
+    g.post("left", "root")
+    g.post("right", "root")
+    g.post("leaf", "left")
+    g.post("twig", "leaf")
+    g.shows("leaf", "left")
+    g.lists("leaf", "left", "right", "twig")
+    # a leaf, and a subtree with it
+    g.put("twig", "left")
+    g.put("twig", "left", SAME)
+    g.put("twig", "leaf", cascade=True)
+    g.put("twig", "leaf", SAME, cascade=True)
+    g.put("leaf", "right")
+    g.put("left", "twig")
+    g.shows("left", "twig")
+    # now left is below twig, leaf, right and root
+    for ns in ("left", "twig", "leaf", "right"):
+        g.put("right", ns, "H2")
+    g.post("root", "left", "H2")
+    g.post("root", "root", "H2")
+    g.post("root", None)
+    g.put("root", "left", "H2")
+    g.put("root", "root", "H2")
+    g.put("leaf", "twig", "H2")
+    g.put("leaf", "left", "H2")
+    g.put("leaf", "leaf", "H2")
+    g.shows("leaf", "right")
+
+
+def tree_roots(t, g):
+    t.part("tree: roots")
+    # up, and down again by the other end
+    g.put("left", "root")
+    g.put("right", "left")
+    g.put("left", "leaf", "H2")
+    g.put("right", "root")
+    # without a parent, and back
+    g.put("leaf", None)
+    g.put("leaf", None, SAME)
+    g.put("root", "twig")
+    g.put("leaf", "right", "H2")
+    g.put("leaf", "root", "H2")
+    g.put("root", None)
+    g.put("leaf", "right")
+    # a DELETE makes a root
+    g.delete("leaf")
+    g.lacks("leaf")
+    g.post("leaf", "twig", "H2")
+    g.put("right", "twig")
+    g.post("leaf", "right", "H2")
+    g.post("leaf", "left")
+    g.delete("right")
+    g.delete("root")
+    g.post("root", "right")
+    g.post("right", "twig", "H2")
+    g.lists("leaf", "left", "root", "twig")
+    # the annotation counts on namespaces alone
+    g.put("left", None, annotations={SUBNAMESPACE_OF: "root"})
+    g.put("root", "left")
+    g.put("left", "root", "H2", annotations={SUBNAMESPACE_OF: "right"})
+    g.clear()
+
+
+def tree_places(t, g):
+    t.part("tree: place and version before the rules")
+    g.namespaces("place", "place-2")
+    here = HIERARCHIES_IN.format("place")
+    said = thing("HierarchyConfiguration", "hierarchy", spec={"parent": "none"})
+    t.refuses(put(f"{here}/hierarchy", said), not_found(HIERARCHY, "hierarchy"))
+    t.refuses(post(HIERARCHIES_IN.format("none"), said), not_found("namespaces", "none"))
+    t.refuses(post(HIERARCHIES_IN.format("kube-system"), said), not_found("namespaces", "kube-system"))
+    t.refuses(post(HIERARCHIES_IN.format("none"), thing("HierarchyConfiguration", "h")), not_found("namespaces", "none"))
+    for name in ("hierarchy", "h"):
+        t.refuses(put(f"{HIERARCHIES_IN.format('kube-system')}/{name}", thing("HierarchyConfiguration", name)), not_found(HIERARCHY, name))
+        t.refuses(delete(f"{HIERARCHIES_IN.format('kube-system')}/{name}"), not_found(HIERARCHY, name))
+    g.post("place", "none", "H1")
+    g.post("place", "place-2")
+    t.refuses(post(here, said), exists(HIERARCHY, "hierarchy"))
+    t.refuses(post(f"{here}?admission=skip", said), exists(HIERARCHY, "hierarchy"))
+    version = t.version
+    t.refuses(put(f"{here}/hierarchy", with_version(said, version - 1)), has_version(HIERARCHY, "hierarchy", version))
+    t.refuses(put(f"{here}/hierarchy", with_version(said, version)), broken("H1"))
+    t.refuses(put(f"{here}/hierarchy", with_version(said, "")), broken("H1"))
+    # a refusal takes no version
+    g.shows("place", "place-2")
+    g.lists("place")
+    g.put("place", None)
+    g.clear()
+
+
+def tree_names(t, g):
+    t.part("tree: names of HierarchyConfigurations")
+    g.namespaces("named")
+    here = HIERARCHIES_IN.format("named")
+    for name in ("h", "hierarch", "hierarchy2", "hierarchys", "hierarchy.named", "named", "config"):
+        t.refuses(post(here, thing("HierarchyConfiguration", name)), broken("H7"))
+    # skipping doesn't pass over it
+    t.refuses(post(f"{here}?admission=skip", thing("HierarchyConfiguration", "hierarch")), broken("H7"))
+    # before the rules on the tree, and after the faults of a body
+    for parent in ("none", "named"):
+        t.refuses(post(here, thing("HierarchyConfiguration", "h", spec={"parent": parent})), broken("H7"))
+    t.refuses(post(here, thing("HierarchyConfiguration", "Hierarchy")), BAD_NAME)
+    t.refuses(post(here, thing("HierarchyConfiguration", "h", "acme")), OTHER_PLACE)
+    t.refuses(post(here, thing("HierarchyConfiguration", "h", spec={"parent": 1})), PARENT)
+    t.refuses(get(f"{here}/h"), not_found(HIERARCHY, "h"))
+    t.refuses(put(f"{here}/h", thing("HierarchyConfiguration", "h")), not_found(HIERARCHY, "h"))
+    t.refuses(delete(f"{here}/h"), not_found(HIERARCHY, "h"))
+    # the rule is on this kind alone
+    t.tries(CONFIGMAPS, [(thing("ConfigMap", "hierarchy2"), configmap("hierarchy2")), (thing("ConfigMap", "hierarchy"), configmap("hierarchy"))])
+    g.lists()
+
+
+def tree_annotations(t, g):
+    t.part("tree: the annotation of subnamespaces")
+    annotated = {SUBNAMESPACE_OF: "acme"}
+    for value in ("acme", "noted", "none", "kube-system", "", "No Name"):
+        t.refuses(post(NAMESPACES, thing("Namespace", "noted", annotations={SUBNAMESPACE_OF: value})), broken("N3"))
+    t.refuses(post(NAMESPACES, thing("Namespace", "noted", annotations={"a": "1", **annotated}, labels={"b": "2"})), broken("N3"))
+    t.refuses(post(f"{NAMESPACES}?admission=skip", thing("Namespace", "noted", annotations=annotated)), broken("N3"))
+    # faults of a body and the place go first
+    t.refuses(post(NAMESPACES, thing("Namespace", "Noted", annotations=annotated)), BAD_NAME)
+    t.refuses(post(NAMESPACES, thing("Namespace", "noted", annotations={SUBNAMESPACE_OF: 1})), wrong_type("metadata.annotations"))
+    t.refuses(post(NAMESPACES, thing("Namespace", "acme", annotations=annotated)), exists("namespaces", "acme"))
+    t.refuses(put(f"{NAMESPACES}/noted", thing("Namespace", "noted", annotations=annotated)), not_found("namespaces", "noted"))
+    t.refuses(get(f"{NAMESPACES}/noted"), not_found("namespaces", "noted"))
+    stored = t.creates(post(NAMESPACES, thing("Namespace", "noted")), namespace("noted"))
+    one = f"{NAMESPACES}/noted"
+    for value in ("acme", "noted", ""):
+        t.refuses(put(one, thing("Namespace", "noted", annotations={SUBNAMESPACE_OF: value})), broken("N3"))
+    t.refuses(put(f"{one}?admission=skip", thing("Namespace", "noted", annotations=annotated)), broken("N3"))
+    t.refuses(put(one, with_version(thing("Namespace", "noted", annotations=annotated), 1)), has_version("namespaces", "noted", t.version))
+    t.refuses(put(one, with_version(thing("Namespace", "noted", annotations=annotated), t.version)), broken("N3"))
+    t.shows(get(one), stored)
+    # other keys, other metadata and other kinds
+    for metadata in (
+        {"annotations": {"hnc.x-k8s.io/Subnamespace-of": "acme"}},
+        {"annotations": {"HNC.x-k8s.io/subnamespace-of": "acme"}},
+        {"annotations": {"hnc.x-k8s.io/subnamespace-of2": "acme", "subnamespace-of": "acme"}},
+        {"labels": {SUBNAMESPACE_OF: "acme"}},
+    ):
+        t.changes(put(one, thing("Namespace", "noted", **metadata)), namespace("noted", **metadata))
+    t.creates(post(NAMESPACES, thing("Namespace", "noted-2", labels=annotated)), namespace("noted-2", labels=annotated))
+    t.tries(CONFIGMAPS, [(thing("ConfigMap", "x", annotations=annotated), configmap("x", annotations=annotated))])
+
+
+def tree_missing(t, g):
+    t.part("tree: parents that aren't there")
+    g.namespaces("orphan", "below", "under", "beside", "other")
+    g.post("orphan", "gone", "H1")
+    g.lacks("orphan")
+    g.post("orphan", "gone", skip=True)
+    g.shows("orphan", "gone")
+    # the parent that is named already is no new one
+    g.put("orphan", "gone", SAME)
+    g.put("orphan", "gone", cascade=True)
+    g.put("orphan", "gone", labels={"a": "b"})
+    g.put("orphan", "gone-2", "H1")
+    g.put("orphan", "orphan", "H2")
+    # a halted parent, and one below a halted one
+    g.post("below", "orphan", "H4")
+    g.post("below", "orphan", skip=True)
+    g.post("under", "below", "H4")
+    g.post("under", "below", skip=True)
+    g.post("other", "under", "H4")
+    g.post("other", "beside")
+    g.put("other", "below", "H4")
+    g.put("other", "orphan", "H4")
+    g.shows("other", "beside")
+    # below the halted one no parent changes
+    for ns, parent, higher in (("below", "orphan", "beside"), ("under", "below", "orphan")):
+        g.put(ns, parent, cascade=True)
+        g.put(ns, parent, SAME, cascade=True)
+        g.put(ns, None, "H4")
+        g.put(ns, higher, "H4")
+        g.put(ns, "other", "H4")
+        g.delete(ns, "H4")
+        g.put(ns, "gone", "H1")
+        g.put(ns, ns, "H2")
+        g.shows(ns, parent)
+    g.put("below", "under", "H2")
+    g.delete("under", skip=True)
+    g.put("below", "beside", skip=True)
+    g.put("below", "orphan", "H4")
+    g.put("below", "orphan", skip=True)
+
+
+def tree_found(t, g):
+    t.part("tree: parents that are there again")
+    # the halted one itself may go
+    g.put("orphan", "below", "H2")
+    g.put("orphan", "other")
+    g.put("below", "orphan", SAME)
+    g.put("below", "other")
+    g.put("below", "orphan", cascade=True)
+    g.put("orphan", "gone", skip=True)
+    g.put("orphan", None)
+    g.put("below", "beside")
+    g.put("below", "orphan")
+    g.put("orphan", "gone", skip=True)
+    g.delete("orphan")
+    g.lacks("orphan")
+    g.put("below", "beside")
+    g.put("below", "orphan")
+    # and it is well once its parent is there
+    g.post("orphan", "gone", skip=True)
+    g.put("below", None, "H4")
+    g.namespaces("gone")
+    g.put("below", None)
+    g.put("below", "orphan")
+    g.post("gone", "below", "H2")
+    g.post("gone", "orphan", "H2")
+    g.post("gone", "other")
+    g.clear()
+
+
+def tree_cycles(t, g):
+    t.part("tree: cycles")
+    g.namespaces("ring-1", "ring-2", "ring-3", "tail-1", "tail-2", "out", "far")
+    g.post("ring-1", "ring-2")
+    g.post("ring-2", "ring-3")
+    g.post("ring-3", "ring-1", "H2")
+    g.post("ring-3", "ring-1", skip=True)
+    g.post("far", "out")
+    # below the ring
+    g.post("tail-1", "ring-1", "H4")
+    g.post("tail-1", "ring-1", skip=True)
+    g.post("tail-2", "tail-1", "H4")
+    g.post("tail-2", "tail-1", skip=True)
+    g.lists("far", "ring-1", "ring-2", "ring-3", "tail-1", "tail-2")
+    for ns, parent in (("tail-1", "ring-1"), ("tail-2", "tail-1")):
+        g.put(ns, parent, cascade=True)
+        g.put(ns, None, "H4")
+        g.put(ns, "out", "H4")
+        g.put(ns, "ring-2", "H4")
+        g.put(ns, "none", "H1")
+        g.put(ns, "tail-2", "H2")
+        g.delete(ns, "H4")
+        g.shows(ns, parent)
+    # into the ring, and below it
+    for parent in ("ring-1", "ring-3", "tail-1", "tail-2"):
+        g.put("far", parent, "H4")
+        g.post("out", parent, "H4")
+    # in the ring
+    g.put("ring-1", "ring-2", SAME)
+    g.put("ring-1", "ring-2", cascade=True)
+    for parent in ("ring-1", "ring-3", "tail-1", "tail-2"):
+        g.put("ring-1", parent, "H2")
+    g.put("ring-2", "ring-1", "H2")
+    g.put("ring-2", "none", "H1")
+    g.shows("ring-2", "ring-3")
+
+
+def tree_out_of_cycles(t, g):
+    t.part("tree: out of cycles")
+    # each member of the ring may go, and then nothing is halted
+    g.put("ring-1", "far")
+    g.put("ring-1", "ring-3", "H2")
+    g.put("tail-1", "ring-3")
+    g.put("tail-2", "ring-2")
+    g.post("out", "tail-2", "H2")
+    g.put("ring-1", "ring-2", "H2")
+    g.put("ring-1", "ring-2", skip=True)
+    g.put("tail-1", None, "H4")
+    g.put("ring-2", None)
+    g.put("tail-1", None)
+    g.put("ring-2", "ring-3", "H2")
+    g.put("ring-2", "ring-3", skip=True)
+    g.delete("ring-3")
+    g.put("tail-1", "ring-3")
+    g.post("ring-3", "tail-1", "H2")
+    g.post("ring-3", "ring-1", "H2")
+    g.post("ring-3", "far")
+    # a ring of four, that one of them leaves
+    g.put("far", "tail-2", "H2")
+    g.put("far", "tail-2", skip=True)
+    g.put("tail-1", "out", "H4")
+    g.put("ring-2", "tail-1", "H2")
+    g.put("tail-2", "out")
+    g.put("tail-1", "out")
+    g.clear()
+
+
+def tree_small_rings(t, g):
+    t.part("tree: rings of one and of two")
+    g.namespaces("own", "kid", "pair-1", "pair-2", "free")
+    g.post("own", "own", "H2")
+    g.post("own", "own", skip=True)
+    g.shows("own", "own")
+    g.put("own", "own", SAME)
+    g.put("own", "own", cascade=True)
+    g.post("kid", "own", "H4")
+    g.post("kid", "own", skip=True)
+    g.put("kid", None, "H4")
+    g.delete("kid", "H4")
+    g.put("kid", "kid", "H2")
+    g.put("own", "kid", "H2")
+    g.put("own", "free")
+    g.put("kid", "free")
+    g.put("kid", "own")
+    g.put("own", "own", "H2")
+    g.put("own", "own", skip=True)
+    g.put("kid", "free", "H4")
+    g.put("own", None)
+    g.put("kid", "free")
+    g.put("own", "own", skip=True)
+    g.put("kid", "own", "H4")
+    g.delete("own")
+    g.put("kid", "own")
+    g.post("own", "kid", "H2")
+    g.post("own", "kid", skip=True)
+    # from one ring to another
+    g.post("pair-1", "pair-2")
+    g.post("pair-2", "pair-1", "H2")
+    g.post("pair-2", "pair-1", skip=True)
+    g.put("pair-1", "own", "H4")
+    g.put("kid", "pair-2", "H4")
+    g.put("kid", "pair-2", skip=True)
+    g.put("own", "free", "H4")
+    g.put("kid", "free", "H4")
+    g.put("kid", "free", skip=True)
+    g.put("pair-1", "pair-1", "H2")
+    g.put("pair-1", "own")
+    g.delete("pair-2")
+    g.put("pair-1", "pair-2")
+    g.lists("kid", "own", "pair-1")
+    g.clear()
+
+
+def tree_excluded(t, g):
+    t.part("tree: excluded namespaces")
+    g.namespaces("inner", "low", "open", "kube-systems", "kube")
+    g.post("inner", "kube-system", "H1")
+    g.post("inner", "kube-system", skip=True)
+    g.put("inner", None)
+    g.namespaces("kube-system")
+    g.put("inner", "kube-system", "H6")
+    g.put("inner", "hnc-system", "H1")
+    # nothing is written in an excluded namespace
+    g.post("kube-system", None, "H6")
+    t.refuses(post(HIERARCHIES_IN.format("kube-system"), thing("HierarchyConfiguration", "h")), broken("H7"))
+    g.post("kube-system", "open", "H6")
+    g.post("kube-system", "none", "H1")
+    g.post("kube-system", "hnc-system", "H1")
+    g.post("kube-system", "kube-system", "H2")
+    g.lacks("kube-system")
+    g.post("kube-system", "open", skip=True)
+    g.put("kube-system", "open", "H6")
+    g.put("kube-system", "open", SAME, skip=True)
+    g.put("kube-system", "open", "H6", cascade=True)
+    g.put("kube-system", "open", cascade=True, skip=True)
+    g.put("kube-system", None, "H6")
+    g.put("kube-system", "inner", "H6")
+    g.put("kube-system", "none", "H1")
+    g.post("open", "kube-system", "H2")
+    g.shows("kube-system", "open")
+    # and a DELETE writes nothing
+    g.delete("kube-system")
+    g.lacks("kube-system")
+
+
+def tree_excluded_parents(t, g):
+    t.part("tree: parents that are excluded")
+    g.put("inner", "kube-system", skip=True)
+    g.shows("inner", "kube-system")
+    g.put("inner", "kube-system", SAME)
+    g.put("inner", "kube-system", cascade=True)
+    g.post("kube-system", "inner", "H2")
+    g.post("low", "inner", "H4")
+    g.post("low", "inner", skip=True)
+    g.put("low", "inner", cascade=True)
+    g.put("low", None, "H4")
+    g.put("low", "open", "H4")
+    g.put("low", "kube-system", "H4")
+    g.put("low", "none", "H1")
+    g.delete("low", "H4")
+    g.put("inner", "open")
+    g.put("low", "open")
+    g.put("inner", "kube-system", "H6")
+    g.put("low", "kube-system", "H6")
+    g.put("low", "inner")
+    g.put("inner", "kube-system", skip=True)
+    g.put("inner", None)
+    g.put("inner", "kube-system", skip=True)
+    g.delete("inner")
+    g.post("inner", "kube-system", "H6")
+    # the excluded namespace below a halted one
+    g.post("inner", "inner", skip=True)
+    g.post("kube-system", "low", "H4")
+    g.post("kube-system", "low", skip=True)
+    g.put("kube-system", "low", "H6", cascade=True)
+    g.put("kube-system", None, "H4")
+    g.put("kube-system", "open", "H4")
+    g.delete("kube-system", "H4")
+    g.put("inner", None)
+    g.put("kube-system", None, "H6")
+    g.delete("kube-system")
+
+
+def tree_excluded_names(t, g):
+    t.part("tree: names that are excluded")
+    # one that comes to be there later
+    g.put("inner", "hnc-system", "H1")
+    g.put("inner", "hnc-system", skip=True)
+    g.namespaces("hnc-system")
+    g.put("inner", "hnc-system", cascade=True)
+    g.put("low", None, "H4")
+    g.put("inner", "kube-system", "H6")
+    g.put("inner", "open")
+    g.put("inner", "hnc-system", "H6")
+    # names that are almost excluded
+    g.post("kube", "open")
+    g.post("kube-systems", "kube")
+    g.post("open", "kube-systems", "H2")
+    g.put("inner", "kube-systems")
+    # only HierarchyConfigurations are meant
+    role = thing("Role", "reader")
+    path = "/apis/rbac.authorization.k8s.io/v1/namespaces/kube-system/roles"
+    t.tries(path, [(role, thing("Role", "reader", "kube-system"))])
+    t.changes(put(f"{NAMESPACES}/kube-system", thing("Namespace", "kube-system", labels={"a": "b"})), namespace("kube-system", labels={"a": "b"}))
+    g.clear()
+
+
+def rung(number):
+    """The namespaces of a line, each the parent of the next one."""
+    return f"n{number}"
+
+
+def tree_depth(t, g):
+    t.part("tree: depth")
+    g.namespaces(*(rung(number) for number in range(66)), "step")
+    for number in range(1, 65):
+        g.post(rung(number), rung(number - 1))
+    g.post("n65", "n64", "H8")
+    g.lacks("n65")
+    g.post("n65", "n63")
+    g.put("n65", "n64", "H8")
+    g.shows("n65", "n63")
+    g.delete("n65")
+    # top and what is below it have that height: by way of step it would come to reach a depth of 65, and then of 64
+    g.post("step", None)
+    for height in (0, 2, 31, 61, 63):
+        top, above = rung(64 - height), rung(63 - height)
+        g.put("step", above)
+        g.put(top, "step", "H8")
+        g.put("step", rung(62 - height) if height < 63 else None)
+        g.put(top, "step")
+        g.put(top, above)
+    g.post("n0", "step", "H8")
+    # both halves of the line, one below the other and the other way round
+    g.put("n32", None)
+    g.post("n0", "n64")
+    g.put("n32", "n31", "H2")
+    g.put("n32", "step", "H8")
+    g.put("n0", None)
+    g.put("n32", "n31")
+    g.lists(*sorted(rung(number) for number in range(65)), "step")
+
+
+def tree_too_deep(t, g):
+    t.part("tree: namespaces that are deeper")
+    g.post("n65", "n64", skip=True)
+    # whoever keeps its parent, or comes to reach 64, may be written
+    g.put("n65", "n64", cascade=True)
+    g.put("n63", "n62", cascade=True)
+    g.put("n60", "n58")
+    g.put("n60", "n59", "H8")
+    g.put("n60", "n59", skip=True)
+    # a move upwards may not be enough, and a DELETE always is
+    g.put("n0", "step", "H8")
+    g.put("n0", "step", skip=True)
+    g.put("n0", None, "H8")
+    g.put("n0", "far", "H8")
+    g.put("n1", "step", "H8")
+    g.put("n2", "step")
+    g.put("n2", "n1", "H8")
+    g.put("n2", "n1", skip=True)
+    # each of the rules before
+    g.put("n0", "none", "H1")
+    g.put("n0", "n65", "H2")
+    g.put("n0", "kube-system", "H6")
+    g.put("n0", "step", SAME)
+    g.delete("n0")
+    g.lacks("n0")
+    g.put("n65", "n63")
+    g.post("own", "own", skip=True)
+    g.post("n0", "own", "H4")
+    g.post("n0", "kube-system", "H6")
+    g.post("n0", "far", "H8")
+    # a parent that comes later lowers all below it
+    g.post("n0", "later", "H1")
+    g.post("n0", "later", skip=True)
+    g.put("n64", "n62", "H4")
+    g.namespaces("later")
+    g.put("n65", "n63", cascade=True)
+    g.put("n65", "n64", "H8")
+    g.put("n65", "n62")
+    g.put("n64", "n65", "H8")
+    g.put("n64", "n62")
+    g.put("n64", "n63", "H8")
+    g.put("n0", None)
+    g.put("n64", "n63")
+    g.shows("n64", "n63")
+    g.put("n0", "later", "H8")
+    g.put("n64", "n62")
+    g.put("n0", "later")
+    g.post("later", "step", "H8")
+
+
+TREE_PARTS = [
+    tree_building,
+    tree_roots,
+    tree_places,
+    tree_names,
+    tree_annotations,
+    tree_missing,
+    tree_found,
+    tree_cycles,
+    tree_out_of_cycles,
+    tree_small_rings,
+    tree_excluded,
+    tree_excluded_parents,
+    tree_excluded_names,
+    tree_depth,
+    tree_too_deep,
+]
+
+
+def trees(t):
+    g = Grove(t)
+    for part in TREE_PARTS:
+        part(t, g)
+
+
 # ---- lines
 
 # Lines in no form.
@@ -1223,6 +1906,7 @@ def lengths(t):
 PARTS = [
     namespaces,
     configurations,
+    hierarchies,
     stored_kinds,
     order_of_lists,
     unwritten_kinds,
@@ -1241,6 +1925,7 @@ PARTS = [
     queries,
     feed,
     orders,
+    trees,
     silent_lines,
     line_ends,
     line_forms,
