@@ -1,4 +1,5 @@
 pub mod Identities
+pub mod KindTests
 pub mod NameExamples
 pub mod Sameness
 pub mod Sizes

@@ -4,7 +4,8 @@ use Rattle.std.proofs.lemmas.List.Concat.{length-flat_map}
 use Rattle.std.proofs.lemmas.List.Sums.{sum_by-cons}
 use Rattle.json.specs.Print.{quoted, escape, escape_byte}
 use Rattle.serde_json.specs.Written.{compact_text, items_text, members_text}
-use Rattle.hx_object.specs.Sizes.{capped, capped_sum, pair_size, counted, entry_size, limit_size, config_size, hierarchy_size, quota_size, specified_size, size_of}
+use Rattle.hx_object.specs.Sizes.{pair_size, counted, config_size, hierarchy_size, quota_size, specified_size, size_of}
+use Rattle.hx_object.specs.CappedSizes.{capped, capped_sum, entry_size, limit_size}
 use Rattle.hx_object.specs.Json.{entry_data, entries_items, limits_members, mode_text}
 use Rattle.hx_object.specs.declared.object.ModeEntry.{ModeEntry}
 use Rattle.hx_object.specs.declared.object.Limit.{Limit}

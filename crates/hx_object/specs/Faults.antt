@@ -10,12 +10,12 @@ use Rattle.serde_json.specs.Read.{max_depth}
 use Rattle.serde_json.specs.Written.{compact_text}
 use Rattle.hx_object.specs.Canonical.{IsCanonical}
 use Rattle.hx_object.specs.Json.{limit_pair}
-use Rattle.hx_object.specs.Kinds.{is_in_cluster, number_of}
+use Rattle.hx_object.specs.Kinds.{is_in_cluster, is_plain}
 use Rattle.hx_object.specs.Names.{is_dns_label, is_name_of, is_label_key, is_label_value, is_annotation_key}
 use Rattle.hx_object.specs.Pairs.{has_ascending_keys}
 use Rattle.hx_object.specs.Sizes.{counted, greatest_size, size_of}
 use Rattle.hx_object.specs.declared.kind.Kind.{Kind}
-use Rattle.hx_object.specs.declared.kind.Kind.TheVariants.{Secret}
+use Rattle.hx_object.specs.declared.kind.Kind.TheVariants.{Namespace, HncConfiguration, HierarchyConfiguration, SubnamespaceAnchor, HierarchicalResourceQuota, Secret}
 use Rattle.hx_object.specs.declared.object.Id.{Id}
 use Rattle.hx_object.specs.declared.object.Object.{Object}
 use Rattle.hx_object.specs.declared.object.Need.{Need}
@@ -80,14 +80,14 @@ pub record IsPlain (kind : Kind) (members : List ℕ) (need : Need) : Type 0 whe
   pub own : (get_member (codes "apiVersion") whole ≡ None) × (get_member (codes "kind") whole ≡ None) × (get_member (codes "metadata") whole ≡ None)
   pub says : need ≡ need_of kind whole
 
--- the payload is one of the kind. Kinds with a payload of their own have the numbers 1 to 5
+-- the payload is one of the kind
 abbrev pub IsPayloadOf : Kind → Payload → Type 0
-IsPayloadOf kind (NamespaceOf terminating) = number_of kind ≡ 1
-IsPayloadOf kind (Config entries) = number_of kind ≡ 2
-IsPayloadOf kind (Hierarchy parent cascade children conditions) = (number_of kind ≡ 3) × ((parent ≡ Some []) → ⊥)
-IsPayloadOf kind (Anchor status) = number_of kind ≡ 4
-IsPayloadOf kind (Quota hard status) = (number_of kind ≡ 5) × (has_ascending_keys (map limit_pair hard) ≡ true)
-IsPayloadOf kind (Plain members need) = (6 ≤ number_of kind) × IsPlain kind members need
+IsPayloadOf kind (NamespaceOf terminating) = kind ≡ Namespace
+IsPayloadOf kind (Config entries) = kind ≡ HncConfiguration
+IsPayloadOf kind (Hierarchy parent cascade children conditions) = (kind ≡ HierarchyConfiguration) × ((parent ≡ Some []) → ⊥)
+IsPayloadOf kind (Anchor status) = kind ≡ SubnamespaceAnchor
+IsPayloadOf kind (Quota hard status) = (kind ≡ HierarchicalResourceQuota) × (has_ascending_keys (map limit_pair hard) ≡ true)
+IsPayloadOf kind (Plain members need) = (is_plain kind ≡ true) × IsPlain kind members need
 
 -- an object without fault, whose payload is one of its kind, and that lies in a namespace exactly where its kind asks for one
 pub record IsLegal (x : Object) : Type 0 where

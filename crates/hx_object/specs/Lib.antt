@@ -1,9 +1,12 @@
 pub mod Kinds
 pub mod Names
+pub mod WellKnown
 pub mod Order
 pub mod Pairs
 pub mod Texts
 pub mod Canonical
 pub mod Json
 pub mod Sizes
+pub mod CappedSizes
 pub mod Faults
+pub mod Sharing

@@ -12,6 +12,26 @@ use Rattle.std.specs.Str.{bytes_eq}
 use Rattle.hx_object.specs.declared.kind.Kind.{Kind}
 use Rattle.hx_object.specs.declared.kind.Kind.TheVariants.{Namespace, SubnamespaceAnchor, Role, RoleBinding}
 
+-- ---- bytes
+
+abbrev byte_of : List ℕ → ℕ
+byte_of text = slice_index text 0
+
+abbrev pub dash : ℕ
+dash = byte_of (codes "-")
+
+abbrev pub point : ℕ
+point = byte_of (codes ".")
+
+abbrev pub slash : ℕ
+slash = byte_of (codes "/")
+
+abbrev pub percent : ℕ
+percent = byte_of (codes "%")
+
+abbrev pub underscore : ℕ
+underscore = byte_of (codes "_")
+
 -- `a` to `z`
 abbrev pub is_lower : ℕ → Bool
 is_lower byte = nat_le 97 byte && nat_le byte 122
@@ -26,7 +46,9 @@ is_digit byte = nat_le 48 byte && nat_le byte 57
 
 -- a lowercase letter, a digit or a dash
 abbrev pub is_dns_byte : ℕ → Bool
-is_dns_byte byte = is_lower byte || is_digit byte || byte == 45
+is_dns_byte byte = is_lower byte || is_digit byte || byte == dash
+
+-- ---- names
 
 -- between so many bytes and so many
 abbrev pub has_length : ℕ → ℕ → List ℕ → Bool
@@ -38,7 +60,7 @@ has_ends passes text = passes (slice_index text 0) && passes (slice_index text (
 
 -- no dash; of the bytes of a label, a letter or a digit
 abbrev pub is_dns_end : ℕ → Bool
-is_dns_end byte = not (byte == 45)
+is_dns_end byte = not (byte == dash)
 
 -- 1 to 63 lowercase letters, digits and dashes, with no dash at either end
 unfoldable pub is_dns_label : List ℕ → Bool
@@ -50,7 +72,7 @@ is_letter any_case byte = is_lower byte || (any_case && is_upper byte)
 
 -- such a letter, a digit or a dash
 abbrev pub is_part_byte : Bool → ℕ → Bool
-is_part_byte any_case byte = is_letter any_case byte || (is_digit byte || byte == 45)
+is_part_byte any_case byte = is_letter any_case byte || (is_digit byte || byte == dash)
 
 -- a part of a subdomain: one or more such bytes, with no dash at either end
 unfoldable pub is_dns_part : Bool → List ℕ → Bool
@@ -58,7 +80,7 @@ is_dns_part any_case part = nat_le 1 (length part) && (list_all (is_part_byte an
 
 -- 1 to 253 bytes: parts joined by points
 unfoldable pub is_subdomain : Bool → List ℕ → Bool
-is_subdomain any_case name = has_length 1 253 name && list_all (is_dns_part any_case) (slice_split (λ byte. byte == 46) name)
+is_subdomain any_case name = has_length 1 253 name && list_all (is_dns_part any_case) (slice_split (λ byte. byte == point) name)
 
 -- of lowercase letters
 abbrev pub is_dns_subdomain : List ℕ → Bool
@@ -66,7 +88,7 @@ is_dns_subdomain name = is_subdomain false name
 
 -- from `!` to `~`, and neither `/` nor `%`
 abbrev pub is_role_byte : ℕ → Bool
-is_role_byte byte = nat_le 33 byte && (nat_le byte 126 && (not (byte == 47) && not (byte == 37)))
+is_role_byte byte = nat_le 33 byte && (nat_le byte 126 && (not (byte == slash) && not (byte == percent)))
 
 -- `.` or `..`
 abbrev pub is_points : List ℕ → Bool
@@ -82,7 +104,7 @@ is_alphanumeric byte = is_lower byte || (is_upper byte || is_digit byte)
 
 -- a letter, a digit, `-`, `_` or `.`
 abbrev pub is_qualified_byte : ℕ → Bool
-is_qualified_byte byte = is_alphanumeric byte || (byte == 45 || (byte == 95 || byte == 46))
+is_qualified_byte byte = is_alphanumeric byte || (byte == dash || (byte == underscore || byte == point))
 
 -- 1 to 63 letters, digits, `-`, `_` and `.`, with a letter or digit at either end
 unfoldable pub is_qualified_part : List ℕ → Bool
@@ -90,7 +112,7 @@ is_qualified_part name = has_length 1 63 name && (list_all is_qualified_byte nam
 
 -- where the first `/` is
 abbrev pub first_slash : List ℕ → Option ℕ
-first_slash key = position (λ byte. byte == 47) key
+first_slash key = position (λ byte. byte == slash) key
 
 -- a name, or a subdomain, `/` and a name, by where the first `/` is
 abbrev pub is_key_cut_at : Bool → List ℕ → Option ℕ → Bool

@@ -1,13 +1,13 @@
 -- The size of an object, and what of it counts.
 --     is_counted    a label that counts: neither one of the tree nor one that a reconciler writes
 --     size_of       the size in bytes
-use Rattle.std.specs.Prelude.{ℕ, ◌+◌, Bool, not, ◌&&◌, ◌||◌, nat_lt, nat_eq, List, [], codes, length, filter, sum_by, fold, min, Option}
+use Rattle.std.specs.Prelude.{ℕ, ◌+◌, Bool, not, ◌&&◌, ◌||◌, nat_lt, nat_eq, List, [], length, filter, sum_by, Option}
 use Rattle.std.specs.List.{ends_with}
 use Rattle.std.specs.Str.{bytes_eq}
-use Rattle.json.specs.Print.{quoted}
 use Rattle.serde_json.specs.Data.{object}
 use Rattle.serde_json.specs.Written.{compact_text}
-use Rattle.hx_object.specs.Json.{specified_members, entry_data}
+use Rattle.hx_object.specs.Json.{specified_members}
+use Rattle.hx_object.specs.WellKnown.{inherited_from, included_namespace, tree_suffix}
 use Rattle.hx_object.specs.declared.object.Limit.{Limit}
 use Rattle.hx_object.specs.declared.object.ModeEntry.{ModeEntry}
 use Rattle.hx_object.specs.declared.object.Object.{Object}
@@ -16,16 +16,13 @@ use Rattle.hx_object.specs.declared.object.Payload.TheVariants.{Namespace as Nam
 
 -- ---- labels
 
-abbrev pub tree_suffix : List ℕ
-tree_suffix = codes ".tree.hnc.x-k8s.io/depth"
-
 -- at least one byte, and then the suffix of the tree's labels
 unfoldable pub is_tree_key : List ℕ → Bool
 is_tree_key key = nat_lt (length tree_suffix) (length key) && ends_with nat_eq key tree_suffix
 
 -- a reconciler writes the label
 unfoldable pub is_reconciled_key : List ℕ → Bool
-is_reconciled_key key = bytes_eq key (codes "hnc.x-k8s.io/included-namespace") || bytes_eq key (codes "hnc.x-k8s.io/inherited-from")
+is_reconciled_key key = bytes_eq key included_namespace || bytes_eq key inherited_from
 
 -- neither a label of the tree nor one that a reconciler writes
 unfoldable pub is_counted : List ℕ × List ℕ → Bool
@@ -64,21 +61,3 @@ size_of x = sum_by pair_size (counted x.labels) + (sum_by pair_size x.annotation
 
 abbrev pub greatest_size : ℕ
 greatest_size = 65536
-
--- ---- how it is counted
-
--- a size, as far as it is counted: to one more than the greatest
-abbrev pub capped : ℕ → ℕ
-capped size = min size 65537
-
--- the sum of sizes, counted so far
-abbrev pub capped_sum : {X : Type 0} → (X → ℕ) → List X → ℕ
-capped_sum size items = fold (λ sum x. capped (sum + size x)) 0 items
-
--- what an entry of a HNCConfiguration has, with the comma or bracket behind it
-unfoldable pub entry_size : ModeEntry → ℕ
-entry_size entry = length (compact_text (entry_data entry)) + 1
-
--- what a limit has as a member, with the comma or brace behind it
-unfoldable pub limit_size : Limit → ℕ
-limit_size limit = length (quoted limit.resource) + (length (quoted limit.written) + 2)

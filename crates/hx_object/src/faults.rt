@@ -6,9 +6,8 @@ ghost use Rattle.hx_object.specs.Sizes.{is_tree_key, is_reconciled_key, is_count
 
 use crate::names::{is_annotation_key, is_dns_label, is_label_key, is_label_value, is_name_of};
 use crate::size::is_too_large;
+use crate::well_known::{INCLUDED_NAMESPACE, INHERITED_FROM, TREE_SUFFIX};
 use crate::{Id, Object, ObjectFault, Pairs, Payload, Text};
-
-const TREE_SUFFIX: &[u8] = b".tree.hnc.x-k8s.io/depth";
 
 /// How many labels that count an object may have.
 const MOST_LABELS: usize = 256;
@@ -131,13 +130,12 @@ pub(crate) fn is_counted(label: &(Text, Text)) -> bool
 fn is_tree_key(key: &[u8]) -> bool
     ensures { result ≡ is_tree_key key.now }
 {
-    TREE_SUFFIX.len() < key.len() && key.ends_with(TREE_SUFFIX)
+    TREE_SUFFIX.len() < key.len() && key.ends_with(TREE_SUFFIX.as_bytes())
 }
 
 #[tactic(auto, unfolding(crate::specs::Sizes::is_reconciled_key))]
 fn is_reconciled_key(key: &[u8]) -> bool
     ensures { result ≡ is_reconciled_key key.now }
 {
-    key == b"hnc.x-k8s.io/included-namespace".as_slice()
-        || key == b"hnc.x-k8s.io/inherited-from".as_slice()
+    key == INCLUDED_NAMESPACE.as_bytes() || key == INHERITED_FROM.as_bytes()
 }

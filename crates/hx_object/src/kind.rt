@@ -1,6 +1,7 @@
 // The kinds of objects.
-ghost use Rattle.std.specs.Prelude.{◌≡◌};
-ghost use Rattle.hx_object.specs.Kinds.{number_of, resource_of, is_in_cluster, kind_of_plural, name_of, api_version_of};
+ghost use Rattle.std.specs.Prelude.{◌≡◌, find};
+ghost use Rattle.std.specs.Str.{bytes_eq};
+ghost use Rattle.hx_object.specs.Kinds.{kind_row, number_of, resource_of, is_in_cluster, is_namespace, is_hierarchy, can_be_copied, kind_of_plural, name_of, api_version_of, plural_of};
 
 /// A kind of object: a resource of the Kubernetes core, RBAC or networking API, or of HNC's own group `hnc.x-k8s.io/v1alpha2`.
 ///
@@ -23,121 +24,181 @@ pub enum Kind {
     PersistentVolumeClaim,
 }
 
+/// Whether the objects of a kind lie in namespaces.
+#[derive(Clone, Copy, Debug, PartialEq, Eq)]
+enum Scope {
+    Cluster,
+    Namespaced,
+}
+
+/// What the table of kinds says of a kind.
+#[derive(Clone, Copy)]
+struct Row {
+    number: u8,
+    plural: &'static str,
+    /// The plural, and behind a point the API group where that isn't the core group.
+    resource: &'static str,
+    name: &'static str,
+    /// The group's version, behind the group and a slash where that isn't the core group.
+    api_version: &'static str,
+    scope: Scope,
+}
+
+/// A row by its number, its API group, the group's version, its plural, its name and its scope. The core group is the empty text.
+macro_rules! row {
+    ($number:literal, "", $version:literal, $plural:literal, $name:literal, $scope:ident) => {
+        Row {
+            number: $number,
+            plural: $plural,
+            resource: $plural,
+            name: $name,
+            api_version: $version,
+            scope: Scope::$scope,
+        }
+    };
+    ($number:literal, $group:literal, $version:literal, $plural:literal, $name:literal, $scope:ident) => {
+        Row {
+            number: $number,
+            plural: $plural,
+            resource: concat!($plural, ".", $group),
+            name: $name,
+            api_version: concat!($group, "/", $version),
+            scope: Scope::$scope,
+        }
+    };
+}
+
+/// The row of a kind, among the rows of all kinds.
+macro_rules! kind_rows {
+    ($self:expr; $($kind:ident => $number:literal, $group:tt, $version:literal, $plural:literal, $name:literal, $scope:ident;)*) => {
+        match $self {
+            $(Kind::$kind => row!($number, $group, $version, $plural, $name, $scope),)*
+        }
+    };
+}
+
 impl Kind {
+    /// The kind's row in the table of kinds.
+    fn row(self) -> Row
+        ensures number { result.number ≡ number_of self }
+        ensures plural { result.plural.now ≡ plural_of self }
+        ensures name { result.name.now ≡ name_of self }
+        ensures resource { result.resource.now ≡ resource_of self }
+        ensures api_version { result.api_version.now ≡ api_version_of self }
+        ensures scope { result.scope ≡ (kind_row self).scope }
+    {
+        kind_rows!(self;
+            Namespace => 1, "", "v1", "namespaces", "Namespace", Cluster;
+            HncConfiguration => 2, "hnc.x-k8s.io", "v1alpha2", "hncconfigurations", "HNCConfiguration", Cluster;
+            HierarchyConfiguration => 3, "hnc.x-k8s.io", "v1alpha2", "hierarchyconfigurations", "HierarchyConfiguration", Namespaced;
+            SubnamespaceAnchor => 4, "hnc.x-k8s.io", "v1alpha2", "subnamespaceanchors", "SubnamespaceAnchor", Namespaced;
+            HierarchicalResourceQuota => 5, "hnc.x-k8s.io", "v1alpha2", "hierarchicalresourcequotas", "HierarchicalResourceQuota", Namespaced;
+            Role => 6, "rbac.authorization.k8s.io", "v1", "roles", "Role", Namespaced;
+            RoleBinding => 7, "rbac.authorization.k8s.io", "v1", "rolebindings", "RoleBinding", Namespaced;
+            ConfigMap => 8, "", "v1", "configmaps", "ConfigMap", Namespaced;
+            Secret => 9, "", "v1", "secrets", "Secret", Namespaced;
+            NetworkPolicy => 10, "networking.k8s.io", "v1", "networkpolicies", "NetworkPolicy", Namespaced;
+            LimitRange => 11, "", "v1", "limitranges", "LimitRange", Namespaced;
+            Pod => 12, "", "v1", "pods", "Pod", Namespaced;
+            Service => 13, "", "v1", "services", "Service", Namespaced;
+            PersistentVolumeClaim => 14, "", "v1", "persistentvolumeclaims", "PersistentVolumeClaim", Namespaced;
+        )
+    }
+
     /// The kind's number, 1 to 14, by which identities are ordered and stored rows begin.
     pub fn number(self) -> u8
         ensures { result ≡ number_of self }
     {
-        match self {
-            Kind::Namespace => 1,
-            Kind::HncConfiguration => 2,
-            Kind::HierarchyConfiguration => 3,
-            Kind::SubnamespaceAnchor => 4,
-            Kind::HierarchicalResourceQuota => 5,
-            Kind::Role => 6,
-            Kind::RoleBinding => 7,
-            Kind::ConfigMap => 8,
-            Kind::Secret => 9,
-            Kind::NetworkPolicy => 10,
-            Kind::LimitRange => 11,
-            Kind::Pod => 12,
-            Kind::Service => 13,
-            Kind::PersistentVolumeClaim => 14,
-        }
-    }
-
-    /// The kind whose objects are listed under a plural.
-    pub fn of_plural(plural: &str) -> Option<Kind>
-        ensures { result ≡ kind_of_plural plural.now }
-    {
-        match plural {
-            "namespaces" => Some(Kind::Namespace),
-            "hncconfigurations" => Some(Kind::HncConfiguration),
-            "hierarchyconfigurations" => Some(Kind::HierarchyConfiguration),
-            "subnamespaceanchors" => Some(Kind::SubnamespaceAnchor),
-            "hierarchicalresourcequotas" => Some(Kind::HierarchicalResourceQuota),
-            "roles" => Some(Kind::Role),
-            "rolebindings" => Some(Kind::RoleBinding),
-            "configmaps" => Some(Kind::ConfigMap),
-            "secrets" => Some(Kind::Secret),
-            "networkpolicies" => Some(Kind::NetworkPolicy),
-            "limitranges" => Some(Kind::LimitRange),
-            "pods" => Some(Kind::Pod),
-            "services" => Some(Kind::Service),
-            "persistentvolumeclaims" => Some(Kind::PersistentVolumeClaim),
-            _ => None,
-        }
+        self.row().number
     }
 
     /// Whether objects of the kind lie in no namespace.
     pub fn is_in_cluster(self) -> bool
         ensures { result ≡ is_in_cluster self }
     {
-        matches!(self, Kind::Namespace | Kind::HncConfiguration)
+        matches!(self.row().scope, Scope::Cluster)
     }
 
     /// The name of the kind's resource as messages give it: the plural, and behind a point the API group where that isn't the core group.
     pub fn resource(self) -> &'static str
         ensures { result.now ≡ resource_of self }
     {
-        match self {
-            Kind::Namespace => "namespaces",
-            Kind::HncConfiguration => "hncconfigurations.hnc.x-k8s.io",
-            Kind::HierarchyConfiguration => "hierarchyconfigurations.hnc.x-k8s.io",
-            Kind::SubnamespaceAnchor => "subnamespaceanchors.hnc.x-k8s.io",
-            Kind::HierarchicalResourceQuota => "hierarchicalresourcequotas.hnc.x-k8s.io",
-            Kind::Role => "roles.rbac.authorization.k8s.io",
-            Kind::RoleBinding => "rolebindings.rbac.authorization.k8s.io",
-            Kind::ConfigMap => "configmaps",
-            Kind::Secret => "secrets",
-            Kind::NetworkPolicy => "networkpolicies.networking.k8s.io",
-            Kind::LimitRange => "limitranges",
-            Kind::Pod => "pods",
-            Kind::Service => "services",
-            Kind::PersistentVolumeClaim => "persistentvolumeclaims",
-        }
+        self.row().resource
     }
 
     /// The kind as bodies name it.
     pub fn name(self) -> &'static str
         ensures { result.now ≡ name_of self }
     {
-        match self {
-            Kind::Namespace => "Namespace",
-            Kind::HncConfiguration => "HNCConfiguration",
-            Kind::HierarchyConfiguration => "HierarchyConfiguration",
-            Kind::SubnamespaceAnchor => "SubnamespaceAnchor",
-            Kind::HierarchicalResourceQuota => "HierarchicalResourceQuota",
-            Kind::Role => "Role",
-            Kind::RoleBinding => "RoleBinding",
-            Kind::ConfigMap => "ConfigMap",
-            Kind::Secret => "Secret",
-            Kind::NetworkPolicy => "NetworkPolicy",
-            Kind::LimitRange => "LimitRange",
-            Kind::Pod => "Pod",
-            Kind::Service => "Service",
-            Kind::PersistentVolumeClaim => "PersistentVolumeClaim",
-        }
+        self.row().name
     }
 
     /// The `apiVersion` of the kind's bodies: the version, behind the API group and a slash where that isn't the core group.
     pub fn api_version(self) -> &'static str
         ensures { result.now ≡ api_version_of self }
     {
-        match self {
-            Kind::HncConfiguration
-            | Kind::HierarchyConfiguration
-            | Kind::SubnamespaceAnchor
-            | Kind::HierarchicalResourceQuota => "hnc.x-k8s.io/v1alpha2",
-            Kind::Role | Kind::RoleBinding => "rbac.authorization.k8s.io/v1",
-            Kind::NetworkPolicy => "networking.k8s.io/v1",
-            Kind::Namespace
-            | Kind::ConfigMap
-            | Kind::Secret
-            | Kind::LimitRange
-            | Kind::Pod
-            | Kind::Service
-            | Kind::PersistentVolumeClaim => "v1",
-        }
+        self.row().api_version
+    }
+
+    /// The kind whose objects are listed under a plural.
+    pub fn of_plural(plural: &str) -> Option<Kind>
+        ensures { result ≡ kind_of_plural plural.now }
+    {
+        of_plural(&KINDS, plural)
+    }
+
+    pub fn is_namespace(self) -> bool
+        ensures { result ≡ is_namespace self }
+    {
+        matches!(self, Kind::Namespace)
+    }
+
+    pub fn is_hierarchy(self) -> bool
+        ensures { result ≡ is_hierarchy self }
+    {
+        matches!(self, Kind::HierarchyConfiguration)
+    }
+
+    /// Whether objects of the kind are copied down a tree.
+    pub fn can_be_copied(self) -> bool
+        ensures { result ≡ can_be_copied self }
+    {
+        matches!(
+            self,
+            Kind::Role
+                | Kind::RoleBinding
+                | Kind::ConfigMap
+                | Kind::Secret
+                | Kind::NetworkPolicy
+                | Kind::LimitRange
+        )
     }
 }
+
+/// The first of some kinds that has the plural.
+fn of_plural(kinds: &[Kind], plural: &str) -> Option<Kind>
+    ensures { result ≡ find (λ kind. bytes_eq plural.now (plural_of kind)) kinds.now }
+{
+    kinds
+        .iter()
+        .copied()
+        .find(|kind| plural == kind.row().plural)
+}
+
+/// All kinds, in the order of their numbers.
+static KINDS: [Kind; 14] = [
+    Kind::Namespace,
+    Kind::HncConfiguration,
+    Kind::HierarchyConfiguration,
+    Kind::SubnamespaceAnchor,
+    Kind::HierarchicalResourceQuota,
+    Kind::Role,
+    Kind::RoleBinding,
+    Kind::ConfigMap,
+    Kind::Secret,
+    Kind::NetworkPolicy,
+    Kind::LimitRange,
+    Kind::Pod,
+    Kind::Service,
+    Kind::PersistentVolumeClaim,
+];

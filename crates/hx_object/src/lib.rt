@@ -11,10 +11,10 @@ mod memory;
 mod names;
 mod object;
 mod pairs;
+mod shared;
 mod size;
-#[cfg(test)]
-mod tests;
 mod text;
+pub mod well_known;
 
 pub use kind::Kind;
 pub use list::List;
@@ -25,4 +25,5 @@ pub use object::{
     Payload, Usage,
 };
 pub use pairs::Pairs;
+pub use shared::Shared;
 pub use text::Text;
