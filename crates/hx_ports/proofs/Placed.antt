@@ -24,7 +24,7 @@ use Rattle.hx_ports.specs.declared.keeper.Meta.{Meta}
 use Rattle.hx_ports.specs.declared.keeper.Row.{Row}
 use Rattle.hx_ports.specs.declared.sure.Before.{Before}
 use Rattle.hx_ports.specs.Keeping.{Kept, Rows, meta_of, first_behind, row_of_entry, with_cuts}
-use Rattle.hx_ports.specs.Rows.{Entry, entry_of, entries_of, rows_in, rows_of}
+use Rattle.hx_ports.specs.Rows.{Entry, entry_of, entries_of, onto, rows_in, rows_of, rows_over}
 use Rattle.hx_ports.specs.Undone.{had_back, put_back, all_put_back}
 
 same_bytes : IsAntisymmetric bytes_cmp
@@ -99,11 +99,6 @@ put_row-back old new log noted before key row is same had put =
 -- the last of what is left is taken back
 pub put_rows_back-step : (left rest : List Before) (before : Before) (rows old new : Rows) → left ≡ rest ++ before ∷ [] → new ≡ put_back before old → all_put_back left old ≡ rows → all_put_back rest new ≡ rows
 put_rows_back-step left rest before rows old new is back so_far = ap (all_put_back rest) back ∙ sym (all_put_back-push rest before old) ∙ ap (λ l. all_put_back l old) (sym is) ∙ so_far
-
--- the map with the entries, the last one first
-abbrev pub onto : List Entry → Rows → Rows
-onto [] rows = rows
-onto (e ∷ es) rows = map_insert (onto es rows) e.0 e.1
 
 pub onto-push : (es : List Entry) (e : Entry) (rows : Rows) → onto (es ++ e ∷ []) rows ≡ onto es (map_insert rows e.0 e.1)
 onto-push [] e rows = refl
@@ -239,11 +234,15 @@ pub copied : (held : BTreeMap (List ℕ) (ℕ × List ℕ)) (rows : List Row) (r
 copied held rows rest h so_far none = entries-rows_in held h ∙ sym so_far ∙ ap (λ l. entries_of rows ++ l) none ∙ append-nil (entries_of rows)
 
 -- the last of the rows that are left goes into the map
-pub map_rows-step : (all old new : List Row) (row : Row) (before after : BTreeMap (List ℕ) (ℕ × List ℕ)) → old ≡ new ++ row ∷ [] → Changes before after row.key (Some (row.version, row.body))
-    → onto (entries_of old) (rows_in before) ≡ rows_of all → onto (entries_of new) (rows_in after) ≡ rows_of all
-map_rows-step all old new row before after is put so_far =
+pub lay_rows-step : (old new : List Row) (row : Row) (before after : BTreeMap (List ℕ) (ℕ × List ℕ)) (rows : Rows) → old ≡ new ++ row ∷ [] → Changes before after row.key (Some (row.version, row.body))
+    → rows_over old (rows_in before) ≡ rows → rows_over new (rows_in after) ≡ rows
+lay_rows-step old new row before after rows is put so_far =
     ap (onto (entries_of new)) (put-rows_in before after row.key (row.version, row.body) put) ∙ sym (onto-push (entries_of new) (entry_of row) (rows_in before))
     ∙ ap (λ es. onto es (rows_in before)) (sym (map-append entry_of new (row ∷ [])) ∙ ap entries_of (sym is)) ∙ so_far
+
+-- rows over an empty map are their own map
+pub rows_over-empty : (rows : List Row) (held : BTreeMap (List ℕ) (ℕ × List ℕ)) → held.entries ≡ [] → rows_over rows (rows_in held) ≡ rows_of rows
+rows_over-empty rows held none = ap (λ es. onto (entries_of rows) (from_entries es)) none ∙ onto-empty (entries_of rows)
 
 -- the next key is cut
 pub cut_rows-step : (keys : List (List ℕ)) (i : ℕ) (key : List ℕ) (rows : Rows) (before after : BTreeMap (List ℕ) (ℕ × List ℕ)) → i < length keys → key ≡ get_or keys i key → Changes before after key None
@@ -269,12 +268,16 @@ put_back-gone old before row had gone =
 pub put_back-cut : (old new : BTreeMap (List ℕ) (ℕ × List ℕ)) (before : Before) → before.had ≡ None → Changes old new before.key None → rows_in new ≡ put_back before (rows_in old)
 put_back-cut old new before had cut = cut-rows_in old new before.key cut ∙ sym (ap (λ h. had_back before.key h (rows_in old)) had)
 
--- what is held by a map of rows
-abbrev held_kept : Meta → BTreeMap (List ℕ) (ℕ × List ℕ) → Kept
-held_kept meta held = record { schema = meta.schema; version = meta.version; rows = rows_in held }
+-- what is held where these are the rows
+abbrev held_kept : Meta → Rows → Kept
+held_kept meta rows = record { schema = meta.schema; version = meta.version; rows = rows }
+
+-- once no rows lie outside of the map, it has them all
+pub laid_rows : (given left : List Row) (before after : Rows) → left ≡ [] → rows_over left after ≡ rows_over given before → after ≡ rows_over given before
+laid_rows given left before after none same = ap (λ l. rows_over l after) (sym none) ∙ same
 
 -- what `meta` says of rows that are told
-pub meta-told : (tells : Bool) (held : BTreeMap (List ℕ) (ℕ × List ℕ)) (meta : Meta) → IsStrictlySortedBy bytes_cmp (keys_of held.entries) → (count : ℕ) → count ≡ length held.entries
-    → IfSome (cond tells (Some (held_kept meta held)) None) (λ kept. ◌≡◌ {A = Meta} (record { schema = meta.schema; version = meta.version; rows = count }) (meta_of kept))
-meta-told false held meta h count e = tt
-meta-told true held meta h count e = λ i. record { schema = meta.schema; version = meta.version; rows = (e ∙ sym (len-rows_in held h)) i }
+pub meta-told : (tells : Bool) (held : BTreeMap (List ℕ) (ℕ × List ℕ)) (rows : Rows) (meta : Meta) → IsStrictlySortedBy bytes_cmp (keys_of held.entries) → rows_in held ≡ rows → (count : ℕ) → count ≡ length held.entries
+    → IfSome (cond tells (Some (held_kept meta rows)) None) (λ kept. ◌≡◌ {A = Meta} (record { schema = meta.schema; version = meta.version; rows = count }) (meta_of kept))
+meta-told false held rows meta h same count e = tt
+meta-told true held rows meta h same count e = λ i. record { schema = meta.schema; version = meta.version; rows = (e ∙ sym (len-rows_in held h) ∙ ap len same) i }

@@ -4,3 +4,4 @@ pub mod Keeping
 pub mod Rows
 pub mod Shown
 pub mod Undone
+pub mod Views

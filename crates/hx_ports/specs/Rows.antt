@@ -1,8 +1,10 @@
 -- Rows in a list, and rows by their keys, as a map.
 --     Entry, entry_of, entries_of      a key with its version and body;  of a row;  of rows
---     rows_of, kept_of, told           the map of rows;  what a keeper of them holds;  and what it tells
+--     rows_of, kept_of                 the map of rows;  what a keeper of them holds
+--     is_told, told                    whether a keeper of them tells them;  what it tells
+--     rows_over                        rows of a list that aren't in their places yet, over those that are
 --     rows_in                          the map of rows that are kept by their keys
-use Rattle.std.specs.Prelude.{ℕ, List, map, length, ◌&&◌, nat_eq, if◌then◌else◌, Some, None}
+use Rattle.std.specs.Prelude.{ℕ, Bool, List, [], ◌∷◌, map, length, ◌&&◌, nat_eq, if◌then◌else◌, Some, None}
 use Rattle.std.specs.declared.option.Option.{Option}
 use Rattle.std.specs.BTreeMap.{BTreeMap}
 use Rattle.std.specs.FinMap as finite
@@ -28,13 +30,26 @@ entries_of rows = map entry_of rows
 abbrev pub rows_of : List Row → Rows
 rows_of rows = finite.from_entries (entries_of rows)
 
+-- the map with the entries of a list, of those with one key the first one
+abbrev pub onto : List Entry → Rows → Rows
+onto [] rows = rows
+onto (e ∷ es) rows = finite.insert (onto es rows) e.0 e.1
+
+-- the rows of a list over those of a map
+abbrev pub rows_over : List Row → Rows → Rows
+rows_over given rows = onto (entries_of given) rows
+
 -- what a keeper of these rows holds
 abbrev pub kept_of : List Row → Meta → Kept
 kept_of rows meta = record { schema = meta.schema; version = meta.version; rows = rows_of rows }
 
--- what a keeper tells that was begun with these rows: they have to ascend by their keys, and `meta` to count them
+-- a keeper that was begun with these rows tells them: they ascend by their keys, and `meta` counts them
+abbrev pub is_told : List Row → Meta → Bool
+is_told rows meta = nat_eq (length rows) meta.rows && is_sorted bytes_cmp (entries_of rows)
+
+-- what it tells
 abbrev pub told : List Row → Meta → Option Kept
-told rows meta = if nat_eq (length rows) meta.rows && is_sorted bytes_cmp (entries_of rows) then Some (kept_of rows meta) else None
+told rows meta = if is_told rows meta then Some (kept_of rows meta) else None
 
 -- the map of rows that are kept by their keys
 abbrev pub rows_in : BTreeMap (List ℕ) (ℕ × List ℕ) → Rows

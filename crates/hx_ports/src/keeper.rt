@@ -1,10 +1,10 @@
 // Keepers of rows.
-ghost use Rattle.std.specs.Prelude.{◌≡◌, ℕ, Bool, true, false, OnOk, IsErrOf, IfSome, IfOk, IsUtf8, Some, ◌⊎◌};
-ghost use Rattle.std.specs.declared.option.Option.{Option};
+ghost use Rattle.std.specs.Prelude.{◌≡◌, true, false, OnOk, OnErr, IsErrOf, IfSome, IfOk, IsUtf8, None, Some, ◌⊎◌};
 ghost use Rattle.hx_ports.specs.Causes.{KeeperCause};
-ghost use Rattle.hx_ports.specs.Keeping.{Kept, meta_of, row_after, IsBatch, MayFollow, Lands};
+ghost use Rattle.hx_ports.specs.Keeping.{meta_of, row_after, IsBatch, MayFollow, Lands};
+ghost use Rattle.hx_ports.specs.Views.{KeeperView, HoldsOn};
 
-use hx_object::List;
+use hx_object::{List, NoMemory};
 
 /// Why a keeper refused a call.
 #[derive(Clone, Copy, Debug, PartialEq, Eq)]
@@ -12,6 +12,16 @@ pub enum KeepFault {
     /// The keeper failed, and its count of faults rose.
     Fault,
     NoMemory,
+}
+
+impl From<NoMemory> for KeepFault {
+    ghost use Rattle.hx_ports.specs.declared.keeper.KeepFault.TheVariants.{NoMemory};
+
+    ghost from_gives = { λ _ fault. fault ≡ NoMemory };
+
+    fn from(_fault: NoMemory) -> KeepFault {
+        KeepFault::NoMemory
+    }
 }
 
 /// A stored object: its key, its version and its text. Key and body are UTF-8, and a version is at most 2^63 - 1.
@@ -40,43 +50,39 @@ pub struct Batch {
 
 /// Keeps rows in ascending order of their keys, and counts its own failures.
 ///
-/// The count never falls. At `u64::MAX` it stands, and counts as risen.
+/// The count rises with each fault and with nothing else, and never falls. At `u64::MAX` it stands, and counts as risen.
 pub trait Keeper {
-    // what it holds, where it tells it
-    ghost kept: { Self → Option Kept };
+    ghost shown: { Self → KeeperView };
 
-    // a commit of it failed
-    ghost broken: { Self → Bool };
-
-    ghost keeper_faults: { Self → ℕ };
-
-    /// Takes the place where rows are kept; the empty path asks for rows in memory. It is called once, and first.
+    /// Takes the place where rows are kept; the empty path asks for rows in memory. A keeper that has its place stays there.
     fn attach(&mut self, path: &str) -> Result<(), KeepFault>
-        ensures same { IfSome (kept self.old) (λ held. kept self.new ≡ Some held) }
-        ensures whole { broken self.new ≡ broken self.old }
-        ensures cause { KeeperCause (keeper_faults self.old) (keeper_faults self.new) result };
+        requires { (shown self.old).place ≡ None }
+        ensures place { OnOk result ((shown self.new).place ≡ Some path.now) }
+        ensures nowhere { OnErr result ((shown self.new).place ≡ None) }
+        ensures same { IfSome (shown self.old).kept (λ held. (shown self.new).kept ≡ Some held) }
+        ensures whole { (shown self.new).broken ≡ (shown self.old).broken }
+        ensures cause { KeeperCause (shown self.old).faults (shown self.new).faults result };
 
     fn meta(&mut self) -> Result<Meta, KeepFault>
-        ensures meta { IfOk result (λ meta. IfSome (kept self.old) (λ held. meta ≡ meta_of held)) }
-        ensures same { kept self.new ≡ kept self.old }
-        ensures whole { broken self.new ≡ broken self.old }
-        ensures cause { KeeperCause (keeper_faults self.old) (keeper_faults self.new) result };
+        ensures meta { IfOk result (λ meta. IfSome (shown self.old).kept (λ held. meta ≡ meta_of held)) }
+        ensures same { HoldsOn (shown self.old) (shown self.new) }
+        ensures cause { KeeperCause (shown self.old).faults (shown self.new).faults result };
 
     /// The first row whose key is greater than `after` in the order of bytes.
     fn load(&mut self, after: &[u8]) -> Result<Option<Row>, KeepFault>
         requires { IsUtf8 after.now }
-        ensures row { IfOk result (λ row. IfSome (kept self.old) (λ held. row ≡ row_after after.now held)) }
-        ensures same { kept self.new ≡ kept self.old }
-        ensures whole { broken self.new ≡ broken self.old }
-        ensures cause { KeeperCause (keeper_faults self.old) (keeper_faults self.new) result };
+        ensures row { IfOk result (λ row. IfSome (shown self.old).kept (λ held. row ≡ row_after after.now held)) }
+        ensures same { HoldsOn (shown self.old) (shown self.new) }
+        ensures cause { KeeperCause (shown self.old).faults (shown self.new).faults result };
 
     /// Writes a batch as a whole. After a fault the batch may have landed, and the keeper is broken: it refuses each later batch.
     fn commit(&mut self, batch: &Batch) -> Result<(), KeepFault>
         requires batch { IsBatch batch.now }
-        requires follows { broken self.old ≡ false → IfSome (kept self.old) (MayFollow batch.now) }
-        ensures ok { OnOk result (Lands batch.now (kept self.old) (kept self.new) × (broken self.old ≡ false) × (broken self.new ≡ false)) }
-        ensures refused { IsErrOf result KeepFault.NoMemory → (kept self.new ≡ kept self.old) × (broken self.old ≡ false) × (broken self.new ≡ false) }
-        ensures breaks { IsErrOf result KeepFault.Fault → broken self.new ≡ true }
-        ensures torn { IsErrOf result KeepFault.Fault → (kept self.new ≡ kept self.old) ⊎ (Lands batch.now (kept self.old) (kept self.new) × (broken self.old ≡ false)) }
-        ensures cause { KeeperCause (keeper_faults self.old) (keeper_faults self.new) result };
+        requires follows { (shown self.old).broken ≡ false → IfSome (shown self.old).kept (MayFollow batch.now) }
+        ensures ok { OnOk result (Lands batch.now (shown self.old).kept (shown self.new).kept × ((shown self.old).broken ≡ false) × ((shown self.new).broken ≡ false)) }
+        ensures refused { IsErrOf result KeepFault.NoMemory → ((shown self.new).kept ≡ (shown self.old).kept) × ((shown self.old).broken ≡ false) × ((shown self.new).broken ≡ false) }
+        ensures breaks { IsErrOf result KeepFault.Fault → (shown self.new).broken ≡ true }
+        ensures torn { IsErrOf result KeepFault.Fault → ((shown self.new).kept ≡ (shown self.old).kept) ⊎ (Lands batch.now (shown self.old).kept (shown self.new).kept × ((shown self.old).broken ≡ false)) }
+        ensures place { (shown self.new).place ≡ (shown self.old).place }
+        ensures cause { KeeperCause (shown self.old).faults (shown self.new).faults result };
 }

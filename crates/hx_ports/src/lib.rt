@@ -1,6 +1,6 @@
 //! The outside as traits with meaning: sources and sinks of bytes, and keepers of rows.
 //!
-//! Contracts see of each port what it holds, where it tells that, and counts of its own failures. A fault may be answered only where its count rose.
+//! Contracts see of each port what it shows: what it holds, where it tells that, and counts of its own failures. A count rises where a call failed, and nowhere else.
 //!
 //! `Std..` ports stand on any reader and writer. `Sure..` ports are in memory and never fail by themselves, and `Mem..` ports fail at the calls that a test names.
 #![tactic(auto)]
@@ -10,8 +10,6 @@ mod mem;
 mod std_stream;
 mod stream;
 mod sure;
-#[cfg(test)]
-mod tests;
 
 pub use keeper::{Batch, KeepFault, Keeper, Meta, Row};
 pub use mem::{FailCommit, MemKeeper, MemSink, MemSource};

@@ -4,8 +4,9 @@ ghost use Rattle.std.specs.Io.{ReadsAtMost};
 ghost use Rattle.std.specs.Io.KnownBytes.{ReadConsumes, WriteAppends};
 ghost use Rattle.std.specs.FinMap as map;
 ghost use Rattle.hx_ports.specs.Calls.{is_planned, after_call, next_number, landing, FailsByPlan, CommitsByPlan};
-ghost use Rattle.hx_ports.specs.Causes.{Rose, HasCause, KeeperCause, WritesAtMost, NoneOnlyAtStall};
+ghost use Rattle.hx_ports.specs.Causes.{Rose, HasCause, KeeperCause, WritesAtMost, StallCause};
 ghost use Rattle.hx_ports.specs.Keeping.{meta_of, row_after, Lands};
+ghost use Rattle.hx_ports.specs.Views.{HoldsOn};
 ghost use Rattle.hx_ports.specs.Rows.{told, kept_of, entries_of};
 
 use crate::keeper::{Batch, KeepFault, Keeper, Meta, Row};
@@ -51,9 +52,8 @@ impl MemSource {
     /// The reads whose numbers stand in `fails` fail; the first one is number 1.
     pub fn new(bytes: Vec<u8>, piece: usize, fails: Vec<u64>) -> Self
         requires { 0 < piece }
-        ensures left { ⟦<MemSource as Source>⟧.left result ≡ Some bytes.items }
+        ensures shown { ⟦<MemSource as Source>⟧.shown result ≡ record { left = Some bytes.items; faults = 0 } }
         ensures plan { reads_of result ≡ record { numbers = fails; calls = 0 } }
-        ensures faults { ⟦<MemSource as Source>⟧.read_faults result ≡ 0 }
     {
         MemSource {
             source: SureSource::new(bytes, piece),
@@ -63,7 +63,7 @@ impl MemSource {
     }
 
     pub fn faults(&self) -> u64
-        ensures { result ≡ ⟦<MemSource as Source>⟧.read_faults self.now }
+        ensures { result ≡ (⟦<MemSource as Source>⟧.shown self.now).faults }
     {
         self.faults
     }
@@ -72,14 +72,12 @@ impl MemSource {
 impl Source for MemSource {
     ghost use Rattle.hx_ports.specs.Shown.{reads_of};
 
-    ghost left = { λ s. ⟦<SureSource as Source>⟧.left s.source };
-
-    ghost read_faults = { λ s. s.faults };
+    ghost shown = { λ s. record (⟦<SureSource as Source>⟧.shown s.source) { faults = s.faults } };
 
     fn read(&mut self, into: &mut [u8]) -> Result<usize, ReadFault>
         ensures bound { ReadsAtMost result into.new }
-        ensures bytes { ReadConsumes (⟦<MemSource as Source>⟧.left self.old) (⟦<MemSource as Source>⟧.left self.new) result into.new }
-        ensures cause { HasCause (⟦<MemSource as Source>⟧.read_faults self.old) (⟦<MemSource as Source>⟧.read_faults self.new) result }
+        ensures bytes { ReadConsumes (⟦<MemSource as Source>⟧.shown self.old).left (⟦<MemSource as Source>⟧.shown self.new).left result into.new }
+        ensures cause { HasCause (⟦<MemSource as Source>⟧.shown self.old).faults (⟦<MemSource as Source>⟧.shown self.new).faults result }
         ensures plan { FailsByPlan (reads_of self.old) (reads_of self.new) result }
     {
         if self.plan.next_fails() {
@@ -106,10 +104,8 @@ impl MemSink {
     /// The writes whose numbers stand in `fails` fail; the first one is number 1.
     pub fn new(into: Vec<u8>, piece: usize, fails: Vec<u64>) -> Self
         requires { 0 < piece }
-        ensures written { ⟦<MemSink as Sink>⟧.written result ≡ Some into.items }
+        ensures shown { ⟦<MemSink as Sink>⟧.shown result ≡ record { written = Some into.items; faults = 0; stalls = 0 } }
         ensures plan { writes_of result ≡ record { numbers = fails; calls = 0 } }
-        ensures faults { ⟦<MemSink as Sink>⟧.write_faults result ≡ 0 }
-        ensures stalls { ⟦<MemSink as Sink>⟧.stalls result ≡ 0 }
     {
         MemSink {
             sink: SureSink::new(into),
@@ -120,19 +116,19 @@ impl MemSink {
     }
 
     pub fn bytes(&self) -> &[u8]
-        ensures { ⟦<MemSink as Sink>⟧.written self.now ≡ Some result.now }
+        ensures { (⟦<MemSink as Sink>⟧.shown self.now).written ≡ Some result.now }
     {
         self.sink.bytes()
     }
 
     pub fn faults(&self) -> u64
-        ensures { result ≡ ⟦<MemSink as Sink>⟧.write_faults self.now }
+        ensures { result ≡ (⟦<MemSink as Sink>⟧.shown self.now).faults }
     {
         self.faults
     }
 
     pub fn stalls(&self) -> u64
-        ensures { result ≡ ⟦<MemSink as Sink>⟧.stalls self.now }
+        ensures { result ≡ (⟦<MemSink as Sink>⟧.shown self.now).stalls }
     {
         self.sink.stalls()
     }
@@ -141,17 +137,13 @@ impl MemSink {
 impl Sink for MemSink {
     ghost use Rattle.hx_ports.specs.Shown.{most_taken, writes_of};
 
-    ghost written = { λ s. ⟦<SureSink as Sink>⟧.written s.sink };
-
-    ghost write_faults = { λ s. s.faults };
-
-    ghost stalls = { λ s. ⟦<SureSink as Sink>⟧.stalls s.sink };
+    ghost shown = { λ s. record (⟦<SureSink as Sink>⟧.shown s.sink) { faults = s.faults } };
 
     fn write(&mut self, from: &[u8]) -> Result<usize, WriteFault>
         ensures bound { WritesAtMost result from.now }
-        ensures bytes { WriteAppends (⟦<MemSink as Sink>⟧.written self.old) (⟦<MemSink as Sink>⟧.written self.new) result from.now }
-        ensures cause { HasCause (⟦<MemSink as Sink>⟧.write_faults self.old) (⟦<MemSink as Sink>⟧.write_faults self.new) result }
-        ensures stall { NoneOnlyAtStall (⟦<MemSink as Sink>⟧.stalls self.old) (⟦<MemSink as Sink>⟧.stalls self.new) result from.now }
+        ensures bytes { WriteAppends (⟦<MemSink as Sink>⟧.shown self.old).written (⟦<MemSink as Sink>⟧.shown self.new).written result from.now }
+        ensures cause { HasCause (⟦<MemSink as Sink>⟧.shown self.old).faults (⟦<MemSink as Sink>⟧.shown self.new).faults result }
+        ensures stall { StallCause (⟦<MemSink as Sink>⟧.shown self.old).stalls (⟦<MemSink as Sink>⟧.shown self.new).stalls result from.now }
         ensures plan { FailsByPlan (writes_of self.old) (writes_of self.new) result }
         ensures piece { IfOk result (λ n. n ≤ most_taken self.old) }
     {
@@ -193,48 +185,48 @@ impl MemKeeper {
         meta: Meta,
         fail_commits: Vec<FailCommit>,
         fail_reads: Vec<u64>,
-    ) -> Result<Self, NoMemory>
-        ensures kept { IfOk result (λ keeper. ⟦<MemKeeper as Keeper>⟧.kept keeper ≡ told rows.items meta) }
-        ensures held { IfOk result (λ keeper. held_by (kept_by keeper) ≡ kept_of rows.items meta) }
-        ensures meta { IfOk result (λ keeper. given_meta (kept_by keeper) ≡ meta) }
-        ensures reads { IfOk result (λ keeper. read_calls keeper ≡ record { numbers = fail_reads; calls = 0 }) }
-        ensures fail_commits { IfOk result (λ keeper. failing_of keeper ≡ fail_commits.items) }
-        ensures commits { IfOk result (λ keeper. commits_of keeper ≡ 0) }
-        ensures whole { IfOk result (λ keeper. ⟦<MemKeeper as Keeper>⟧.broken keeper ≡ false) }
-        ensures faults { IfOk result (λ keeper. ⟦<MemKeeper as Keeper>⟧.keeper_faults keeper ≡ 0) }
+    ) -> Self
+        ensures shown { ⟦<MemKeeper as Keeper>⟧.shown result ≡ record { place = None; kept = told rows.items meta; broken = false; faults = 0 } }
+        ensures held { held_by (kept_by result) ≡ kept_of rows.items meta }
+        ensures meta { given_meta (kept_by result) ≡ meta }
+        ensures reads { read_calls result ≡ record { numbers = fail_reads; calls = 0 } }
+        ensures fail_commits { failing_of result ≡ fail_commits.items }
+        ensures commits { commits_of result ≡ 0 }
     {
-        Ok(MemKeeper {
-            keeper: SureKeeper::new(rows, meta)?,
+        MemKeeper {
+            keeper: SureKeeper::new(rows, meta),
             fail_commits,
             reads: Plan::new(fail_reads),
             commits: 0,
             broken: false,
             faults: 0,
-        })
+        }
     }
 
     /// Copies of the rows, in ascending order of their keys.
-    pub fn rows(&self) -> Result<Vec<Row>, NoMemory>
-        ensures held { IfOk result (λ rows. map.entries (held_by (kept_by self.now)).rows ≡ entries_of rows.items) }
-        ensures kept { IfOk result (λ rows. IfSome (⟦<MemKeeper as Keeper>⟧.kept self.now) (λ held. map.entries held.rows ≡ entries_of rows.items)) }
+    pub fn rows(&mut self) -> Result<Vec<Row>, NoMemory>
+        ensures held { IfOk result (λ rows. map.entries (held_by (kept_by self.old)).rows ≡ entries_of rows.items) }
+        ensures kept { IfOk result (λ rows. IfSome (⟦<MemKeeper as Keeper>⟧.shown self.old).kept (λ held. map.entries held.rows ≡ entries_of rows.items)) }
+        ensures same { ⟦<MemKeeper as Keeper>⟧.shown self.new ≡ ⟦<MemKeeper as Keeper>⟧.shown self.old }
+        ensures plan { (read_calls self.new ≡ read_calls self.old) × (failing_of self.new ≡ failing_of self.old) × (commits_of self.new ≡ commits_of self.old) }
     {
         self.keeper.rows()
     }
 
     pub fn version(&self) -> u64
-        ensures { IfSome (⟦<MemKeeper as Keeper>⟧.kept self.now) (λ held. result ≡ held.version) }
+        ensures { IfSome (⟦<MemKeeper as Keeper>⟧.shown self.now).kept (λ held. result ≡ held.version) }
     {
         self.keeper.version()
     }
 
     pub fn is_broken(&self) -> bool
-        ensures { result ≡ ⟦<MemKeeper as Keeper>⟧.broken self.now }
+        ensures { result ≡ (⟦<MemKeeper as Keeper>⟧.shown self.now).broken }
     {
         self.broken
     }
 
     pub fn faults(&self) -> u64
-        ensures { result ≡ ⟦<MemKeeper as Keeper>⟧.keeper_faults self.now }
+        ensures { result ≡ (⟦<MemKeeper as Keeper>⟧.shown self.now).faults }
     {
         self.faults
     }
@@ -276,42 +268,41 @@ impl MemKeeper {
 }
 
 impl Keeper for MemKeeper {
-    ghost use Rattle.hx_ports.specs.Shown.{commits_of, failing_of, kept_by, read_calls};
+    ghost use Rattle.hx_ports.specs.Shown.{commits_of, failing_of, given_meta, held_by, kept_by, read_calls};
 
-    ghost kept = { λ k. ⟦<SureKeeper as Keeper>⟧.kept k.keeper };
-
-    ghost broken = { λ k. k.broken };
-
-    ghost keeper_faults = { λ k. k.faults };
+    ghost shown = { λ k. record (⟦<SureKeeper as Keeper>⟧.shown k.keeper) { broken = k.broken; faults = k.faults } };
 
     fn attach(&mut self, path: &str) -> Result<(), KeepFault>
-        ensures same { kept_by self.new ≡ kept_by self.old }
-        ensures whole { ⟦<MemKeeper as Keeper>⟧.broken self.new ≡ ⟦<MemKeeper as Keeper>⟧.broken self.old }
-        ensures cause { KeeperCause (⟦<MemKeeper as Keeper>⟧.keeper_faults self.old) (⟦<MemKeeper as Keeper>⟧.keeper_faults self.new) result }
-        ensures fault { ¬ IsErrOf result KeepFault.NoMemory }
-        ensures plan { FailsByPlan (read_calls self.old) (read_calls self.new) result }
+        ensures place { OnOk result ((⟦<MemKeeper as Keeper>⟧.shown self.new).place ≡ Some path.now) }
+        ensures nowhere { OnErr result ((⟦<MemKeeper as Keeper>⟧.shown self.new).place ≡ (⟦<MemKeeper as Keeper>⟧.shown self.old).place) }
+        ensures same { (⟦<MemKeeper as Keeper>⟧.shown self.new).kept ≡ (⟦<MemKeeper as Keeper>⟧.shown self.old).kept }
+        ensures whole { (⟦<MemKeeper as Keeper>⟧.shown self.new).broken ≡ (⟦<MemKeeper as Keeper>⟧.shown self.old).broken }
+        ensures held { (held_by (kept_by self.new) ≡ held_by (kept_by self.old)) × (given_meta (kept_by self.new) ≡ given_meta (kept_by self.old)) }
+        ensures cause { KeeperCause (⟦<MemKeeper as Keeper>⟧.shown self.old).faults (⟦<MemKeeper as Keeper>⟧.shown self.new).faults result }
+        ensures planned { IsTrue (is_planned (read_calls self.old)) ↔ IsErrOf result KeepFault.Fault }
+        ensures counted { read_calls self.new ≡ after_call (read_calls self.old) }
     {
         self.count_read()?;
         self.keeper.attach(path)
     }
 
     fn meta(&mut self) -> Result<Meta, KeepFault>
-        ensures meta { IfOk result (λ meta. IfSome (⟦<MemKeeper as Keeper>⟧.kept self.old) (λ held. meta ≡ meta_of held)) }
-        ensures same { kept_by self.new ≡ kept_by self.old }
-        ensures whole { ⟦<MemKeeper as Keeper>⟧.broken self.new ≡ ⟦<MemKeeper as Keeper>⟧.broken self.old }
-        ensures cause { KeeperCause (⟦<MemKeeper as Keeper>⟧.keeper_faults self.old) (⟦<MemKeeper as Keeper>⟧.keeper_faults self.new) result }
-        ensures fault { ¬ IsErrOf result KeepFault.NoMemory }
-        ensures plan { FailsByPlan (read_calls self.old) (read_calls self.new) result }
+        ensures meta { IfOk result (λ meta. IfSome (⟦<MemKeeper as Keeper>⟧.shown self.old).kept (λ held. meta ≡ meta_of held)) }
+        ensures same { HoldsOn (⟦<MemKeeper as Keeper>⟧.shown self.old) (⟦<MemKeeper as Keeper>⟧.shown self.new) }
+        ensures held { (held_by (kept_by self.new) ≡ held_by (kept_by self.old)) × (given_meta (kept_by self.new) ≡ given_meta (kept_by self.old)) }
+        ensures cause { KeeperCause (⟦<MemKeeper as Keeper>⟧.shown self.old).faults (⟦<MemKeeper as Keeper>⟧.shown self.new).faults result }
+        ensures planned { IsTrue (is_planned (read_calls self.old)) ↔ IsErrOf result KeepFault.Fault }
+        ensures counted { read_calls self.new ≡ after_call (read_calls self.old) }
     {
         self.count_read()?;
         self.keeper.meta()
     }
 
     fn load(&mut self, after: &[u8]) -> Result<Option<Row>, KeepFault>
-        ensures row { IfOk result (λ row. IfSome (⟦<MemKeeper as Keeper>⟧.kept self.old) (λ held. row ≡ row_after after.now held)) }
-        ensures same { kept_by self.new ≡ kept_by self.old }
-        ensures whole { ⟦<MemKeeper as Keeper>⟧.broken self.new ≡ ⟦<MemKeeper as Keeper>⟧.broken self.old }
-        ensures cause { KeeperCause (⟦<MemKeeper as Keeper>⟧.keeper_faults self.old) (⟦<MemKeeper as Keeper>⟧.keeper_faults self.new) result }
+        ensures row { IfOk result (λ row. IfSome (⟦<MemKeeper as Keeper>⟧.shown self.old).kept (λ held. row ≡ row_after after.now held)) }
+        ensures same { HoldsOn (⟦<MemKeeper as Keeper>⟧.shown self.old) (⟦<MemKeeper as Keeper>⟧.shown self.new) }
+        ensures held { (held_by (kept_by self.new) ≡ held_by (kept_by self.old)) × (given_meta (kept_by self.new) ≡ given_meta (kept_by self.old)) }
+        ensures cause { KeeperCause (⟦<MemKeeper as Keeper>⟧.shown self.old).faults (⟦<MemKeeper as Keeper>⟧.shown self.new).faults result }
         ensures planned { IsTrue (is_planned (read_calls self.old)) ↔ IsErrOf result KeepFault.Fault }
         ensures counted { read_calls self.new ≡ after_call (read_calls self.old) }
     {
@@ -320,14 +311,15 @@ impl Keeper for MemKeeper {
     }
 
     fn commit(&mut self, batch: &Batch) -> Result<(), KeepFault>
-        ensures ok { OnOk result (Lands batch.now (⟦<MemKeeper as Keeper>⟧.kept self.old) (⟦<MemKeeper as Keeper>⟧.kept self.new) × (⟦<MemKeeper as Keeper>⟧.broken self.old ≡ false) × (⟦<MemKeeper as Keeper>⟧.broken self.new ≡ false)) }
-        ensures refused { IsErrOf result KeepFault.NoMemory → (⟦<MemKeeper as Keeper>⟧.kept self.new ≡ ⟦<MemKeeper as Keeper>⟧.kept self.old) × (⟦<MemKeeper as Keeper>⟧.broken self.old ≡ false) × (⟦<MemKeeper as Keeper>⟧.broken self.new ≡ false) }
-        ensures breaks { IsErrOf result KeepFault.Fault → ⟦<MemKeeper as Keeper>⟧.broken self.new ≡ true }
-        ensures torn { IsErrOf result KeepFault.Fault → (⟦<MemKeeper as Keeper>⟧.kept self.new ≡ ⟦<MemKeeper as Keeper>⟧.kept self.old) ⊎ (Lands batch.now (⟦<MemKeeper as Keeper>⟧.kept self.old) (⟦<MemKeeper as Keeper>⟧.kept self.new) × (⟦<MemKeeper as Keeper>⟧.broken self.old ≡ false)) }
-        ensures cause { KeeperCause (⟦<MemKeeper as Keeper>⟧.keeper_faults self.old) (⟦<MemKeeper as Keeper>⟧.keeper_faults self.new) result }
-        ensures plan { CommitsByPlan (⟦<MemKeeper as Keeper>⟧.broken self.old) (landing (failing_of self.old) (next_number (commits_of self.old))) batch.now (⟦<MemKeeper as Keeper>⟧.kept self.old) (⟦<MemKeeper as Keeper>⟧.kept self.new) result }
+        ensures ok { OnOk result (Lands batch.now (⟦<MemKeeper as Keeper>⟧.shown self.old).kept (⟦<MemKeeper as Keeper>⟧.shown self.new).kept × ((⟦<MemKeeper as Keeper>⟧.shown self.old).broken ≡ false) × ((⟦<MemKeeper as Keeper>⟧.shown self.new).broken ≡ false)) }
+        ensures refused { IsErrOf result KeepFault.NoMemory → ((⟦<MemKeeper as Keeper>⟧.shown self.new).kept ≡ (⟦<MemKeeper as Keeper>⟧.shown self.old).kept) × ((⟦<MemKeeper as Keeper>⟧.shown self.old).broken ≡ false) × ((⟦<MemKeeper as Keeper>⟧.shown self.new).broken ≡ false) }
+        ensures breaks { IsErrOf result KeepFault.Fault → (⟦<MemKeeper as Keeper>⟧.shown self.new).broken ≡ true }
+        ensures torn { IsErrOf result KeepFault.Fault → ((⟦<MemKeeper as Keeper>⟧.shown self.new).kept ≡ (⟦<MemKeeper as Keeper>⟧.shown self.old).kept) ⊎ (Lands batch.now (⟦<MemKeeper as Keeper>⟧.shown self.old).kept (⟦<MemKeeper as Keeper>⟧.shown self.new).kept × ((⟦<MemKeeper as Keeper>⟧.shown self.old).broken ≡ false)) }
+        ensures place { (⟦<MemKeeper as Keeper>⟧.shown self.new).place ≡ (⟦<MemKeeper as Keeper>⟧.shown self.old).place }
+        ensures cause { KeeperCause (⟦<MemKeeper as Keeper>⟧.shown self.old).faults (⟦<MemKeeper as Keeper>⟧.shown self.new).faults result }
+        ensures plan { CommitsByPlan (⟦<MemKeeper as Keeper>⟧.shown self.old).broken (landing (failing_of self.old) (next_number (commits_of self.old))) batch.now (⟦<MemKeeper as Keeper>⟧.shown self.old).kept (⟦<MemKeeper as Keeper>⟧.shown self.new).kept result }
         ensures counted { commits_of self.new ≡ next_number (commits_of self.old) }
-        ensures closed { ⟦<MemKeeper as Keeper>⟧.broken self.old ≡ true → kept_by self.new ≡ kept_by self.old }
+        ensures closed { (⟦<MemKeeper as Keeper>⟧.shown self.old).broken ≡ true → kept_by self.new ≡ kept_by self.old }
         ensures lost { landing (failing_of self.old) (next_number (commits_of self.old)) ≡ Some false → kept_by self.new ≡ kept_by self.old }
     {
         self.commits = self.commits.saturating_add(1);

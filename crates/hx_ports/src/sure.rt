@@ -1,13 +1,13 @@
 // A source, a sink and a keeper in memory that never fail by themselves.
-ghost use Rattle.std.specs.Prelude.{◌≡◌, ◌+◌, ◌-◌, min, ◌<◌, ◌≤◌, List, true, false, Some, None, drop, vec_len, vec_capacity, if◌then◌else◌, OnOk, OnErr, IsOk, IsOkAnd, IsErrOf, IfOk, IfSome, length};
+ghost use Rattle.std.specs.Prelude.{◌≡◌, ◌+◌, ◌-◌, min, ◌<◌, ◌≤◌, List, true, false, Some, None, drop, vec_len, vec_capacity, if◌then◌else◌, OnOk, OnErr, IsOk, IsOkAnd, IsErrOf, IfOk, IfSome, length, [], string_bytes};
 ghost use Rattle.std.specs.Io.{ReadsAtMost};
 ghost use Rattle.std.specs.Io.KnownBytes.{ReadConsumes, WriteAppends};
 ghost use Rattle.std.specs.FinMap as map;
 ghost use Rattle.std.specs.FinMap.{is_sorted};
 ghost use Rattle.hx_object.specs.Texts.{bytes_cmp};
-ghost use Rattle.hx_ports.specs.Causes.{NoneOnlyAtStall};
+ghost use Rattle.hx_ports.specs.Causes.{StallCause};
 ghost use Rattle.hx_ports.specs.Keeping.{meta_of, row_after, with_batch, with_puts, with_cuts, first_behind, Lands};
-ghost use Rattle.hx_ports.specs.Rows.{told, kept_of, entries_of, rows_of, rows_in};
+ghost use Rattle.hx_ports.specs.Rows.{is_told, told, kept_of, entries_of, rows_over, rows_in};
 ghost use Rattle.hx_ports.specs.Undone.{put_back, all_put_back};
 
 use crate::keeper::{Batch, KeepFault, Keeper, Meta, Row};
@@ -30,8 +30,7 @@ pub struct SureSource {
 impl SureSource {
     pub fn new(bytes: Vec<u8>, piece: usize) -> Self
         requires { 0 < piece }
-        ensures left { ⟦<SureSource as Source>⟧.left result ≡ Some bytes.items }
-        ensures faults { ⟦<SureSource as Source>⟧.read_faults result ≡ 0 }
+        ensures { ⟦<SureSource as Source>⟧.shown result ≡ record { left = Some bytes.items; faults = 0 } }
     {
         SureSource {
             bytes,
@@ -44,13 +43,11 @@ impl SureSource {
 impl Source for SureSource {
     ghost use Rattle.hx_ports.specs.Shown.{bytes_left, most_given};
 
-    ghost left = { λ s. Some (drop s.at s.bytes.items) };
-
-    ghost read_faults = { λ s. 0 };
+    ghost shown = { λ s. record { left = Some (drop s.at s.bytes.items); faults = 0 } };
 
     fn read(&mut self, into: &mut [u8]) -> Result<usize, ReadFault>
         ensures bound { ReadsAtMost result into.new }
-        ensures bytes { ReadConsumes (⟦<SureSource as Source>⟧.left self.old) (⟦<SureSource as Source>⟧.left self.new) result into.new }
+        ensures bytes { ReadConsumes (⟦<SureSource as Source>⟧.shown self.old).left (⟦<SureSource as Source>⟧.shown self.new).left result into.new }
         ensures count { result ≡ Ok (min (bytes_left self.old) (min (most_given self.old) (length into.new))) }
     {
         let left = self.bytes.len() - self.at;
@@ -71,21 +68,19 @@ pub struct SureSink {
 
 impl SureSink {
     pub fn new(into: Vec<u8>) -> Self
-        ensures written { ⟦<SureSink as Sink>⟧.written result ≡ Some into.items }
-        ensures faults { ⟦<SureSink as Sink>⟧.write_faults result ≡ 0 }
-        ensures stalls { ⟦<SureSink as Sink>⟧.stalls result ≡ 0 }
+        ensures { ⟦<SureSink as Sink>⟧.shown result ≡ record { written = Some into.items; faults = 0; stalls = 0 } }
     {
         SureSink { into, stalls: 0 }
     }
 
     pub fn bytes(&self) -> &[u8]
-        ensures { ⟦<SureSink as Sink>⟧.written self.now ≡ Some result.now }
+        ensures { (⟦<SureSink as Sink>⟧.shown self.now).written ≡ Some result.now }
     {
         self.into.as_slice()
     }
 
     pub fn stalls(&self) -> u64
-        ensures { result ≡ ⟦<SureSink as Sink>⟧.stalls self.now }
+        ensures { result ≡ (⟦<SureSink as Sink>⟧.shown self.now).stalls }
     {
         self.stalls
     }
@@ -94,16 +89,12 @@ impl SureSink {
 impl Sink for SureSink {
     ghost use Rattle.hx_ports.specs.Shown.{room_of};
 
-    ghost written = { λ s. Some s.into.items };
-
-    ghost write_faults = { λ s. 0 };
-
-    ghost stalls = { λ s. s.stalls };
+    ghost shown = { λ s. record { written = Some s.into.items; faults = 0; stalls = s.stalls } };
 
     fn write(&mut self, from: &[u8]) -> Result<usize, WriteFault>
         ensures count { result ≡ Ok (min (room_of self.old) (length from.now)) }
-        ensures bytes { WriteAppends (⟦<SureSink as Sink>⟧.written self.old) (⟦<SureSink as Sink>⟧.written self.new) result from.now }
-        ensures stall { NoneOnlyAtStall self.old.stalls self.new.stalls result from.now }
+        ensures bytes { WriteAppends (⟦<SureSink as Sink>⟧.shown self.old).written (⟦<SureSink as Sink>⟧.shown self.new).written result from.now }
+        ensures stall { StallCause self.old.stalls self.new.stalls result from.now }
     {
         let room = self.into.capacity() - self.into.len();
         let count = room.min(from.len());
@@ -123,50 +114,60 @@ impl Sink for SureSink {
 /// The versions and the bodies of rows, by their keys.
 type RowMap = BTreeMap<List<u8>, (u64, List<u8>)>;
 
-/// Rows in memory.
+/// Rows in memory. They lie as they were given until the first call that looks at them.
 #[derive(Drop)]
 pub struct SureKeeper {
+    given: Vec<Row>,
     rows: RowMap,
     meta: Meta,
     tells: bool,
+    place: Option<String>,
     alloc: Global,
 }
 
 impl SureKeeper {
-    ghost use Rattle.hx_ports.specs.Shown.{given_meta, held_by};
+    ghost use Rattle.hx_ports.specs.Shown.{given_meta, held_by, tells_rows};
 
     /// A keeper of these rows. It tells them where they ascend by their keys and `meta` counts them.
-    pub fn new(rows: Vec<Row>, meta: Meta) -> Result<Self, NoMemory>
-        ensures kept { IfOk result (λ keeper. ⟦<SureKeeper as Keeper>⟧.kept keeper ≡ told rows.items meta) }
-        ensures held { IfOk result (λ keeper. held_by keeper ≡ kept_of rows.items meta) }
-        ensures meta { IfOk result (λ keeper. given_meta keeper ≡ meta) }
-        ensures whole { IfOk result (λ keeper. ⟦<SureKeeper as Keeper>⟧.broken keeper ≡ false) }
-        ensures faults { IfOk result (λ keeper. ⟦<SureKeeper as Keeper>⟧.keeper_faults keeper ≡ 0) }
+    pub fn new(rows: Vec<Row>, meta: Meta) -> Self
+        ensures shown { ⟦<SureKeeper as Keeper>⟧.shown result ≡ record { place = None; kept = told rows.items meta; broken = false; faults = 0 } }
+        ensures held { held_by result ≡ kept_of rows.items meta }
+        ensures meta { given_meta result ≡ meta }
     {
         let alloc = *rows.allocator();
-        let tells = rows.len() as u64 == meta.rows && ascend(rows.as_slice());
-        let rows = map_rows(alloc, rows)?;
-        Ok(SureKeeper {
-            rows,
+        let tells = is_told(rows.as_slice(), &meta);
+        SureKeeper {
+            given: rows,
+            rows: BTreeMap::new(alloc),
             meta,
             tells,
+            place: None,
             alloc,
-        })
+        }
     }
 
     /// Copies of the rows, in ascending order of their keys.
-    pub fn rows(&self) -> Result<Vec<Row>, NoMemory>
-        ensures held { IfOk result (λ rows. map.entries (held_by self.now).rows ≡ entries_of rows.items) }
-        ensures kept { IfOk result (λ rows. IfSome (⟦<SureKeeper as Keeper>⟧.kept self.now) (λ held. map.entries held.rows ≡ entries_of rows.items)) }
+    pub fn rows(&mut self) -> Result<Vec<Row>, NoMemory>
+        ensures held { IfOk result (λ rows. map.entries (held_by self.old).rows ≡ entries_of rows.items) }
+        ensures kept { IfOk result (λ rows. IfSome (⟦<SureKeeper as Keeper>⟧.shown self.old).kept (λ held. map.entries held.rows ≡ entries_of rows.items)) }
+        ensures same { ⟦<SureKeeper as Keeper>⟧.shown self.new ≡ ⟦<SureKeeper as Keeper>⟧.shown self.old }
     {
+        lay_rows(&mut self.given, &mut self.rows)?;
         copy_rows(self.alloc, &self.rows)
     }
 
     pub fn version(&self) -> u64
-        ensures { IfSome (⟦<SureKeeper as Keeper>⟧.kept self.now) (λ held. result ≡ held.version) }
+        ensures { IfSome (⟦<SureKeeper as Keeper>⟧.shown self.now).kept (λ held. result ≡ held.version) }
     {
         self.meta.version
     }
+}
+
+/// Whether a keeper of these rows tells them.
+fn is_told(rows: &[Row], meta: &Meta) -> bool
+    ensures { result ≡ is_told rows.now meta.now }
+{
+    rows.len() as u64 == meta.rows && ascend(rows)
 }
 
 /// Whether the rows ascend by their keys, so that no key stands twice.
@@ -181,15 +182,19 @@ fn ascend(rows: &[Row]) -> bool
     true
 }
 
-/// The rows by their keys. Of those with one key it has the first.
-fn map_rows(alloc: Global, mut rows: Vec<Row>) -> Result<RowMap, NoMemory>
-    ensures { IfOk result (λ held. rows_in held ≡ rows_of rows.items) }
+/// Puts the rows of a list into the map, the last one first, so that of those with one key the first stays. Where memory ends, the rest stays in the list.
+fn lay_rows(given: &mut Vec<Row>, held: &mut RowMap) -> Result<(), NoMemory>
+    ensures laid { OnOk result (given.new.items ≡ []) }
+    ensures same { rows_over given.new.items (rows_in held.new) ≡ rows_over given.old.items (rows_in held.old) }
 {
-    let mut held = BTreeMap::new(alloc);
-    while let Some(row) = rows.pop() {
-        let _ = held.insert(row.key, (row.version, row.body))?;
+    while let Some(row) = given.pop() {
+        if let Err(failed) = held.insert(row.key, (row.version, row.body)) {
+            let (key, (version, body)) = failed.value;
+            let _ = given.push(Row { key, version, body });
+            return Err(NoMemory);
+        }
     }
-    Ok(held)
+    Ok(())
 }
 
 /// Copies of the rows in their order.
@@ -226,27 +231,32 @@ fn row_behind(alloc: Global, held: &RowMap, after: &[u8]) -> Result<Option<Row>,
 }
 
 impl Keeper for SureKeeper {
-    ghost use Rattle.hx_ports.specs.Shown.{given_meta, held_by, tells_rows};
+    ghost use Rattle.hx_ports.specs.Shown.{given_meta, held_by, place_of, tells_rows};
 
-    ghost kept = { λ k. if k.tells then Some (record { schema = k.meta.schema; version = k.meta.version; rows = rows_in k.rows }) else None };
-
-    ghost broken = { λ _. false };
-
-    ghost keeper_faults = { λ _. 0 };
+    ghost shown = { λ k. record { place = place_of k; kept = if tells_rows k then Some (held_by k) else None; broken = false; faults = 0 } };
 
     fn attach(&mut self, path: &str) -> Result<(), KeepFault>
-        ensures ok { IsOk result }
-        ensures same { self.new ≡ self.old }
+        ensures place { OnOk result ((⟦<SureKeeper as Keeper>⟧.shown self.new).place ≡ Some path.now) }
+        ensures nowhere { OnErr result ((⟦<SureKeeper as Keeper>⟧.shown self.new).place ≡ (⟦<SureKeeper as Keeper>⟧.shown self.old).place) }
+        ensures same { (⟦<SureKeeper as Keeper>⟧.shown self.new).kept ≡ (⟦<SureKeeper as Keeper>⟧.shown self.old).kept }
+        ensures held { held_by self.new ≡ held_by self.old }
+        ensures meta { (given_meta self.new ≡ given_meta self.old) × (tells_rows self.new ≡ tells_rows self.old) }
+        ensures memory { OnErr result (IsErrOf result KeepFault.NoMemory) }
     {
-        let _ = path;
+        let place = copy_text(self.alloc, path)?;
+        lay_rows(&mut self.given, &mut self.rows)?;
+        self.place = Some(place);
         Ok(())
     }
 
     fn meta(&mut self) -> Result<Meta, KeepFault>
-        ensures meta { IsOkAnd result (λ meta. IfSome (⟦<SureKeeper as Keeper>⟧.kept self.old) (λ held. meta ≡ meta_of held)) }
-        ensures untold { tells_rows self.old ≡ false → result ≡ Ok (given_meta self.old) }
-        ensures same { self.new ≡ self.old }
+        ensures meta { IfOk result (λ meta. IfSome (⟦<SureKeeper as Keeper>⟧.shown self.old).kept (λ held. meta ≡ meta_of held)) }
+        ensures untold { tells_rows self.old ≡ false → IfOk result (λ meta. meta ≡ given_meta self.old) }
+        ensures memory { OnErr result (IsErrOf result KeepFault.NoMemory) }
+        ensures same { ⟦<SureKeeper as Keeper>⟧.shown self.new ≡ ⟦<SureKeeper as Keeper>⟧.shown self.old }
+        ensures held { (held_by self.new ≡ held_by self.old) × (given_meta self.new ≡ given_meta self.old) × (tells_rows self.new ≡ tells_rows self.old) }
     {
+        lay_rows(&mut self.given, &mut self.rows)?;
         let mut meta = self.meta;
         if self.tells {
             meta.rows = self.rows.len() as u64;
@@ -255,31 +265,36 @@ impl Keeper for SureKeeper {
     }
 
     fn load(&mut self, after: &[u8]) -> Result<Option<Row>, KeepFault>
-        ensures row { IfOk result (λ row. IfSome (⟦<SureKeeper as Keeper>⟧.kept self.old) (λ held. row ≡ row_after after.now held)) }
+        ensures row { IfOk result (λ row. IfSome (⟦<SureKeeper as Keeper>⟧.shown self.old).kept (λ held. row ≡ row_after after.now held)) }
         ensures first { IfOk result (λ row. row ≡ row_after after.now (held_by self.old)) }
         ensures memory { OnErr result (IsErrOf result KeepFault.NoMemory) }
-        ensures same { self.new ≡ self.old }
+        ensures same { ⟦<SureKeeper as Keeper>⟧.shown self.new ≡ ⟦<SureKeeper as Keeper>⟧.shown self.old }
+        ensures held { (held_by self.new ≡ held_by self.old) × (given_meta self.new ≡ given_meta self.old) × (tells_rows self.new ≡ tells_rows self.old) }
     {
-        match row_behind(self.alloc, &self.rows, after) {
-            Ok(row) => Ok(row),
-            Err(_) => Err(KeepFault::NoMemory),
-        }
+        lay_rows(&mut self.given, &mut self.rows)?;
+        Ok(row_behind(self.alloc, &self.rows, after)?)
     }
 
     fn commit(&mut self, batch: &Batch) -> Result<(), KeepFault>
-        ensures lands { OnOk result (Lands batch.now (⟦<SureKeeper as Keeper>⟧.kept self.old) (⟦<SureKeeper as Keeper>⟧.kept self.new)) }
+        ensures lands { OnOk result (Lands batch.now (⟦<SureKeeper as Keeper>⟧.shown self.old).kept (⟦<SureKeeper as Keeper>⟧.shown self.new).kept) }
         ensures held { OnOk result (held_by self.new ≡ with_batch batch.now (held_by self.old)) }
         ensures meta { OnOk result ((given_meta self.new ≡ record (given_meta self.old) { version = batch.now.version }) × (tells_rows self.new ≡ tells_rows self.old)) }
         ensures memory { OnErr result (IsErrOf result KeepFault.NoMemory) }
         ensures same { OnErr result ((held_by self.new ≡ held_by self.old) × (given_meta self.new ≡ given_meta self.old) × (tells_rows self.new ≡ tells_rows self.old)) }
+        ensures place { (⟦<SureKeeper as Keeper>⟧.shown self.new).place ≡ (⟦<SureKeeper as Keeper>⟧.shown self.old).place }
     {
-        if put_rows(self.alloc, &mut self.rows, batch.puts.as_slice()).is_err() {
-            return Err(KeepFault::NoMemory);
-        }
+        lay_rows(&mut self.given, &mut self.rows)?;
+        put_rows(self.alloc, &mut self.rows, batch.puts.as_slice())?;
         cut_rows(&mut self.rows, batch.cuts.as_slice());
         self.meta.version = batch.version;
         Ok(())
     }
+}
+
+fn copy_text(alloc: Global, text: &str) -> Result<String, NoMemory>
+    ensures { IfOk result (λ copy. string_bytes copy ≡ text.now) }
+{
+    Ok(String::from_str(alloc, text)?)
 }
 
 /// Puts rows into their places, the first one first. Where memory ends, those that were put are taken back.
