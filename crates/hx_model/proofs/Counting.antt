@@ -9,8 +9,8 @@ use Rattle.std.proofs.lemmas.List.Sums.{sum_by-cons}
 use Rattle.hx_object.specs.declared.kind.Kind.{Kind}
 use Rattle.hx_object.specs.declared.kind.Kind.TheVariants.{Namespace, HncConfiguration, HierarchyConfiguration, SubnamespaceAnchor, HierarchicalResourceQuota, Role, RoleBinding, ConfigMap, Secret, NetworkPolicy, LimitRange, Pod, Service, PersistentVolumeClaim}
 use Rattle.hx_object.specs.declared.object.Object.{Object}
-use Rattle.hx_model.specs.State.{Rows, row_of, namespace_id}
-use Rattle.hx_model.specs.Limits.{is_anchor, is_lone, counts, counted_one, namespace_one, names_in, objects_in}
+use Rattle.hx_model.specs.State.{Objects, object_at, namespace_id}
+use Rattle.hx_model.specs.Limits.{is_anchor, stands_alone, counts, counted_one, namespace_one, names_in, objects_in}
 use Rattle.hx_model.specs.Serving.{IsServed, is_written}
 
 pub no_anchor : (kind : Kind) → is_written kind ≡ true → is_anchor kind ≡ false
@@ -29,24 +29,24 @@ no_anchor Pod e = refl
 no_anchor Service e = refl
 no_anchor PersistentVolumeClaim e = refl
 
-none_lone : (all rows : Rows) → AllByRecursion IsServed rows → filter (is_lone all) rows ≡ []
-none_lone all [] served = refl
-none_lone all (x ∷ rows) served =
-    ap (λ b. cond (b && is_none (row_of all (namespace_id x.id.name))) (x ∷ filter (is_lone all) rows) (filter (is_lone all) rows)) (no_anchor x.id.kind served.0.written) ∙ none_lone all rows served.1
+none_alone : (all objects : Objects) → AllByRecursion IsServed objects → filter (stands_alone all) objects ≡ []
+none_alone all [] served = refl
+none_alone all (x ∷ objects) served =
+    ap (λ b. cond (b && is_none (object_at all (namespace_id x.id.name))) (x ∷ filter (stands_alone all) objects) (filter (stands_alone all) objects)) (no_anchor x.id.kind served.0.written) ∙ none_alone all objects served.1
 
 -- the names are those of the namespaces
-pub names_served : (rows : Rows) → AllByRecursion IsServed rows → names_in rows ≡ sum_by namespace_one rows
-names_served rows served = rw (none_lone rows rows served) (omega arith)
+pub names_served : (objects : Objects) → AllByRecursion IsServed objects → names_in objects ≡ sum_by namespace_one objects
+names_served objects served = rw (none_alone objects objects served) (omega arith)
 
-pub no_anchor_named : (name : List ℕ) (rows : Rows) → AllByRecursion IsServed rows → list_any (λ (x : Object). is_anchor x.id.kind && bytes_eq name x.id.name) rows ≡ false
+pub no_anchor_named : (name : List ℕ) (objects : Objects) → AllByRecursion IsServed objects → list_any (λ (x : Object). is_anchor x.id.kind && bytes_eq name x.id.name) objects ≡ false
 no_anchor_named name [] served = refl
-no_anchor_named name (x ∷ rows) served =
-    ap (λ b. (b && bytes_eq name x.id.name) || list_any (λ (y : Object). is_anchor y.id.kind && bytes_eq name y.id.name) rows) (no_anchor x.id.kind served.0.written) ∙ no_anchor_named name rows served.1
+no_anchor_named name (x ∷ objects) served =
+    ap (λ b. (b && bytes_eq name x.id.name) || list_any (λ (y : Object). is_anchor y.id.kind && bytes_eq name y.id.name) objects) (no_anchor x.id.kind served.0.written) ∙ no_anchor_named name objects served.1
 
 -- at most as many objects count as there are
-pub objects_fit : (rows : Rows) → objects_in rows ≤ length rows
+pub objects_fit : (objects : Objects) → objects_in objects ≤ length objects
 objects_fit [] = omega arith
-objects_fit (x ∷ rows) = omega (arith, sum_by-cons counted_one x rows, objects_fit rows, one (counts x))
+objects_fit (x ∷ objects) = omega (arith, sum_by-cons counted_one x objects, objects_fit objects, one (counts x))
   where
     one : (b : Bool) → (if b then 1 else 0) ≤ 1
     one true = omega arith

@@ -17,13 +17,18 @@ use Rattle.hx_model.specs.declared.ask.Answer.TheVariants.{One, Many, Gone, Refu
 use Rattle.hx_model.specs.declared.refusal.Refusal.TheVariants.{BadQuery, NotKind, Broken, NoPath, NotFound, NoMethod, Exists, OtherVersion, TooLong, Missing, WrongType, NotServed}
 use Rattle.hx_model.specs.declared.rule.Rule.TheVariants.{L1, L2, L3, L4}
 use Rattle.hx_model.specs.declared.key.Write.TheVariants.{Put, Cut}
-use Rattle.hx_model.specs.State.{State, Rows, put, cut, ascends, rows_from, stamped, opening_state, state_after, namespace_id}
+use Rattle.hx_model.specs.State.{State, Objects, put, cut, ascends, objects_from, with_version, opening_state, state_after, namespace_id}
 use Rattle.hx_model.specs.Texts.{key_text, new_namespace}
 use Rattle.hx_model.specs.Json.{list_text}
 use Rattle.hx_model.specs.Replies.{status_text, gone_text, message_about, version_message, said_of}
 use Rattle.hx_model.specs.Limits.{is_copy, counts, names_in, objects_in, bytes_in}
 use Rattle.hx_model.specs.Answers.{with_status, same_object, answer_to, refusal_of}
 use Rattle.hx_model.specs.Machine.{History, Refused, Request, LostRequest, KeeperFault, opening_world, IsLegal, IsHistory, replay, loses_to_fault}
+use Rattle.hx_model.specs.declared.config.RunConfig.{RunConfig}
+
+-- nothing is excluded, and nothing skipped
+abbrev no_config : RunConfig
+no_config = record { excluded = []; allow_skip = false }
 
 abbrev acme : List ℕ
 acme = codes "acme"
@@ -33,7 +38,7 @@ team = codes "team"
 
 -- the namespace as it is stored
 abbrev stored : List ℕ → ℕ → Object
-stored name version = stamped (new_namespace name) version
+stored name version = with_version (new_namespace name) version
 
 -- the namespace acme with a label
 abbrev labelled : ℕ → Object
@@ -142,7 +147,7 @@ status_of_rule = refl
 -- ---- rows
 
 -- identities put the namespace `a` before `a-b`
-pub in_order : rows_from (stored (codes "a-b") 2 ∷ stored (codes "a") 1 ∷ []) ≡ stored (codes "a") 1 ∷ stored (codes "a-b") 2 ∷ []
+pub in_order : objects_from (stored (codes "a-b") 2 ∷ stored (codes "a") 1 ∷ []) ≡ stored (codes "a") 1 ∷ stored (codes "a-b") 2 ∷ []
 in_order = refl
 
 pub replaced : put (stored acme 2) (stored acme 1 ∷ stored team 1 ∷ []) ≡ stored acme 2 ∷ stored team 1 ∷ []
@@ -155,15 +160,15 @@ pub out_of_order : ascends (stored team 1 ∷ stored acme 2 ∷ []) ≡ false
 out_of_order = refl
 
 -- one write of two objects takes one version
-pub one_version : state_after (opening_state [] false 0) (Put (stored acme 1) ∷ Put (stored team 1) ∷ []) ≡ record { rows = stored acme 1 ∷ stored team 1 ∷ []; last = 1; excluded = []; may_skip = false }
+pub one_version : state_after (opening_state no_config 0) (Put (stored acme 1) ∷ Put (stored team 1) ∷ []) ≡ record { objects = stored acme 1 ∷ stored team 1 ∷ []; last = 1; config = no_config }
 one_version = refl
 
 -- a write goes on from the last version of the store
-pub next_version : state_after (opening_state [] false 6) (Cut (namespace_id team) ∷ []) ≡ record { rows = []; last = 7; excluded = []; may_skip = false }
+pub next_version : state_after (opening_state no_config 6) (Cut (namespace_id team) ∷ []) ≡ record { objects = []; last = 7; config = no_config }
 next_version = refl
 
 -- a write of nothing takes no version
-pub no_version : state_after (opening_state [] false 6) [] ≡ record { rows = []; last = 6; excluded = []; may_skip = false }
+pub no_version : state_after (opening_state no_config 6) [] ≡ record { objects = []; last = 6; config = no_config }
 no_version = refl
 
 -- ---- histories
@@ -178,11 +183,11 @@ first_requests =
     ∷ Refused NotServed
     ∷ []
 
-pub first_requests_legal : IsHistory (opening_world false (opening_state [] false 0)) first_requests
+pub first_requests_legal : IsHistory (opening_world false (opening_state no_config 0)) first_requests
 unfolding counts
 first_requests_legal = ((refl, λ _. refl), ((refl, λ _. refl), ((refl, λ _. refl), ((refl, λ _. refl), (tt, tt)))))
 
-pub first_requests_leave : replay (opening_world false (opening_state [] false 0)) first_requests ≡ record { state = record { rows = stored acme 1 ∷ []; last = 1; excluded = []; may_skip = false }; hands = []; broken = false; torn = None }
+pub first_requests_leave : replay (opening_world false (opening_state no_config 0)) first_requests ≡ record { state = record { objects = stored acme 1 ∷ []; last = 1; config = no_config }; hands = []; broken = false; torn = None }
 unfolding counts
 first_requests_leave = refl
 
@@ -196,22 +201,22 @@ replacements =
     ∷ Request (Replace (new_namespace team) None false) (Refusing (NotFound Namespace team))
     ∷ []
 
-pub replacements_legal : IsHistory (opening_world false (opening_state [] false 0)) replacements
+pub replacements_legal : IsHistory (opening_world false (opening_state no_config 0)) replacements
 unfolding same_object counts
 replacements_legal = ((refl, λ _. refl), ((refl, λ _. refl), ((refl, λ _. refl), ((refl, λ _. refl), ((refl, λ _. refl), tt)))))
 
-pub replacements_leave : replay (opening_world false (opening_state [] false 0)) replacements ≡ record { state = record { rows = labelled 2 ∷ []; last = 2; excluded = []; may_skip = false }; hands = []; broken = false; torn = None }
+pub replacements_leave : replay (opening_world false (opening_state no_config 0)) replacements ≡ record { state = record { objects = labelled 2 ∷ []; last = 2; config = no_config }; hands = []; broken = false; torn = None }
 unfolding same_object counts
 replacements_leave = refl
 
 -- the same content leaves the state as it is
-pub same_content : answer_to (record { rows = stored acme 1 ∷ []; last = 4; excluded = []; may_skip = false }) (Replace (new_namespace acme) (Some 1) false) ≡ (One (stored acme 1) false, record { rows = stored acme 1 ∷ []; last = 4; excluded = []; may_skip = false })
+pub same_content : answer_to (record { objects = stored acme 1 ∷ []; last = 4; config = no_config }) (Replace (new_namespace acme) (Some 1) false) ≡ (One (stored acme 1) false, record { objects = stored acme 1 ∷ []; last = 4; config = no_config })
 unfolding same_object counts
 same_content = refl
 
 -- a terminating namespace goes on terminating when it gets a label
-pub same_phase : answer_to (record { rows = record (stored acme 1) { payload = NamespaceOf true } ∷ []; last = 4; excluded = []; may_skip = false }) (Replace (labelled 0) None false)
-    ≡ (One (record (labelled 5) { payload = NamespaceOf true }) false, record { rows = record (labelled 5) { payload = NamespaceOf true } ∷ []; last = 5; excluded = []; may_skip = false })
+pub same_phase : answer_to (record { objects = record (stored acme 1) { payload = NamespaceOf true } ∷ []; last = 4; config = no_config }) (Replace (labelled 0) None false)
+    ≡ (One (record (labelled 5) { payload = NamespaceOf true }) false, record { objects = record (labelled 5) { payload = NamespaceOf true } ∷ []; last = 5; config = no_config })
 unfolding same_object counts
 same_phase = refl
 
@@ -229,12 +234,12 @@ config_requests =
     ∷ Request (ListOf ConfigMap None) (Many ConfigMap [] 3)
     ∷ []
 
-pub config_requests_legal : IsHistory (opening_world false (opening_state [] false 0)) config_requests
+pub config_requests_legal : IsHistory (opening_world false (opening_state no_config 0)) config_requests
 unfolding counts is_copy size_of
 config_requests_legal =
     ((refl, λ _. refl), ((refl, λ _. refl), ((refl, λ _. refl), ((refl, λ _. refl), ((refl, λ _. refl), ((refl, λ _. refl), ((refl, λ _. refl), ((refl, λ _. refl), ((refl, λ _. refl), tt)))))))))
 
-pub config_requests_leave : replay (opening_world false (opening_state [] false 0)) config_requests ≡ record { state = record { rows = stored acme 1 ∷ []; last = 3; excluded = []; may_skip = false }; hands = []; broken = false; torn = None }
+pub config_requests_leave : replay (opening_world false (opening_state no_config 0)) config_requests ≡ record { state = record { objects = stored acme 1 ∷ []; last = 3; config = no_config }; hands = []; broken = false; torn = None }
 unfolding counts is_copy size_of
 config_requests_leave = refl
 
@@ -251,12 +256,12 @@ listings =
     ∷ Request (ListOf Namespace None) (Many Namespace (stored (codes "a") 3 ∷ stored (codes "a-b") 1 ∷ []) 5)
     ∷ []
 
-pub listings_legal : IsHistory (opening_world false (opening_state [] false 0)) listings
+pub listings_legal : IsHistory (opening_world false (opening_state no_config 0)) listings
 unfolding counts is_copy size_of
 listings_legal = ((refl, λ _. refl), ((refl, λ _. refl), ((refl, λ _. refl), ((refl, λ _. refl), ((refl, λ _. refl), ((refl, λ _. refl), ((refl, λ _. refl), ((refl, λ _. refl), tt))))))))
 
-pub listings_leave : replay (opening_world false (opening_state [] false 0)) listings ≡ record {
-  state = record { rows = stored (codes "a") 3 ∷ stored (codes "a-b") 1 ∷ config (codes "a") (codes "b") 5 ∷ config (codes "a") (codes "d") 4 ∷ config (codes "a-b") (codes "c") 2 ∷ []; last = 5; excluded = []; may_skip = false };
+pub listings_leave : replay (opening_world false (opening_state no_config 0)) listings ≡ record {
+  state = record { objects = stored (codes "a") 3 ∷ stored (codes "a-b") 1 ∷ config (codes "a") (codes "b") 5 ∷ config (codes "a") (codes "d") 4 ∷ config (codes "a-b") (codes "c") 2 ∷ []; last = 5; config = no_config };
   hands = [];
   broken = false;
   torn = None;
@@ -272,16 +277,16 @@ used_up =
     ∷ Request (ListOf Namespace None) (Many Namespace [] 9223372036854775807)
     ∷ []
 
-pub used_up_legal : IsHistory (opening_world false (opening_state [] false 9223372036854775807)) used_up
+pub used_up_legal : IsHistory (opening_world false (opening_state no_config 9223372036854775807)) used_up
 unfolding counts
 used_up_legal = ((refl, λ _. refl), ((refl, λ _. refl), ((refl, λ _. refl), tt)))
 
-pub used_up_leaves : replay (opening_world false (opening_state [] false 9223372036854775807)) used_up ≡ record { state = record { rows = []; last = 9223372036854775807; excluded = []; may_skip = false }; hands = []; broken = false; torn = None }
+pub used_up_leaves : replay (opening_world false (opening_state no_config 9223372036854775807)) used_up ≡ record { state = record { objects = []; last = 9223372036854775807; config = no_config }; hands = []; broken = false; torn = None }
 unfolding counts
 used_up_leaves = refl
 
 -- the last version is given out
-pub last_version : IsLegal (opening_world false (opening_state [] false 9223372036854775806)) (Request (Create (new_namespace acme) false) (One (stored acme 9223372036854775807) true))
+pub last_version : IsLegal (opening_world false (opening_state no_config 9223372036854775806)) (Request (Create (new_namespace acme) false) (One (stored acme 9223372036854775807) true))
 unfolding counts
 last_version = (refl, λ _. refl)
 
@@ -295,15 +300,15 @@ third_fails =
     ∷ LostRequest (Create (new_namespace (codes "d")) false) KeeperFault
     ∷ []
 
-pub third_fails_legal : IsHistory (opening_world false (opening_state [] false 0)) third_fails
+pub third_fails_legal : IsHistory (opening_world false (opening_state no_config 0)) third_fails
 unfolding counts
 third_fails_legal = ((refl, λ _. refl), ((refl, λ _. refl), ((refl, λ none. cc), ((refl, λ changes. absurd (changes.1 refl)), ((refl, λ none. cc), tt)))))
 
-pub third_fails_leaves : replay (opening_world false (opening_state [] false 0)) third_fails ≡ record {
-  state = record { rows = stored (codes "a") 1 ∷ stored (codes "b") 2 ∷ []; last = 2; excluded = []; may_skip = false };
+pub third_fails_leaves : replay (opening_world false (opening_state no_config 0)) third_fails ≡ record {
+  state = record { objects = stored (codes "a") 1 ∷ stored (codes "b") 2 ∷ []; last = 2; config = no_config };
   hands = [];
   broken = true;
-  torn = Some (record { rows = stored (codes "a") 1 ∷ stored (codes "b") 2 ∷ stored (codes "c") 3 ∷ []; last = 3; excluded = []; may_skip = false });
+  torn = Some (record { objects = stored (codes "a") 1 ∷ stored (codes "b") 2 ∷ stored (codes "c") 3 ∷ []; last = 3; config = no_config });
 }
 unfolding counts
 third_fails_leaves = refl
@@ -312,17 +317,17 @@ pub third_fails_loses : loses_to_fault third_fails ≡ true
 third_fails_loses = refl
 
 -- a broken store takes no write
-pub no_write_when_broken : IsLegal (opening_world true (opening_state [] false 0)) (Request (Create (new_namespace acme) false) (One (stored acme 1) true)) → ⊥
+pub no_write_when_broken : IsLegal (opening_world true (opening_state no_config 0)) (Request (Create (new_namespace acme) false) (One (stored acme 1) true)) → ⊥
 unfolding counts
 no_write_when_broken legal = true≢false (legal.1 (refl, λ none. cc))
 
 -- a broken store answers a replacement by the same content, which writes nothing
-pub same_content_when_broken : IsLegal (record { state = record { rows = stored acme 1 ∷ []; last = 1; excluded = []; may_skip = false }; hands = []; broken = true; torn = None }) (Request (Replace (new_namespace acme) None false) (One (stored acme 1) false))
+pub same_content_when_broken : IsLegal (record { state = record { objects = stored acme 1 ∷ []; last = 1; config = no_config }; hands = []; broken = true; torn = None }) (Request (Replace (new_namespace acme) None false) (One (stored acme 1) false))
 unfolding same_object counts
 same_content_when_broken = (refl, λ changes. absurd (changes.1 refl))
 
 -- an answer from another state isn't legal
-pub no_stale_answer : IsLegal (replay (opening_world false (opening_state [] false 0)) first_requests) (Request (Get (namespace_id acme)) (Refusing (NotFound Namespace acme))) → ⊥
+pub no_stale_answer : IsLegal (replay (opening_world false (opening_state no_config 0)) first_requests) (Request (Get (namespace_id acme)) (Refusing (NotFound Namespace acme))) → ⊥
 unfolding counts
 no_stale_answer legal = absurd (let e : Refusing (NotFound Namespace acme) ≡ One (stored acme 1) false = legal.0 in cc)
 
@@ -346,7 +351,7 @@ abbrev anchor : List ℕ → List ℕ → Object
 anchor ns name = record { id = record { kind = SubnamespaceAnchor; ns = ns; name = name }; labels = []; annotations = []; payload = Anchor None; version = 1 }
 
 -- the names a, b, d and c: an anchor of a namespace's name adds none, and two anchors of one name add one
-abbrev named : Rows
+abbrev named : Objects
 named =
     stored (codes "a") 1 ∷ stored (codes "b") 1 ∷ stored (codes "d") 1
     ∷ anchor (codes "b") (codes "a") ∷ anchor (codes "b") (codes "c") ∷ anchor (codes "d") (codes "c") ∷ []
@@ -394,7 +399,7 @@ service_counts = refl
 
 -- acme, and so many objects of one kind, of which only the number counts here
 abbrev crowd : ℕ → Object → State
-crowd count x = record { rows = stored acme 1 ∷ replicate count x; last = 1; excluded = []; may_skip = false }
+crowd count x = record { objects = stored acme 1 ∷ replicate count x; last = 1; config = no_config }
 
 -- the 4,096th name is taken, and the next one isn't
 pub last_name : refusal_of (crowd 4094 (stored team 1)) (Create (new_namespace (codes "a")) false) ≡ None
@@ -434,7 +439,7 @@ no_byte_is_left = refl
 
 -- a namespace and a ConfigMap, and no version is left
 abbrev ended : State
-ended = record { rows = stored acme 1 ∷ config acme (codes "c") 2 ∷ []; last = 9223372036854775807; excluded = []; may_skip = false }
+ended = record { objects = stored acme 1 ∷ config acme (codes "c") 2 ∷ []; last = 9223372036854775807; config = no_config }
 
 pub place_before_version : refusal_of ended (Replace (new_namespace team) (Some 7) false) ≡ Some (NotFound Namespace team)
 place_before_version = refl

@@ -5,7 +5,8 @@ use Rattle.hx_model.specs.declared.ask.Ask.{Ask}
 use Rattle.hx_model.specs.declared.ask.Answer.{Answer}
 use Rattle.hx_model.specs.declared.ask.Answer.TheVariants.{One, Many, Gone, Refused as Refusing}
 use Rattle.hx_model.specs.declared.refusal.Refusal.TheVariants.{BadLine, BadPath, BadQuery, NotJson, NotWhole, NotKind, OtherPlace, Broken, NoPath, NotFound, NoMethod, Exists, OtherVersion, TooLong, Missing, WrongType, BadName, BadLabel, TooManyLabels, TooLarge, StoreFailed, NotServed, NoMemory as NoRoom}
-use Rattle.hx_model.specs.Machine.{World, History, IsHistory, world_after, replay, loses_to_fault, is_lost_to_fault, request_entry, answer_of}
+use Rattle.hx_model.specs.Machine.{World, History, IsHistory, world_after, replay, loses_to_fault, is_lost_to_fault, answer_of}
+use Rattle.hx_model.specs.Requests.{request_entry}
 
 pub IsHistory-append : (w : World) (h k : History) → IsHistory w h → IsHistory (replay w h) k → IsHistory w (h ++ k)
 IsHistory-append w [] k p q = q

@@ -1,6 +1,6 @@
 -- Objects stay legal where their versions and their status change.
 --     keyed_legal        the namespace of a legal object has no slash
---     legal_stamped      with another version
+--     legal_with_version      with another version
 --     legal_replaced     with the status of another object of its kind
 use Rattle.std.proofs.Common.{◌≡◌, ℕ, Bool, true, false, not, ◌&&◌, ◌||◌, List, [], ◌∷◌, None, Some, Option, refl, sym, ap, ◌∙◌, subst, true≢false, eqb-true, ◌==◌}
 use Rattle.std.specs.Prelude.{if◌then◌else◌}
@@ -20,15 +20,15 @@ use Rattle.hx_object.specs.declared.object.ObjectFault.{ObjectFault}
 use Rattle.hx_object.specs.declared.object.ObjectFault.TheVariants.{BadName}
 use Rattle.hx_object.specs.declared.object.Payload.{Payload}
 use Rattle.hx_object.specs.declared.object.Payload.TheVariants.{Namespace as NamespaceOf, Config, Hierarchy, Anchor, Quota, Plain}
-use Rattle.hx_model.specs.State.{stamped}
+use Rattle.hx_model.specs.State.{with_version}
 use Rattle.hx_model.specs.Answers.{with_status, replaced_by}
 use Rattle.hx_model.proofs.Storing.{HasNoSlash, IsKeyed}
 
 -- ---- versions
 
-pub legal_stamped : (x : Object) (version : ℕ) → IsLegal x → IsLegal (stamped x version)
+pub legal_with_version : (x : Object) (version : ℕ) → IsLegal x → IsLegal (with_version x version)
 unfolding object_fault has_legal_names has_legal_labels size_of
-legal_stamped x version legal = record { sound = legal.sound; home = legal.home; payload = legal.payload }
+legal_with_version x version legal = record { sound = legal.sound; home = legal.home; payload = legal.payload }
 
 -- ---- status
 

@@ -1,7 +1,8 @@
-pub mod Rows
+pub mod Objects
 pub mod Storing
 pub mod Histories
 pub mod Legality
+pub mod Writes
 pub mod Counting
 pub mod Replying
 pub mod Climbing
@@ -12,3 +13,4 @@ pub mod Planting
 pub mod Listing
 pub mod Examples
 pub mod TreeExamples
+pub mod NextParents

@@ -140,14 +140,14 @@ walk_to_Steps (suc left) f n (Some m) k h =
 not_apart : (m n : List ℕ) → m ≡ n → bytes_eq m n ≡ false → ⊥
 not_apart m n is out = true≢false (sym (subst (λ (k : List ℕ). bytes_eq m k ≡ true) is (same_itself m)) ∙ out)
 
-one_count : (f : Forest) (n m : List ℕ) (j k : ℕ) → Steps f n m j → Steps f n m k → j ≡ k
+pub one_count : (f : Forest) (n m : List ℕ) (j k : ℕ) → Steps f n m j → Steps f n m k → j ≡ k
 one_count f n m j k (arrived is _) (arrived _ _) = refl
 one_count f n m j k (arrived is _) (step _ apart _ _) = absurd (not_apart m n is apart)
 one_count f n m j k (step _ apart _ _) (arrived is _) = absurd (not_apart m n is apart)
 one_count f n m j k (step {q = p} {k = i} _ _ low left) (step {q = q} {k = l} _ _ high right) =
     ap (λ c. suc c) (one_count f n p i l left (subst (λ (x : List ℕ). Steps f n x l) (same_Some q p (sym high ∙ low)) right))
 
-steps_above : (f : Forest) (n m : List ℕ) (k : ℕ) → Steps f n m k → Above f m n
+pub steps_above : (f : Forest) (n m : List ℕ) (k : ℕ) → Steps f n m k → Above f m n
 steps_above f n m k (arrived is there) = subst (λ (x : List ℕ). Above f m x) is (itself there)
 steps_above f n m k (step {q = q} {k = i} there apart is rest) = through there is (steps_above f n q i rest)
 

@@ -14,13 +14,18 @@ use Rattle.hx_model.specs.declared.ask.Answer.TheVariants.{One, Refused}
 use Rattle.hx_model.specs.declared.node.Halt.TheVariants.{InCycle, Ancestor}
 use Rattle.hx_model.specs.declared.refusal.Refusal.TheVariants.{Broken}
 use Rattle.hx_model.specs.declared.rule.Rule.TheVariants.{X1, H7, N3, H1, H2, H3, H4, H6, H8}
-use Rattle.hx_model.specs.State.{State, Rows, ascends, stamped}
+use Rattle.hx_model.specs.State.{State, Objects, ascends, with_version}
 use Rattle.hx_model.specs.Texts.{new_namespace, two_digits}
 use Rattle.hx_model.specs.Replies.{status_text}
 use Rattle.hx_model.specs.Limits.{counts}
 use Rattle.hx_model.specs.Forest.{chain_of, depth_of, subtree_of, halt_of}
 use Rattle.hx_model.specs.Tree.{hierarchy_id, forest_of}
 use Rattle.hx_model.specs.Answers.{same_object, answer_to, refusal_of}
+use Rattle.hx_model.specs.declared.config.RunConfig.{RunConfig}
+
+-- nothing is excluded, and nothing skipped
+abbrev no_config : RunConfig
+no_config = record { excluded = []; allow_skip = false }
 
 abbrev acme : List ℕ
 acme = codes "acme"
@@ -42,7 +47,7 @@ kube = codes "kube-system"
 
 -- the namespace as it is stored
 abbrev stored : List ℕ → ℕ → Object
-stored name version = stamped (new_namespace name) version
+stored name version = with_version (new_namespace name) version
 
 -- a HierarchyConfiguration that names a parent or none
 abbrev named : List ℕ → Option (List ℕ) → Bool → ℕ → Object
@@ -58,15 +63,15 @@ root ns version = named ns None false version
 abbrev sub : List ℕ → List ℕ → ℕ → Object
 sub name parent version = record (stored name version) { annotations = (codes "hnc.x-k8s.io/subnamespace-of", parent) ∷ [] }
 
-abbrev state : Rows → ℕ → State
-state rows last = record { rows = rows; last = last; excluded = []; may_skip = false }
+abbrev state : Objects → ℕ → State
+state objects last = record { objects = objects; last = last; config = no_config }
 
 -- ---- acme over team over app
 
 abbrev tree : State
 tree = state (stored acme 1 ∷ stored app 3 ∷ stored team 2 ∷ under app team 5 ∷ under team acme 4 ∷ []) 5
 
-pub tree_in_order : ascends tree.rows ≡ true
+pub tree_in_order : ascends tree.objects ≡ true
 tree_in_order = refl
 
 pub chain_of_app : chain_of (forest_of tree) app ≡ app ∷ team ∷ acme ∷ []
@@ -99,7 +104,7 @@ post_under_gone = refl
 abbrev rooted : State
 rooted = state (stored acme 1 ∷ stored app 3 ∷ stored team 2 ∷ root acme 6 ∷ under app team 5 ∷ under team acme 4 ∷ []) 6
 
-pub rooted_in_order : ascends rooted.rows ≡ true
+pub rooted_in_order : ascends rooted.objects ≡ true
 rooted_in_order = refl
 
 pub put_under_app : answer_to rooted (Replace (under acme app 0) None false) ≡ (Refused (Broken H2), rooted)
@@ -124,12 +129,12 @@ c = codes "c"
 
 -- b under a, and c under b, where admission may be skipped or not
 abbrev open_ring : Bool → State
-open_ring may_skip = record { rows = stored a 1 ∷ stored b 2 ∷ stored c 3 ∷ under b a 4 ∷ under c b 5 ∷ []; last = 5; excluded = []; may_skip = may_skip }
+open_ring allow_skip = record { objects = stored a 1 ∷ stored b 2 ∷ stored c 3 ∷ under b a 4 ∷ under c b 5 ∷ []; last = 5; config = record { excluded = []; allow_skip = allow_skip } }
 
 abbrev ring : State
-ring = record { rows = stored a 1 ∷ stored b 2 ∷ stored c 3 ∷ under a b 6 ∷ under b a 4 ∷ under c b 5 ∷ []; last = 6; excluded = []; may_skip = true }
+ring = record { objects = stored a 1 ∷ stored b 2 ∷ stored c 3 ∷ under a b 6 ∷ under b a 4 ∷ under c b 5 ∷ []; last = 6; config = record { excluded = []; allow_skip = true } }
 
-pub ring_in_order : ascends ring.rows ≡ true
+pub ring_in_order : ascends ring.objects ≡ true
 ring_in_order = refl
 
 -- the ring is closed where rules are passed over
@@ -171,15 +176,15 @@ abbrev numbered : ℕ → List ℕ
 numbered k = 110 ∷ two_digits k
 
 -- so many objects, by the numbers from that one
-abbrev objects_from : (ℕ → Object) → ℕ → ℕ → Rows
-objects_from make zero k = []
-objects_from make (suc left) k = make k ∷ objects_from make left (k + 1)
+abbrev crowd_from : (ℕ → Object) → ℕ → ℕ → Objects
+crowd_from make zero k = []
+crowd_from make (suc left) k = make k ∷ crowd_from make left (k + 1)
 
 -- the namespaces n00 to n65, of which as many as given lie under the one before
 abbrev line : ℕ → State
-line deepest = state (objects_from (λ k. stored (numbered k) 1) 66 0 ++ objects_from (λ k. under (numbered k) (numbered (k - 1)) 1) deepest 1) 1
+line deepest = state (crowd_from (λ k. stored (numbered k) 1) 66 0 ++ crowd_from (λ k. under (numbered k) (numbered (k - 1)) 1) deepest 1) 1
 
-pub line_in_order : ascends (line 64).rows ≡ true
+pub line_in_order : ascends (line 64).objects ≡ true
 line_in_order = refl
 
 pub greatest_depth_fits : refusal_of (line 63) (Create (under (codes "n64") (codes "n63") 0) false) ≡ None
@@ -204,7 +209,7 @@ post_annotated = refl
 abbrev nested : State
 nested = state (stored acme 1 ∷ stored ops 2 ∷ sub team acme 3 ∷ []) 3
 
-pub nested_in_order : ascends nested.rows ≡ true
+pub nested_in_order : ascends nested.objects ≡ true
 nested_in_order = refl
 
 pub put_unannotated : answer_to nested (Replace (new_namespace team) None false) ≡ (Refused (Broken N3), nested)
@@ -220,9 +225,9 @@ another_parent = refl
 -- ---- excluded namespaces
 
 abbrev kept_out : State
-kept_out = record { rows = stored kube 1 ∷ stored team 2 ∷ []; last = 2; excluded = kube ∷ []; may_skip = false }
+kept_out = record { objects = stored kube 1 ∷ stored team 2 ∷ []; last = 2; config = record { excluded = kube ∷ []; allow_skip = false } }
 
-pub kept_out_in_order : ascends kept_out.rows ≡ true
+pub kept_out_in_order : ascends kept_out.objects ≡ true
 kept_out_in_order = refl
 
 pub excluded_parent : answer_to kept_out (Create (under team kube 0) false) ≡ (Refused (Broken H6), kept_out)
@@ -238,7 +243,7 @@ abbrev lost : State
 lost = state (stored team 1 ∷ under team gone 2 ∷ []) 2
 
 -- a PUT that names the same parent brings no new one
-pub same_parent : answer_to lost (Replace (named team (Some gone) true 0) None false) ≡ (One (named team (Some gone) true 3) false, record lost { rows = stored team 1 ∷ named team (Some gone) true 3 ∷ []; last = 3 })
+pub same_parent : answer_to lost (Replace (named team (Some gone) true 0) None false) ≡ (One (named team (Some gone) true 3) false, record lost { objects = stored team 1 ∷ named team (Some gone) true 3 ∷ []; last = 3 })
 unfolding same_object counts
 same_parent = refl
 

@@ -4,9 +4,8 @@
 --     walk_ends_length     where a walk has ended, as many namespaces as it passed are in the chain
 --     chain_length_counts  the length of a chain by counting who is in it
 --     walk_halts_above     whether an ancestor is halted by itself
---     walk_has_step, ..    one step of each walk, for a loop that counts down
 use Rattle.std.specs.Prelude.{is_some, option_and_then}
-use Rattle.std.proofs.Common.{◌≡◌, ℕ, zero, suc, ◌+◌, ◌-◌, ◌<◌, ◌≤◌, Bool, true, false, cond, not, ◌&&◌, ◌||◌, Option, Some, None, option_map, List, [], ◌∷◌, ◌++◌, length, filter, refl, sym, ap, ◌∙◌, subst, inl, inr, arith, length-append, true≢false}
+use Rattle.std.proofs.Common.{◌≡◌, ℕ, zero, suc, ◌+◌, ◌≤◌, Bool, true, false, cond, not, ◌&&◌, ◌||◌, Option, Some, None, option_map, List, [], ◌∷◌, ◌++◌, length, filter, refl, sym, ap, ◌∙◌, subst, inl, inr, arith, length-append, true≢false}
 use Rattle.std.specs.List.{list_any, AllByRecursion, IsDistinct}
 use Rattle.std.specs.Str.{bytes_eq}
 use Rattle.std.proofs.lemmas.Cmp.{nat_list_eq_equiv}
@@ -80,7 +79,7 @@ grown_there f built (Some n) all (onward goes rest) fine = grown_there f (built 
 pub chain_there : (f : Forest) (n : List ℕ) → AreThere f (chain_of f n)
 chain_there f n = grown_there f [] (Some n) (chain_of f n) (chain-Climbs f n) (none_there f)
 
-longer : (f : Forest) (built : List (List ℕ)) (next : Option (List ℕ)) (all : List (List ℕ)) → Climbs f built next all → length built ≤ length all
+pub longer : (f : Forest) (built : List (List ℕ)) (next : Option (List ℕ)) (all : List (List ℕ)) → Climbs f built next all → length built ≤ length all
 longer f built None all at_top = omega arith
 longer f built (Some n) all (stopped stops) = omega arith
 longer f built (Some n) all (onward goes rest) = omega (arith, longer f (built ++ n ∷ []) (parent_of f n) all rest, length-append built (n ∷ []))
@@ -288,37 +287,3 @@ walk_halts_above f n none =
     walk_halts_any (length f) f (parent_of f n)
     ∙ walk_any_from (λ m. is_some (own_halt_of f m)) f (parent_of f n)
     ∙ sym (ap (list_any (λ m. is_some (own_halt_of f m))) (chain_tail f n (no_halt_apart f n none)))
-
--- ---- one step, for a loop that counts down what is left
-
-pub walk_has_none : (left : ℕ) (f : Forest) (a : List ℕ) → walk_has left f None a ≡ false
-walk_has_none zero f a = refl
-walk_has_none (suc left) f a = refl
-
-pub walk_has_step : (left : ℕ) (f : Forest) (n a : List ℕ) → 0 < left → walk_has left f (Some n) a ≡ (is_there f n && (bytes_eq n a || walk_has (left - 1) f (parent_of f n) a))
-walk_has_step zero f n a some = absurd (omega arith)
-walk_has_step (suc left) f n a some = ap (λ k. is_there f n && (bytes_eq n a || walk_has k f (parent_of f n) a)) (omega arith)
-
-pub walk_to_nowhere : (left : ℕ) (f : Forest) (a : List ℕ) → walk_to left f None a ≡ None
-walk_to_nowhere zero f a = refl
-walk_to_nowhere (suc left) f a = refl
-
-pub walk_to_step : (left : ℕ) (f : Forest) (n a : List ℕ) → 0 < left → walk_to left f (Some n) a ≡ cond (is_there f n) (cond (bytes_eq n a) (Some 0) (option_map (λ k. suc k) (walk_to (left - 1) f (parent_of f n) a))) None
-walk_to_step zero f n a some = absurd (omega arith)
-walk_to_step (suc left) f n a some = ap (λ k. cond (is_there f n) (cond (bytes_eq n a) (Some 0) (option_map (λ i. suc i) (walk_to k f (parent_of f n) a))) None) (omega arith)
-
-pub walk_ends_none : (left : ℕ) (f : Forest) → 0 < left → walk_ends left f None ≡ Some 0
-walk_ends_none zero f some = absurd (omega arith)
-walk_ends_none (suc left) f some = refl
-
-pub walk_ends_step : (left : ℕ) (f : Forest) (n : List ℕ) → 0 < left → walk_ends left f (Some n) ≡ cond (is_there f n) (option_map (λ k. suc k) (walk_ends (left - 1) f (parent_of f n))) (Some 0)
-walk_ends_step zero f n some = absurd (omega arith)
-walk_ends_step (suc left) f n some = ap (λ k. cond (is_there f n) (option_map (λ i. suc i) (walk_ends k f (parent_of f n))) (Some 0)) (omega arith)
-
-pub walk_halts_none : (left : ℕ) (f : Forest) → walk_halts left f None ≡ false
-walk_halts_none zero f = refl
-walk_halts_none (suc left) f = refl
-
-pub walk_halts_step : (left : ℕ) (f : Forest) (n : List ℕ) → 0 < left → walk_halts left f (Some n) ≡ (is_there f n && (is_some (own_halt_of f n) || walk_halts (left - 1) f (parent_of f n)))
-walk_halts_step zero f n some = absurd (omega arith)
-walk_halts_step (suc left) f n some = ap (λ k. is_there f n && (is_some (own_halt_of f n) || walk_halts k f (parent_of f n))) (omega arith)

@@ -28,9 +28,11 @@ use Rattle.hx_model.specs.declared.key.Write.{Write}
 use Rattle.hx_model.specs.declared.key.Write.TheVariants.{Put, Cut}
 use Rattle.hx_model.specs.First.{so, first}
 use Rattle.hx_model.specs.Limits.{is_namespace, is_anchor, is_named, counts, names_in, objects_in, bytes_in, most_names, most_objects, most_bytes, greatest_version}
-use Rattle.hx_model.specs.Rules.{Case, rules}
+use Rattle.hx_model.specs.Cases.{Case}
+use Rattle.hx_model.specs.Denials.{refusal_by}
+use Rattle.hx_model.specs.Rules.{rules}
 use Rattle.hx_model.specs.Tree.{forest_of}
-use Rattle.hx_model.specs.State.{State, Rows, row_of, home_in, stamped, written, state_after}
+use Rattle.hx_model.specs.State.{State, Objects, object_at, home_in, with_version, after_writes, state_after}
 
 -- ---- what an ask changes
 
@@ -53,14 +55,14 @@ same_object = (object_eq.ghosts).eq
 -- a PUT writes where the object changes
 abbrev pub replacing : Option Object → Object → ℕ → List Write
 replacing None x version = []
-replacing (Some old) x version = if same_object (replaced_by old x) old then [] else Put (stamped (replaced_by old x) version) ∷ []
+replacing (Some old) x version = if same_object (replaced_by old x) old then [] else Put (with_version (replaced_by old x) version) ∷ []
 
 -- what an ask changes. Every object that it puts has the new version
 abbrev pub writes_of : State → Ask → List Write
 writes_of s (Get id) = []
 writes_of s (ListOf kind ns) = []
-writes_of s (Create x skip) = Put (stamped x (s.last + 1)) ∷ []
-writes_of s (Replace x expected skip) = replacing (row_of s.rows x.id) x (s.last + 1)
+writes_of s (Create x skip) = Put (with_version x (s.last + 1)) ∷ []
+writes_of s (Replace x expected skip) = replacing (object_at s.objects x.id) x (s.last + 1)
 writes_of s (Delete id skip) = Cut id ∷ []
 
 -- ---- refusals
@@ -72,16 +74,16 @@ abbrev pub already_there : Id → Refusal
 already_there id = Exists id.kind id.name
 
 -- the namespace of an identity isn't there
-abbrev pub is_homeless : State → Id → Bool
-is_homeless s id = not (is_in_cluster id.kind) && is_none (home_in s.rows id)
+abbrev pub lacks_namespace : State → Id → Bool
+lacks_namespace s id = not (is_in_cluster id.kind) && is_none (home_in s.objects id)
 
 -- the object or its namespace isn't there, or the object is there already
 abbrev pub place_refusal : State → Ask → Option Refusal
-place_refusal s (Get id) = so (is_none (row_of s.rows id)) (not_found id)
+place_refusal s (Get id) = so (is_none (object_at s.objects id)) (not_found id)
 place_refusal s (ListOf kind ns) = None
-place_refusal s (Create x skip) = first (so (is_homeless s x.id) (NotFound Namespace x.id.ns) ∷ so (is_some (row_of s.rows x.id)) (already_there x.id) ∷ [])
-place_refusal s (Replace x expected skip) = so (is_none (row_of s.rows x.id)) (not_found x.id)
-place_refusal s (Delete id skip) = so (is_none (row_of s.rows id)) (not_found id)
+place_refusal s (Create x skip) = first (so (lacks_namespace s x.id) (NotFound Namespace x.id.ns) ∷ so (is_some (object_at s.objects x.id)) (already_there x.id) ∷ [])
+place_refusal s (Replace x expected skip) = so (is_none (object_at s.objects x.id)) (not_found x.id)
+place_refusal s (Delete id skip) = so (is_none (object_at s.objects id)) (not_found id)
 
 -- an object has another version than the one that is expected
 abbrev pub other_version : Option ℕ → Option Object → Option Refusal
@@ -89,37 +91,27 @@ other_version (Some wanted) (Some x) = so (not (x.version == wanted)) (OtherVers
 other_version _ _ = None
 
 abbrev pub version_refusal : State → Ask → Option Refusal
-version_refusal s (Replace x expected skip) = other_version expected (row_of s.rows x.id)
+version_refusal s (Replace x expected skip) = other_version expected (object_at s.objects x.id)
 version_refusal s _ = None
 
 -- what the rules look at, by the identity, what is there and what is given
-abbrev pub case_at : State → List Write → Id → Option Object → Option Object → Bool → Case
-case_at s writes id old new skip = record {
-  id = id;
-  old = old;
-  new = new;
-  home = home_in s.rows id;
-  tree = forest_of s;
-  moved = forest_of (state_after s writes);
-  excluded = s.excluded;
-  may_skip = s.may_skip;
-  skip = skip;
-}
+abbrev pub case_at : State → Id → Option Object → Option Object → Bool → Case
+case_at s id old new skip = record { id = id; old = old; new = new; home = home_in s.objects id; tree = forest_of s; config = s.config; skip = skip }
 
 -- the case of a write or a removal
 abbrev pub case_of : State → Ask → Option Case
-case_of s (Create x skip) = Some (case_at s (writes_of s (Create x skip)) x.id None (Some x) skip)
-case_of s (Replace x expected skip) = Some (case_at s (writes_of s (Replace x expected skip)) x.id (row_of s.rows x.id) (Some x) skip)
-case_of s (Delete id skip) = Some (case_at s (writes_of s (Delete id skip)) id (row_of s.rows id) None skip)
+case_of s (Create x skip) = Some (case_at s x.id None (Some x) skip)
+case_of s (Replace x expected skip) = Some (case_at s x.id (object_at s.objects x.id) (Some x) skip)
+case_of s (Delete id skip) = Some (case_at s id (object_at s.objects id) None skip)
 case_of s _ = None
 
 -- the first rule of admission that is broken
 abbrev pub rule_refusal : State → Ask → Option Refusal
-rule_refusal s ask = option_map Broken (option_and_then (λ c. first (rules c)) (case_of s ask))
+rule_refusal s ask = option_and_then (λ c. option_map (refusal_by c.id) (first (rules c))) (case_of s ask)
 
 -- a POST brings a name that no namespace or anchor has
 abbrev pub brings_name : State → Ask → Bool
-brings_name s (Create x skip) = (is_namespace x.id.kind || is_anchor x.id.kind) && not (is_named s.rows x.id.name)
+brings_name s (Create x skip) = (is_namespace x.id.kind || is_anchor x.id.kind) && not (is_named s.objects x.id.name)
 brings_name s _ = false
 
 -- a POST brings an object that counts
@@ -128,8 +120,8 @@ brings_object (Create x skip) = counts x
 brings_object _ = false
 
 -- the sum of sizes rises, and over the limit
-abbrev pub swells : Rows → Rows → Bool
-swells old new = nat_lt (bytes_in old) (bytes_in new) && nat_lt most_bytes (bytes_in new)
+abbrev pub exceeds_bytes : Objects → Objects → Bool
+exceeds_bytes old new = nat_lt (bytes_in old) (bytes_in new) && nat_lt most_bytes (bytes_in new)
 
 -- something is written
 abbrev pub is_some_write : List Write → Bool
@@ -139,9 +131,9 @@ is_some_write (write ∷ writes) = true
 -- a limit would be passed
 abbrev pub limit_refusals : State → Ask → List (Option Refusal)
 limit_refusals s ask =
-    so (brings_name s ask && nat_le most_names (names_in s.rows)) (Broken L1)
-    ∷ so (brings_object ask && nat_le most_objects (objects_in s.rows)) (Broken L2)
-    ∷ so (swells s.rows (written (writes_of s ask) s.rows)) (Broken L3)
+    so (brings_name s ask && nat_le most_names (names_in s.objects)) (Broken L1)
+    ∷ so (brings_object ask && nat_le most_objects (objects_in s.objects)) (Broken L2)
+    ∷ so (exceeds_bytes s.objects (after_writes (writes_of s ask) s.objects)) (Broken L3)
     ∷ so (is_some_write (writes_of s ask) && nat_le greatest_version s.last) (Broken L4)
     ∷ []
 
@@ -156,16 +148,16 @@ abbrev pub is_listed : Kind → Option (List ℕ) → Object → Bool
 is_listed kind ns x = (number_of kind == number_of x.id.kind) && option_map_or (bytes_eq x.id.ns) ns true
 
 -- the object that is found
-abbrev pub shown : Option Object → Bool → Id → Answer
-shown None fresh id = Refused (not_found id)
-shown (Some x) fresh id = One x fresh
+abbrev pub answer_found : Option Object → Bool → Id → Answer
+answer_found None fresh id = Refused (not_found id)
+answer_found (Some x) fresh id = One x fresh
 
 -- the answer of a success, by the state before it and the one after
 abbrev pub success : State → State → Ask → Answer
-success s t (Get id) = shown (row_of s.rows id) false id
-success s t (ListOf kind ns) = Many kind (filter (is_listed kind ns) s.rows) s.last
-success s t (Create x skip) = shown (row_of t.rows x.id) true x.id
-success s t (Replace x expected skip) = shown (row_of t.rows x.id) false x.id
+success s t (Get id) = answer_found (object_at s.objects id) false id
+success s t (ListOf kind ns) = Many kind (filter (is_listed kind ns) s.objects) s.last
+success s t (Create x skip) = answer_found (object_at t.objects x.id) true x.id
+success s t (Replace x expected skip) = answer_found (object_at t.objects x.id) false x.id
 success s t (Delete id skip) = Gone t.last
 
 abbrev pub answer_by : State → Ask → Option Refusal → Answer × State
@@ -177,5 +169,5 @@ abbrev pub answer_to : State → Ask → Answer × State
 answer_to s ask = answer_by s ask (refusal_of s ask)
 
 -- the ask would change an object
-abbrev pub Changes : State → Ask → Type 0
-Changes s ask = (refusal_of s ask ≡ None) × (writes_of s ask ≢ [])
+abbrev pub Mutates : State → Ask → Type 0
+Mutates s ask = (refusal_of s ask ≡ None) × (writes_of s ask ≢ [])

@@ -8,15 +8,13 @@
 --     subtree_of f a    the namespaces whose chain has a
 --     reaches_deeper    a namespace of a subtree is at a depth over a bound
 --     halt_of f n       why n is halted: the first reason that holds
---     with_node, without_node, with_parent, with_terminating      the forest after a change
+--     with_parent f n       the forest where n has another parent
 -- A graph of parents may have cycles, and parents that aren't there.
-use Rattle.std.specs.Prelude.{ℕ, zero, suc, ◌-◌, Bool, true, false, not, ◌&&◌, nat_lt, List, [], ◌∷◌, ◌++◌, length, map, filter, is_some, if◌then◌else◌, Option, Some, None, option_and_then}
+use Rattle.std.specs.Prelude.{ℕ, zero, suc, ◌-◌, Bool, false, not, ◌&&◌, nat_lt, List, [], ◌∷◌, ◌++◌, length, map, filter, is_some, if◌then◌else◌, Option, Some, None, option_and_then}
 use Rattle.std.specs.List.{list_any}
 use Rattle.std.specs.Option.{option_map_or}
 use Rattle.std.specs.Map.{lookup}
 use Rattle.std.specs.Str.{bytes_eq}
-use Rattle.std.specs.FinMap.Entries.{by_order}
-use Rattle.hx_object.specs.Texts.{bytes_cmp}
 use Rattle.hx_model.specs.First.{so, first}
 use Rattle.hx_model.specs.declared.node.Node.{Node}
 use Rattle.hx_model.specs.declared.node.Halt.{Halt}
@@ -108,26 +106,9 @@ halt_of f n = first (own_halt_of f n ∷ so (has_halted_ancestor f n) Ancestor �
 
 -- ---- changes
 
--- the forest with a node in its place, instead of one of its name
-abbrev pub with_node : List ℕ → Node → Forest → Forest
-with_node n node [] = (n, node) ∷ []
-with_node n node (e ∷ f) = by_order (bytes_cmp n e.0) ((n, node) ∷ e ∷ f) ((n, node) ∷ f) (e ∷ with_node n node f)
-
--- the forest of nodes in any order: of two with one name the first one counts
-abbrev pub forest_from : List (List ℕ × Node) → Forest
-forest_from [] = []
-forest_from (e ∷ es) = with_node e.0 e.1 (forest_from es)
-
--- without a namespace
-abbrev pub without_node : List ℕ → Forest → Forest
-without_node n f = filter (λ e. not (bytes_eq n e.0)) f
-
 -- with the node of a namespace changed, where it is there
 abbrev pub with_changed : List ℕ → (Node → Node) → Forest → Forest
 with_changed n change f = map (λ e. (e.0, if bytes_eq n e.0 then change e.1 else e.1)) f
 
 abbrev pub with_parent : List ℕ → Option (List ℕ) → Forest → Forest
 with_parent n parent f = with_changed n (λ node. record node { parent = parent }) f
-
-abbrev pub with_terminating : List ℕ → Forest → Forest
-with_terminating n f = with_changed n (λ node. record node { terminating = true }) f

@@ -1,5 +1,6 @@
 pub mod First
 pub mod Forest
+pub mod ForestChanges
 pub mod Walks
 pub mod State
 pub mod Tree
@@ -8,8 +9,15 @@ pub mod Json
 pub mod Replies
 pub mod Bodies
 pub mod Limits
+pub mod Denials
+pub mod Cases
+pub mod RulesNamespace
+pub mod RulesHierarchy
 pub mod Rules
 pub mod Answers
 pub mod Serving
 pub mod Valid
+pub mod Writes
 pub mod Machine
+pub mod Requests
+pub mod Parents

@@ -4,7 +4,6 @@
 --     IsLegal w e            the entry may stand in the world
 --     world_after w e        the world after it
 --     History, IsHistory, replay      entries one after the other, each legal where it stands, and the world that they leave
---     request_entry          the entry that a request and its answer are
 --     loses_to_fault         whether a history has a request that was lost to a fault of the store
 -- The machine's one free choice is where a loss stands.
 use Rattle.std.specs.Prelude.{◌≡◌, ℕ, Bool, true, false, ◌||◌, List, [], ◌∷◌, Option, Some, None, if◌then◌else◌}
@@ -17,7 +16,7 @@ use Rattle.hx_model.specs.declared.key.Key.{Key}
 use Rattle.hx_model.specs.declared.key.Guard.{Guard}
 use Rattle.hx_model.specs.declared.key.Write.{Write}
 use Rattle.hx_model.specs.State.{State, state_after}
-use Rattle.hx_model.specs.Answers.{answer_to, writes_of, Changes}
+use Rattle.hx_model.specs.Answers.{answer_to, writes_of, Mutates}
 
 -- what a worker took: its key with the version, the guards and the wanted write, all as they were then
 pub record Hand : Type 0 where
@@ -52,9 +51,9 @@ pub data Entry : Type 0 where
 -- A request has the answer of its state, and changes something only where the store isn't broken. Memory may be wanting anywhere, and a fault met only by what would change something.
 abbrev pub IsLegal : World → Entry → Type 0
 IsLegal w (Refused refusal) = Unit {0}
-IsLegal w (Request ask answer) = (answer ≡ (answer_to w.state ask).0) × (Changes w.state ask → w.broken ≡ false)
+IsLegal w (Request ask answer) = (answer ≡ (answer_to w.state ask).0) × (Mutates w.state ask → w.broken ≡ false)
 IsLegal w (LostRequest ask NoMemory) = Unit {0}
-IsLegal w (LostRequest ask KeeperFault) = Changes w.state ask
+IsLegal w (LostRequest ask KeeperFault) = Mutates w.state ask
 
 -- the world after a fault at a write. A store that was broken before took nothing
 abbrev pub broken_at : World → State → World
@@ -79,12 +78,6 @@ IsHistory w (e ∷ es) = IsLegal w e × IsHistory (world_after w e) es
 abbrev pub replay : World → History → World
 replay w [] = w
 replay w (e ∷ es) = replay (world_after w e) es
-
--- the entry that a request is, by its answer
-abbrev pub request_entry : Ask → Answer → Entry
-request_entry ask (Refusing NoRoom) = LostRequest ask NoMemory
-request_entry ask (Refusing StoreFailed) = LostRequest ask KeeperFault
-request_entry ask answer = Request ask answer
 
 -- what an entry answers
 abbrev pub answer_of : Entry → Answer

@@ -1,125 +1,82 @@
 -- Refusals as a Kubernetes `Status`.
---     name_of_rule, rule_message     a rule as refusals name it, and what they say of it
---     is_limit                       whether it is a limit of the store
---     code_of, reason_of     the HTTP status;  the reason in one word
---     message_of             the message
+--     reason_row             the HTTP status and the word of a reason
+--     rule_row               a rule as refusals name it, its reason and its message
+--     status_of              the reason and the message of a refusal
+--     code_of, reason_of, message_of      its HTTP status, its reason in one word, and its message
 --     details_of             the rule that was broken
 --     status_data, status_text      the whole body, as a JSON value and as its compact text
-use Rattle.std.specs.Prelude.{ℕ, Bool, true, false, if◌then◌else◌, List, ◌++◌, codes}
+use Rattle.std.specs.Prelude.{ℕ, List, ◌++◌, codes}
 use Rattle.std.specs.Fmt.{decimal}
+use Prim.Native.String.{String}
 use Rattle.serde_json.specs.Data.{Data, string, object, number, unsigned, Members, no_members, member}
 use Rattle.serde_json.specs.Written.{compact_text}
 use Rattle.hx_object.specs.Json.{unless_empty}
 use Rattle.hx_object.specs.Kinds.{name_of, resource_of}
 use Rattle.hx_object.specs.declared.kind.Kind.{Kind}
+use Rattle.hx_model.specs.declared.reason.Reason.{Reason}
+use Rattle.hx_model.specs.declared.reason.Reason.TheVariants as of
+use Rattle.hx_model.specs.declared.reason.Reason.TheVariants.{BadRequest, Forbidden, MethodNotAllowed, AlreadyExists, Conflict, RequestEntityTooLarge, Invalid, InternalError, NotImplemented, ServiceUnavailable, InsufficientStorage}
 use Rattle.hx_model.specs.declared.rule.Rule.{Rule}
 use Rattle.hx_model.specs.declared.rule.Rule.TheVariants.{X1, H7, N3, H1, H2, H3, H4, H6, H8, L1, L2, L3, L4}
 use Rattle.hx_model.specs.declared.refusal.Refusal.{Refusal}
 use Rattle.hx_model.specs.declared.refusal.Refusal.TheVariants.{BadLine, BadPath, BadQuery, NotJson, NotWhole, NotKind, OtherPlace, Broken, NoPath, NotFound, NoMethod, Exists, OtherVersion, TooLong, Missing, WrongType, BadName, BadLabel, TooManyLabels, TooLarge, StoreFailed, NotServed, NoMemory}
 
+-- ---- reasons
+
+-- a reason's HTTP status, and its word in a `Status`
+pub record ReasonRow : Type 0 where
+  pub code : ℕ
+  pub name : List ℕ
+
+abbrev reason_as : ℕ → String → ReasonRow
+reason_as code name = record { code = code; name = codes name }
+
+abbrev pub reason_row : Reason → ReasonRow
+reason_row BadRequest = reason_as 400 "BadRequest"
+reason_row Forbidden = reason_as 403 "Forbidden"
+reason_row of.NotFound = reason_as 404 "NotFound"
+reason_row MethodNotAllowed = reason_as 405 "MethodNotAllowed"
+reason_row AlreadyExists = reason_as 409 "AlreadyExists"
+reason_row Conflict = reason_as 409 "Conflict"
+reason_row RequestEntityTooLarge = reason_as 413 "RequestEntityTooLarge"
+reason_row Invalid = reason_as 422 "Invalid"
+reason_row InternalError = reason_as 500 "InternalError"
+reason_row NotImplemented = reason_as 501 "NotImplemented"
+reason_row ServiceUnavailable = reason_as 503 "ServiceUnavailable"
+reason_row InsufficientStorage = reason_as 507 "InsufficientStorage"
+
 -- ---- rules
+
+-- a rule as refusals name it, the reason of a refusal by it, and what one says of it
+pub record RuleRow : Type 0 where
+  pub name : List ℕ
+  pub reason : Reason
+  pub message : List ℕ
+
+abbrev rule_as : String → Reason → String → RuleRow
+rule_as name reason message = record { name = codes name; reason = reason; message = codes message }
+
+-- a rule of admission forbids, and a limit of the store says that there is no room
+abbrev pub rule_row : Rule → RuleRow
+rule_row X1 = rule_as "X1" Forbidden "skipping admission is not allowed"
+rule_row H7 = rule_as "H7" Forbidden "the name must be hierarchy"
+rule_row N3 = rule_as "N3" Forbidden "the subnamespace annotation cannot be changed"
+rule_row H1 = rule_as "H1" Forbidden "the new parent does not exist"
+rule_row H2 = rule_as "H2" Forbidden "the new parent is in the subtree of the namespace"
+rule_row H3 = rule_as "H3" Forbidden "the parent of a subnamespace cannot be changed"
+rule_row H4 = rule_as "H4" Forbidden "the tree is halted"
+rule_row H6 = rule_as "H6" Forbidden "the namespace is excluded"
+rule_row H8 = rule_as "H8" Forbidden "the tree would be deeper than 64"
+rule_row L1 = rule_as "L1" InsufficientStorage "too many namespaces"
+rule_row L2 = rule_as "L2" InsufficientStorage "too many objects"
+rule_row L3 = rule_as "L3" InsufficientStorage "too many bytes"
+rule_row L4 = rule_as "L4" InsufficientStorage "no version is left"
 
 -- a rule as refusals name it
 abbrev pub name_of_rule : Rule → List ℕ
-name_of_rule X1 = codes "X1"
-name_of_rule H7 = codes "H7"
-name_of_rule N3 = codes "N3"
-name_of_rule H1 = codes "H1"
-name_of_rule H2 = codes "H2"
-name_of_rule H3 = codes "H3"
-name_of_rule H4 = codes "H4"
-name_of_rule H6 = codes "H6"
-name_of_rule H8 = codes "H8"
-name_of_rule L1 = codes "L1"
-name_of_rule L2 = codes "L2"
-name_of_rule L3 = codes "L3"
-name_of_rule L4 = codes "L4"
+name_of_rule rule = (rule_row rule).name
 
--- what a refusal says of a rule
-abbrev pub rule_message : Rule → List ℕ
-rule_message X1 = codes "skipping admission is not allowed"
-rule_message H7 = codes "the name must be hierarchy"
-rule_message N3 = codes "the subnamespace annotation cannot be changed"
-rule_message H1 = codes "the new parent does not exist"
-rule_message H2 = codes "the new parent is in the subtree of the namespace"
-rule_message H3 = codes "the parent of a subnamespace cannot be changed"
-rule_message H4 = codes "the tree is halted"
-rule_message H6 = codes "the namespace is excluded"
-rule_message H8 = codes "the tree would be deeper than 64"
-rule_message L1 = codes "too many namespaces"
-rule_message L2 = codes "too many objects"
-rule_message L3 = codes "too many bytes"
-rule_message L4 = codes "no version is left"
-
--- the limits of a store. The others are rules of admission
-abbrev pub is_limit : Rule → Bool
-is_limit L1 = true
-is_limit L2 = true
-is_limit L3 = true
-is_limit L4 = true
-is_limit _ = false
-
-abbrev pub rule_code : Rule → ℕ
-rule_code rule = if is_limit rule then 507 else 403
-
-abbrev pub rule_reason : Rule → List ℕ
-rule_reason rule = if is_limit rule then codes "InsufficientStorage" else codes "Forbidden"
-
--- ---- codes and reasons
-
--- the HTTP status
-abbrev pub code_of : Refusal → ℕ
-code_of BadLine = 400
-code_of BadPath = 400
-code_of (BadQuery name) = 400
-code_of NotJson = 400
-code_of NotWhole = 400
-code_of (NotKind kind) = 400
-code_of OtherPlace = 400
-code_of (Broken rule) = rule_code rule
-code_of NoPath = 404
-code_of (NotFound kind name) = 404
-code_of NoMethod = 405
-code_of (Exists kind name) = 409
-code_of (OtherVersion kind name version) = 409
-code_of TooLong = 413
-code_of (Missing path) = 422
-code_of (WrongType path) = 422
-code_of BadName = 422
-code_of BadLabel = 422
-code_of TooManyLabels = 422
-code_of TooLarge = 422
-code_of StoreFailed = 500
-code_of NotServed = 501
-code_of NoMemory = 503
-
--- the reason in one word
-abbrev pub reason_of : Refusal → List ℕ
-reason_of BadLine = codes "BadRequest"
-reason_of BadPath = codes "BadRequest"
-reason_of (BadQuery name) = codes "BadRequest"
-reason_of NotJson = codes "BadRequest"
-reason_of NotWhole = codes "BadRequest"
-reason_of (NotKind kind) = codes "BadRequest"
-reason_of OtherPlace = codes "BadRequest"
-reason_of (Broken rule) = rule_reason rule
-reason_of NoPath = codes "NotFound"
-reason_of (NotFound kind name) = codes "NotFound"
-reason_of NoMethod = codes "MethodNotAllowed"
-reason_of (Exists kind name) = codes "AlreadyExists"
-reason_of (OtherVersion kind name version) = codes "Conflict"
-reason_of TooLong = codes "RequestEntityTooLarge"
-reason_of (Missing path) = codes "Invalid"
-reason_of (WrongType path) = codes "Invalid"
-reason_of BadName = codes "Invalid"
-reason_of BadLabel = codes "Invalid"
-reason_of TooManyLabels = codes "Invalid"
-reason_of TooLarge = codes "Invalid"
-reason_of StoreFailed = codes "InternalError"
-reason_of NotServed = codes "NotImplemented"
-reason_of NoMemory = codes "ServiceUnavailable"
-
--- ---- messages
+-- ---- parts of messages
 
 -- a resource and a name in quotes, and what is said of it
 unfoldable pub message_about : Kind → List ℕ → List ℕ → List ℕ
@@ -133,31 +90,52 @@ version_message kind name version = resource_of kind ++ (codes " \"" ++ (name ++
 unfoldable pub said_of : List ℕ → List ℕ → List ℕ
 said_of front back = front ++ back
 
+-- ---- refusals
+
+-- why in one word, and what is said
+pub record Status : Type 0 where
+  pub reason : Reason
+  pub message : List ℕ
+
+abbrev says : Reason → List ℕ → Status
+says reason message = record { reason = reason; message = message }
+
+abbrev pub status_of : Refusal → Status
+status_of BadLine = says BadRequest (codes "line in no form of the script")
+status_of BadPath = says BadRequest (codes "bad path")
+status_of (BadQuery name) = says BadRequest (said_of (codes "bad query ") name)
+status_of NotJson = says BadRequest (codes "body is not JSON")
+status_of NotWhole = says BadRequest (codes "body has a number that is not whole")
+status_of (NotKind kind) = says BadRequest (said_of (codes "body is not ") (name_of kind))
+status_of OtherPlace = says BadRequest (codes "body names another place")
+status_of (Broken rule) = says (rule_row rule).reason (rule_row rule).message
+status_of NoPath = says of.NotFound (codes "path not served")
+status_of (NotFound kind name) = says of.NotFound (message_about kind name (codes "not found"))
+status_of NoMethod = says MethodNotAllowed (codes "method not served here")
+status_of (Exists kind name) = says AlreadyExists (message_about kind name (codes "already exists"))
+status_of (OtherVersion kind name version) = says Conflict (version_message kind name version)
+status_of TooLong = says RequestEntityTooLarge (codes "more than 131072 bytes")
+status_of (Missing path) = says Invalid (said_of path (codes " is missing"))
+status_of (WrongType path) = says Invalid (said_of path (codes " has the wrong type"))
+status_of BadName = says Invalid (codes "name is not allowed")
+status_of BadLabel = says Invalid (codes "label or annotation is not allowed")
+status_of TooManyLabels = says Invalid (codes "more than 256 labels")
+status_of TooLarge = says Invalid (codes "object is larger than 65536 bytes")
+status_of StoreFailed = says InternalError (codes "the store failed")
+status_of NotServed = says NotImplemented (codes "not served")
+status_of NoMemory = says ServiceUnavailable (codes "out of memory")
+
+-- the HTTP status
+abbrev pub code_of : Refusal → ℕ
+code_of refusal = (reason_row (status_of refusal).reason).code
+
+-- the reason in one word
+abbrev pub reason_of : Refusal → List ℕ
+reason_of refusal = (reason_row (status_of refusal).reason).name
+
 -- the message
 abbrev pub message_of : Refusal → List ℕ
-message_of BadLine = codes "line in no form of the script"
-message_of BadPath = codes "bad path"
-message_of (BadQuery name) = said_of (codes "bad query ") name
-message_of NotJson = codes "body is not JSON"
-message_of NotWhole = codes "body has a number that is not whole"
-message_of (NotKind kind) = said_of (codes "body is not ") (name_of kind)
-message_of OtherPlace = codes "body names another place"
-message_of (Broken rule) = rule_message rule
-message_of NoPath = codes "path not served"
-message_of (NotFound kind name) = message_about kind name (codes "not found")
-message_of NoMethod = codes "method not served here"
-message_of (Exists kind name) = message_about kind name (codes "already exists")
-message_of (OtherVersion kind name version) = version_message kind name version
-message_of TooLong = codes "more than 131072 bytes"
-message_of (Missing path) = said_of path (codes " is missing")
-message_of (WrongType path) = said_of path (codes " has the wrong type")
-message_of BadName = codes "name is not allowed"
-message_of BadLabel = codes "label or annotation is not allowed"
-message_of TooManyLabels = codes "more than 256 labels"
-message_of TooLarge = codes "object is larger than 65536 bytes"
-message_of StoreFailed = codes "the store failed"
-message_of NotServed = codes "not served"
-message_of NoMemory = codes "out of memory"
+message_of refusal = (status_of refusal).message
 
 -- ---- bodies
 

@@ -1,14 +1,14 @@
 -- What is stored: objects in ascending order of their identities, and the last version that was given out.
---     Rows, ascends      objects in ascending order of identities
+--     Objects, ascends   objects in ascending order of identities
 --     same_id            whether two identities are one
---     row_of rows id     the object of an identity
---     put, cut           the rows with an object in its place;  without one
---     rows_from          the rows of objects in any order: of two with one identity the first one counts
---     State              the rows and the last version, with what is fixed for a run: which names are excluded from trees, and whether admission may be skipped
+--     object_at objects id  the object of an identity
+--     put, cut           the objects with one in its place;  without one
+--     objects_from       the objects in their order, of those in any order: of two with one identity the first one counts
+--     State              the objects and the last version, with what is fixed for a run: which names are excluded from trees, and whether admission may be skipped
 --     opening_state      the state without objects, of a store's last version
 --     namespace_id       the identity of a namespace
---     home_in rows id    the namespace that an identity lies in, where its kind has one
---     stamped            an object with another version
+--     home_in objects id the namespace that an identity lies in, where its kind has one
+--     with_version            an object with another version
 --     state_after        the state after a write: one new version for all that it changes
 use Rattle.std.specs.Prelude.{ℕ, ◌+◌, Bool, true, not, ◌&&◌, ◌==◌, List, [], ◌∷◌, filter, find, Option, Some, None, option_and_then, if◌then◌else◌}
 use Rattle.std.specs.Ordering.{is_lt}
@@ -19,53 +19,53 @@ use Rattle.hx_object.specs.Order.{id_cmp}
 use Rattle.hx_object.specs.declared.kind.Kind.TheVariants.{Namespace}
 use Rattle.hx_object.specs.declared.object.Id.{Id}
 use Rattle.hx_object.specs.declared.object.Object.{Object}
+use Rattle.hx_model.specs.declared.config.RunConfig.{RunConfig}
 use Rattle.hx_model.specs.declared.key.Write.{Write}
 use Rattle.hx_model.specs.declared.key.Write.TheVariants.{Put, Cut}
 
-abbrev pub Rows : Type 0
-Rows = List Object
+abbrev pub Objects : Type 0
+Objects = List Object
 
 -- two identities are one
 abbrev pub same_id : Id → Id → Bool
 same_id a b = (number_of a.kind == number_of b.kind) && bytes_eq a.ns b.ns && bytes_eq a.name b.name
 
 -- the object of an identity, where it is there
-abbrev pub row_of : Rows → Id → Option Object
-row_of rows id = find (λ x. same_id id x.id) rows
+abbrev pub object_at : Objects → Id → Option Object
+object_at objects id = find (λ x. same_id id x.id) objects
 
 -- the object in its place, instead of one of its identity
-abbrev pub put : Object → Rows → Rows
+abbrev pub put : Object → Objects → Objects
 put x [] = x ∷ []
-put x (y ∷ rows) = by_order (id_cmp x.id y.id) (x ∷ y ∷ rows) (x ∷ rows) (y ∷ put x rows)
+put x (y ∷ objects) = by_order (id_cmp x.id y.id) (x ∷ y ∷ objects) (x ∷ objects) (y ∷ put x objects)
 
--- the rows without the object of an identity
-abbrev pub cut : Id → Rows → Rows
-cut id rows = filter (λ x. not (same_id id x.id)) rows
+-- the objects without the one of an identity
+abbrev pub cut : Id → Objects → Objects
+cut id objects = filter (λ x. not (same_id id x.id)) objects
 
--- an identity is less than those of all rows
-abbrev pub is_below_all : Id → Rows → Bool
+-- an identity is less than those of all objects
+abbrev pub is_below_all : Id → Objects → Bool
 is_below_all id [] = true
-is_below_all id (y ∷ rows) = is_lt (id_cmp id y.id) && is_below_all id rows
+is_below_all id (y ∷ objects) = is_lt (id_cmp id y.id) && is_below_all id objects
 
 -- each identity is less than those after it
-abbrev pub ascends : Rows → Bool
+abbrev pub ascends : Objects → Bool
 ascends [] = true
-ascends (x ∷ rows) = is_below_all x.id rows && ascends rows
+ascends (x ∷ objects) = is_below_all x.id objects && ascends objects
 
--- the rows of objects in any order
-abbrev pub rows_from : List Object → Rows
-rows_from [] = []
-rows_from (x ∷ xs) = put x (rows_from xs)
+-- the objects in their order, of those in any order
+abbrev pub objects_from : List Object → Objects
+objects_from [] = []
+objects_from (x ∷ xs) = put x (objects_from xs)
 
 pub record State : Type 0 where
-  pub rows : Rows
+  pub objects : Objects
   pub last : ℕ
-  pub excluded : List (List ℕ)
-  pub may_skip : Bool
+  pub config : RunConfig
 
 -- no objects
-abbrev pub opening_state : List (List ℕ) → Bool → ℕ → State
-opening_state excluded may_skip last = record { rows = []; last = last; excluded = excluded; may_skip = may_skip }
+abbrev pub opening_state : RunConfig → ℕ → State
+opening_state config last = record { objects = []; last = last; config = config }
 
 -- the identity of a namespace
 abbrev pub namespace_id : List ℕ → Id
@@ -76,20 +76,20 @@ abbrev pub home_id : Id → Option Id
 home_id id = if is_in_cluster id.kind then None else Some (namespace_id id.ns)
 
 -- that namespace, where it is there
-abbrev pub home_in : Rows → Id → Option Object
-home_in rows id = option_and_then (row_of rows) (home_id id)
+abbrev pub home_in : Objects → Id → Option Object
+home_in objects id = option_and_then (object_at objects) (home_id id)
 
 -- the object with another version
-abbrev pub stamped : Object → ℕ → Object
-stamped x version = record x { version = version }
+abbrev pub with_version : Object → ℕ → Object
+with_version x version = record x { version = version }
 
--- the rows after changes, the first one first
-abbrev pub written : List Write → Rows → Rows
-written [] rows = rows
-written (Put x ∷ writes) rows = written writes (put x rows)
-written (Cut id ∷ writes) rows = written writes (cut id rows)
+-- the objects after changes, the first one first
+abbrev pub after_writes : List Write → Objects → Objects
+after_writes [] objects = objects
+after_writes (Put x ∷ writes) objects = after_writes writes (put x objects)
+after_writes (Cut id ∷ writes) objects = after_writes writes (cut id objects)
 
 -- the state after a write. One that changes nothing takes no version
 abbrev pub state_after : State → List Write → State
 state_after s [] = s
-state_after s (write ∷ writes) = record s { rows = written (write ∷ writes) s.rows; last = s.last + 1 }
+state_after s (write ∷ writes) = record s { objects = after_writes (write ∷ writes) s.objects; last = s.last + 1 }

@@ -11,7 +11,7 @@ use Rattle.hx_object.specs.Texts.{bytes_cmp}
 use Rattle.hx_object.specs.declared.object.Id.{Id}
 use Rattle.hx_object.specs.declared.object.Object.{Object}
 use Rattle.hx_object.specs.declared.object.Payload.TheVariants.{Namespace as NamespacePayload}
-use Rattle.hx_model.specs.State.{State, Rows, namespace_id}
+use Rattle.hx_model.specs.State.{State, Objects, namespace_id}
 
 -- a number below a hundred in two digits
 abbrev pub two_digits : ℕ → List ℕ
@@ -30,9 +30,9 @@ abbrev pub stored_entry : Object → List ℕ × (ℕ × List ℕ)
 stored_entry x = (key_text x.id, (x.version, object_text x))
 
 -- the stored rows of objects
-abbrev pub rows_of_objects : Rows → finite.FinMap bytes_cmp (ℕ × List ℕ)
-rows_of_objects rows = finite.from_entries (map stored_entry rows)
+abbrev pub rows_of_objects : Objects → finite.FinMap bytes_cmp (ℕ × List ℕ)
+rows_of_objects objects = finite.from_entries (map stored_entry objects)
 
 -- the stored rows of a state
 abbrev pub rows_of : State → finite.FinMap bytes_cmp (ℕ × List ℕ)
-rows_of s = rows_of_objects s.rows
+rows_of s = rows_of_objects s.objects

@@ -15,6 +15,6 @@ pub record IsStored (last : ℕ) (x : Object) : Type 0 where
   pub known : x.version ≤ last
 
 pub record IsValid (s : State) : Type 0 where
-  pub in_order : ascends s.rows ≡ true
-  pub stored : AllByRecursion (IsStored s.last) s.rows
+  pub in_order : ascends s.objects ≡ true
+  pub stored : AllByRecursion (IsStored s.last) s.objects
   pub fits : s.last ≤ greatest_version

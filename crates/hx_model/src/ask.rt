@@ -1,6 +1,6 @@
 // Requests and their answers.
 use crate::Refusal;
-use hx_object::{Id, Kind, List, Object, Text};
+use hx_object::{Id, Kind, List, Object, Shared, Text};
 
 /// What is asked of a cluster. `skip` asks to pass over the rules of admission that may be passed over.
 #[derive(Drop)]
@@ -37,13 +37,13 @@ pub enum Ask {
 pub enum Answer {
     /// The object; `fresh` where the request made it.
     One {
-        object: Object,
+        object: Shared,
         fresh: bool,
     },
     /// The objects of a list in order of namespace and name, and the store's version.
     Many {
         kind: Kind,
-        objects: List<Object>,
+        objects: List<Shared>,
         version: u64,
     },
     /// The object was removed by the write of this version.

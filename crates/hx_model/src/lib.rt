@@ -4,14 +4,22 @@
 #![tactic(auto)]
 
 mod ask;
+mod config;
+mod denial;
 mod key;
+mod law;
 mod node;
 pub mod plain;
+mod reason;
 mod refusal;
 mod rule;
 
 pub use ask::{Answer, Ask};
+pub use config::RunConfig;
+pub use denial::Denial;
 pub use key::{Guard, Key, Write};
+pub use law::law_of_parents;
 pub use node::{Halt, Node};
+pub use reason::Reason;
 pub use refusal::Refusal;
 pub use rule::Rule;

@@ -1,11 +1,12 @@
 // Why a request is refused.
-ghost use Rattle.std.specs.Prelude.{◌≡◌};
-ghost use Rattle.hx_model.specs.Replies.{code_of, reason_of};
+ghost use Rattle.std.specs.Prelude.{◌≡◌, IfOk};
+ghost use Rattle.hx_model.specs.Replies.{status_of, code_of, message_of, message_about, version_message, said_of};
 
-use crate::Rule;
+use crate::{Reason, Rule};
 use hx_object::{Kind, NoMemory, Text};
+use std::alloc::Global;
 
-/// Why a request is refused. Code and reason are those of a Kubernetes `Status`.
+/// Why a request is refused. Reason and message are those of a Kubernetes `Status`.
 #[derive(Drop)]
 pub enum Refusal {
     /// 400: a line of a script is in none of its forms.
@@ -92,34 +93,12 @@ impl Refusal {
     pub fn code(&self) -> u16
         ensures { result ≡ code_of self.now }
     {
-        match self {
-            Refusal::BadLine
-            | Refusal::BadPath
-            | Refusal::BadQuery { .. }
-            | Refusal::NotJson
-            | Refusal::NotWhole
-            | Refusal::NotKind { .. }
-            | Refusal::OtherPlace => 400,
-            Refusal::NoPath | Refusal::NotFound { .. } => 404,
-            Refusal::NoMethod => 405,
-            Refusal::Exists { .. } | Refusal::OtherVersion { .. } => 409,
-            Refusal::TooLong => 413,
-            Refusal::Missing { .. }
-            | Refusal::WrongType { .. }
-            | Refusal::BadName
-            | Refusal::BadLabel
-            | Refusal::TooManyLabels
-            | Refusal::TooLarge => 422,
-            Refusal::StoreFailed => 500,
-            Refusal::NotServed => 501,
-            Refusal::NoMemory => 503,
-            Refusal::Broken { rule } => rule.code(),
-        }
+        self.reason().code()
     }
 
     /// The reason in one word.
-    pub fn reason(&self) -> &'static str
-        ensures { result.now ≡ reason_of self.now }
+    pub fn reason(&self) -> Reason
+        ensures { result ≡ (status_of self.now).reason }
     {
         match self {
             Refusal::BadLine
@@ -128,22 +107,91 @@ impl Refusal {
             | Refusal::NotJson
             | Refusal::NotWhole
             | Refusal::NotKind { .. }
-            | Refusal::OtherPlace => "BadRequest",
-            Refusal::NoPath | Refusal::NotFound { .. } => "NotFound",
-            Refusal::NoMethod => "MethodNotAllowed",
-            Refusal::Exists { .. } => "AlreadyExists",
-            Refusal::OtherVersion { .. } => "Conflict",
-            Refusal::TooLong => "RequestEntityTooLarge",
+            | Refusal::OtherPlace => Reason::BadRequest,
+            Refusal::NoPath | Refusal::NotFound { .. } => Reason::NotFound,
+            Refusal::NoMethod => Reason::MethodNotAllowed,
+            Refusal::Exists { .. } => Reason::AlreadyExists,
+            Refusal::OtherVersion { .. } => Reason::Conflict,
+            Refusal::TooLong => Reason::RequestEntityTooLarge,
             Refusal::Missing { .. }
             | Refusal::WrongType { .. }
             | Refusal::BadName
             | Refusal::BadLabel
             | Refusal::TooManyLabels
-            | Refusal::TooLarge => "Invalid",
-            Refusal::StoreFailed => "InternalError",
-            Refusal::NotServed => "NotImplemented",
-            Refusal::NoMemory => "ServiceUnavailable",
+            | Refusal::TooLarge => Reason::Invalid,
+            Refusal::StoreFailed => Reason::InternalError,
+            Refusal::NotServed => Reason::NotImplemented,
+            Refusal::NoMemory => Reason::ServiceUnavailable,
             Refusal::Broken { rule } => rule.reason(),
         }
     }
+
+    /// What is said to whom asked.
+    pub fn message(&self, alloc: Global) -> Result<Text, NoMemory>
+        ensures { IfOk result (λ text. text ≡ message_of self.now) }
+    {
+        match self {
+            Refusal::BadLine => Text::of(alloc, "line in no form of the script"),
+            Refusal::BadPath => Text::of(alloc, "bad path"),
+            Refusal::BadQuery { name } => said_of(alloc, "bad query ", name.as_str()),
+            Refusal::NotJson => Text::of(alloc, "body is not JSON"),
+            Refusal::NotWhole => Text::of(alloc, "body has a number that is not whole"),
+            Refusal::NotKind { kind } => said_of(alloc, "body is not ", kind.name()),
+            Refusal::OtherPlace => Text::of(alloc, "body names another place"),
+            Refusal::Broken { rule } => Text::of(alloc, rule.message()),
+            Refusal::NoPath => Text::of(alloc, "path not served"),
+            Refusal::NotFound { kind, name } => message_about(
+                alloc,
+                *kind,
+                name.as_str(),
+                "not found",
+            ),
+            Refusal::NoMethod => Text::of(alloc, "method not served here"),
+            Refusal::Exists { kind, name } => message_about(
+                alloc,
+                *kind,
+                name.as_str(),
+                "already exists",
+            ),
+            Refusal::OtherVersion {
+                kind,
+                name,
+                version,
+            } => version_message(alloc, *kind, name.as_str(), *version),
+            Refusal::TooLong => Text::of(alloc, "more than 131072 bytes"),
+            Refusal::Missing { member } => said_of(alloc, member.as_str(), " is missing"),
+            Refusal::WrongType { member } => said_of(alloc, member.as_str(), " has the wrong type"),
+            Refusal::BadName => Text::of(alloc, "name is not allowed"),
+            Refusal::BadLabel => Text::of(alloc, "label or annotation is not allowed"),
+            Refusal::TooManyLabels => Text::of(alloc, "more than 256 labels"),
+            Refusal::TooLarge => Text::of(alloc, "object is larger than 65536 bytes"),
+            Refusal::StoreFailed => Text::of(alloc, "the store failed"),
+            Refusal::NotServed => Text::of(alloc, "not served"),
+            Refusal::NoMemory => Text::of(alloc, "out of memory"),
+        }
+    }
+}
+
+#[tactic(auto, unfolding(crate::specs::Replies::message_about))]
+fn message_about(alloc: Global, kind: Kind, name: &str, said: &str) -> Result<Text, NoMemory>
+    ensures { IfOk result (λ text. text ≡ message_about kind name.now said.now) }
+{
+    let resource = kind.resource();
+    Ok(Text::of_string(format!(in alloc; "{resource} \"{name}\" {said}")?))
+}
+
+#[tactic(auto, unfolding(crate::specs::Replies::version_message))]
+fn version_message(alloc: Global, kind: Kind, name: &str, version: u64) -> Result<Text, NoMemory>
+    ensures { IfOk result (λ text. text ≡ version_message kind name.now version) }
+{
+    let resource = kind.resource();
+    Ok(Text::of_string(format!(in alloc; "{resource} \"{name}\" has version {version}")?))
+}
+
+/// Two texts, one after the other.
+#[tactic(auto, unfolding(crate::specs::Replies::said_of))]
+fn said_of(alloc: Global, front: &str, back: &str) -> Result<Text, NoMemory>
+    ensures { IfOk result (λ text. text ≡ said_of front.now back.now) }
+{
+    Ok(Text::of_string(format!(in alloc; "{front}{back}")?))
 }

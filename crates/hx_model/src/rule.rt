@@ -1,6 +1,8 @@
 // The rules that a request may break.
 ghost use Rattle.std.specs.Prelude.{◌≡◌};
-ghost use Rattle.hx_model.specs.Replies.{name_of_rule, rule_message, rule_code, rule_reason};
+ghost use Rattle.hx_model.specs.Replies.{rule_row};
+
+use crate::Reason;
 
 /// The rules of admission and the limits of a store, in the order in which they are tried.
 #[derive(Clone, Copy, Debug, PartialEq, Eq)]
@@ -33,66 +35,81 @@ pub enum Rule {
     L4,
 }
 
+/// What the table of rules says of one.
+#[derive(Drop)]
+struct Row {
+    name: &'static str,
+    reason: Reason,
+    message: &'static str,
+}
+
 impl Rule {
     /// The rule as a refusal's `details` name it.
     pub fn name(self) -> &'static str
-        ensures { result.now ≡ name_of_rule self }
+        ensures { result.now ≡ (rule_row self).name }
     {
-        match self {
-            Rule::X1 => "X1",
-            Rule::H7 => "H7",
-            Rule::N3 => "N3",
-            Rule::H1 => "H1",
-            Rule::H2 => "H2",
-            Rule::H3 => "H3",
-            Rule::H4 => "H4",
-            Rule::H6 => "H6",
-            Rule::H8 => "H8",
-            Rule::L1 => "L1",
-            Rule::L2 => "L2",
-            Rule::L3 => "L3",
-            Rule::L4 => "L4",
-        }
+        self.row().name
+    }
+
+    /// The reason of a refusal: a rule of admission forbids, and a limit of the store says that there is no room.
+    pub fn reason(self) -> Reason
+        ensures { result ≡ (rule_row self).reason }
+    {
+        self.row().reason
     }
 
     /// What a refusal says of the rule.
     pub fn message(self) -> &'static str
-        ensures { result.now ≡ rule_message self }
+        ensures { result.now ≡ (rule_row self).message }
     {
-        match self {
-            Rule::X1 => "skipping admission is not allowed",
-            Rule::H7 => "the name must be hierarchy",
-            Rule::N3 => "the subnamespace annotation cannot be changed",
-            Rule::H1 => "the new parent does not exist",
-            Rule::H2 => "the new parent is in the subtree of the namespace",
-            Rule::H3 => "the parent of a subnamespace cannot be changed",
-            Rule::H4 => "the tree is halted",
-            Rule::H6 => "the namespace is excluded",
-            Rule::H8 => "the tree would be deeper than 64",
-            Rule::L1 => "too many namespaces",
-            Rule::L2 => "too many objects",
-            Rule::L3 => "too many bytes",
-            Rule::L4 => "no version is left",
-        }
+        self.row().message
     }
 
-    /// The HTTP status of a refusal: 403 for a rule of admission, 507 for a limit of the store.
-    pub fn code(self) -> u16
-        ensures { result ≡ rule_code self }
+    fn row(self) -> Row
+        ensures name { result.name.now ≡ (rule_row self).name }
+        ensures reason { result.reason ≡ (rule_row self).reason }
+        ensures message { result.message.now ≡ (rule_row self).message }
     {
         match self {
-            Rule::L1 | Rule::L2 | Rule::L3 | Rule::L4 => 507,
-            _ => 403,
+            Rule::X1 => forbids("X1", "skipping admission is not allowed"),
+            Rule::H7 => forbids("H7", "the name must be hierarchy"),
+            Rule::N3 => forbids("N3", "the subnamespace annotation cannot be changed"),
+            Rule::H1 => forbids("H1", "the new parent does not exist"),
+            Rule::H2 => forbids("H2", "the new parent is in the subtree of the namespace"),
+            Rule::H3 => forbids("H3", "the parent of a subnamespace cannot be changed"),
+            Rule::H4 => forbids("H4", "the tree is halted"),
+            Rule::H6 => forbids("H6", "the namespace is excluded"),
+            Rule::H8 => forbids("H8", "the tree would be deeper than 64"),
+            Rule::L1 => limits("L1", "too many namespaces"),
+            Rule::L2 => limits("L2", "too many objects"),
+            Rule::L3 => limits("L3", "too many bytes"),
+            Rule::L4 => limits("L4", "no version is left"),
         }
     }
+}
 
-    /// The reason of a refusal in one word.
-    pub fn reason(self) -> &'static str
-        ensures { result.now ≡ rule_reason self }
-    {
-        match self {
-            Rule::L1 | Rule::L2 | Rule::L3 | Rule::L4 => "InsufficientStorage",
-            _ => "Forbidden",
-        }
+/// The row of a rule of admission.
+fn forbids(name: &'static str, message: &'static str) -> Row
+    ensures name { result.name.now ≡ name.now }
+    ensures reason { result.reason ≡ Reason.Forbidden }
+    ensures message { result.message.now ≡ message.now }
+{
+    Row {
+        name,
+        reason: Reason::Forbidden,
+        message,
+    }
+}
+
+/// The row of a limit of the store.
+fn limits(name: &'static str, message: &'static str) -> Row
+    ensures name { result.name.now ≡ name.now }
+    ensures reason { result.reason ≡ Reason.InsufficientStorage }
+    ensures message { result.message.now ≡ message.now }
+{
+    Row {
+        name,
+        reason: Reason::InsufficientStorage,
+        message,
     }
 }

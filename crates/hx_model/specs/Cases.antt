@@ -1,0 +1,40 @@
+-- What the rules of admission look at: a write or a removal, and where it is made.
+--     Case         the objects before and after, the namespace and the tree
+--     breaks       the denial by a rule, where a test finds that it is broken
+use Rattle.std.specs.Prelude.{ℕ, Bool, false, List, Option, is_some}
+use Rattle.std.specs.Option.{option_map_or, option_eq}
+use Rattle.std.specs.Str.{bytes_eq}
+use Rattle.hx_object.specs.declared.object.Id.{Id}
+use Rattle.hx_object.specs.declared.object.Object.{Object}
+use Rattle.hx_model.specs.First.{so}
+use Rattle.hx_model.specs.Forest.{Forest}
+use Rattle.hx_model.specs.declared.config.RunConfig.{RunConfig}
+use Rattle.hx_model.specs.declared.denial.Denial.{Denial}
+use Rattle.hx_model.specs.declared.denial.Denial.TheVariants.{Broken}
+use Rattle.hx_model.specs.declared.rule.Rule.{Rule}
+
+-- `old` is the object that is there, `new` the one that is given, and `home` the namespace that the identity lies in. `tree` is the tree before the write
+pub record Case : Type 0 where
+  pub id : Id
+  pub old : Option Object
+  pub new : Option Object
+  pub home : Option Object
+  pub tree : Forest
+  pub config : RunConfig
+  pub skip : Bool
+
+-- a POST or a PUT
+abbrev pub is_write : Case → Bool
+is_write c = is_some c.new
+
+-- the denial by a rule, where a test finds that it is broken
+abbrev pub breaks : Rule → Bool → Option Denial
+breaks rule test = so test (Broken rule)
+
+-- a test holds of what is there
+abbrev pub any_of : {A : Type 0} → (A → Bool) → Option A → Bool
+any_of test found = option_map_or test found false
+
+-- both are there and alike, or neither is there
+abbrev pub same_name : Option (List ℕ) → Option (List ℕ) → Bool
+same_name a b = option_eq bytes_eq a b
