@@ -12,7 +12,8 @@ use Rattle.hx_object.specs.Canonical.{IsBefore, IsCanonical, AreMembers}
 use Rattle.hx_object.specs.Faults.{object_fault, IsPlain, IsPayloadOf, IsLegal, need_of}
 use Rattle.hx_object.specs.Kinds.{is_in_cluster}
 use Rattle.hx_object.specs.declared.kind.Kind.{Kind}
-use Rattle.hx_json.specs.Reading.{Place, is_read, kept_members, object_of, payload_of, unless_empty_text, without}
+use Rattle.hx_json.specs.Reading.{Target, kept_members, object_of, payload_of, unless_empty_text, without}
+use Rattle.hx_json.specs.ReadObject.{is_read}
 
 -- ---- removing keeps the order and the depth
 
@@ -139,14 +140,14 @@ payload_given Kind.SubnamespaceAnchor d is h shallow = refl
 payload_given Kind.HierarchicalResourceQuota d is h shallow = absurd (true≢false (sym is))
 payload_given Kind.Pod d is h shallow = absurd (true≢false (sym is))
 payload_given Kind.PersistentVolumeClaim d is h shallow = absurd (true≢false (sym is))
-payload_given Kind.Role d is h shallow = (omega arith, plain_payload Kind.Role d h shallow)
-payload_given Kind.RoleBinding d is h shallow = (omega arith, plain_payload Kind.RoleBinding d h shallow)
-payload_given Kind.ConfigMap d is h shallow = (omega arith, plain_payload Kind.ConfigMap d h shallow)
-payload_given Kind.Secret d is h shallow = (omega arith, plain_payload Kind.Secret d h shallow)
-payload_given Kind.NetworkPolicy d is h shallow = (omega arith, plain_payload Kind.NetworkPolicy d h shallow)
-payload_given Kind.LimitRange d is h shallow = (omega arith, plain_payload Kind.LimitRange d h shallow)
-payload_given Kind.Service d is h shallow = (omega arith, plain_payload Kind.Service d h shallow)
+payload_given Kind.Role d is h shallow = (refl, plain_payload Kind.Role d h shallow)
+payload_given Kind.RoleBinding d is h shallow = (refl, plain_payload Kind.RoleBinding d h shallow)
+payload_given Kind.ConfigMap d is h shallow = (refl, plain_payload Kind.ConfigMap d h shallow)
+payload_given Kind.Secret d is h shallow = (refl, plain_payload Kind.Secret d h shallow)
+payload_given Kind.NetworkPolicy d is h shallow = (refl, plain_payload Kind.NetworkPolicy d h shallow)
+payload_given Kind.LimitRange d is h shallow = (refl, plain_payload Kind.LimitRange d h shallow)
+payload_given Kind.Service d is h shallow = (refl, plain_payload Kind.Service d h shallow)
 
 -- an object without fault that a canonical body says is legal
-pub legal : (p : Place) (d : Data) → is_read p.kind ≡ true → (is_in_cluster p.kind ≡ true → p.ns ≡ []) → IsCanonical d → depth d ≤ max_depth → object_fault (object_of p d) ≡ None → IsLegal (object_of p d)
+pub legal : (p : Target) (d : Data) → is_read p.kind ≡ true → (is_in_cluster p.kind ≡ true → p.ns ≡ []) → IsCanonical d → depth d ≤ max_depth → object_fault (object_of p d) ≡ None → IsLegal (object_of p d)
 legal p d is home h shallow sound = record { sound = sound; home = home; payload = payload_given p.kind d is h shallow }

@@ -7,7 +7,6 @@ mod ReadExamples
 pub mod Putting
 pub mod NoFloat
 pub mod Ordered
-mod LegalExample
 mod WrittenExamples
 pub mod InOrder
 pub mod Payloads

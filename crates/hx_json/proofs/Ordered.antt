@@ -6,7 +6,7 @@ use Rattle.hx_object.specs.declared.kind.Kind.{Kind}
 use Rattle.hx_object.specs.declared.object.Object.{Object}
 use Rattle.hx_object.specs.declared.object.Payload.{Payload}
 use Rattle.hx_object.specs.declared.object.Payload.TheVariants.{Namespace, Config, Hierarchy, Anchor, Quota, Plain}
-use Rattle.hx_json.specs.Writing.{HasOrderedLimits}
+use Rattle.hx_json.specs.Inside.{HasOrderedLimits}
 
 ordered : (kind : Kind) (payload : Payload) → IsPayloadOf kind payload → HasOrderedLimits payload
 ordered kind (Namespace terminating) p = tt

@@ -6,6 +6,7 @@ use Rattle.serde_json.specs.Read.{read}
 use Rattle.hx_object.specs.Faults.{IsPayloadOf}
 use Rattle.hx_object.specs.Json.{unless_empty, texts_items, phase_of, mode_text, entry_data, entries_items, reason_text, conditions_items, anchor_text, hierarchy_spec, hierarchy_status, members_in, own_members}
 use Rattle.hx_object.specs.Kinds.{all_kinds, name_of, number_of}
+use Rattle.hx_object.proofs.KindTests.{plain_number}
 use Rattle.hx_object.specs.declared.kind.Kind.{Kind}
 use Rattle.hx_object.specs.declared.kind.Kind.TheVariants.{Namespace as NamespaceKind, HncConfiguration, HierarchyConfiguration, SubnamespaceAnchor, HierarchicalResourceQuota, Role, RoleBinding, ConfigMap, Secret, NetworkPolicy, LimitRange, Pod, Service, PersistentVolumeClaim}
 use Rattle.hx_object.specs.declared.object.Mode.{Mode}
@@ -210,16 +211,16 @@ plain_told n kind ms h = rw (differs n 1 (omega arith), differs n 2 (omega arith
 
 pub payload_told : (kind : Kind) (payload : Payload) → IsPayloadOf kind payload → (number_of kind ≡ 5 → ⊥) → told_payload (number_of kind) kind (own_members payload) ≡ payload
 unfolding told_payload status_text
-payload_told kind (Namespace terminating) h other = ap (λ n. told_payload n kind (own_members (Namespace terminating))) h ∙ ap Namespace (phase_told terminating)
-payload_told kind (Config entries) h other = ap (λ n. told_payload n kind (own_members (Config entries))) h ∙ ap Config (entries_told entries)
+payload_told kind (Namespace terminating) h other = ap (λ n. told_payload n kind (own_members (Namespace terminating))) (ap number_of h) ∙ ap Namespace (phase_told terminating)
+payload_told kind (Config entries) h other = ap (λ n. told_payload n kind (own_members (Config entries))) (ap number_of h) ∙ ap Config (entries_told entries)
 payload_told kind (Hierarchy parent cascade children conditions) h other =
-    ap (λ n. told_payload n kind (own_members (Hierarchy parent cascade children conditions))) h.0
+    ap (λ n. told_payload n kind (own_members (Hierarchy parent cascade children conditions))) (ap number_of h.0)
     ∙ ap (told_hierarchy (hierarchy_spec parent cascade)) (status_there (hierarchy_spec parent cascade) (hierarchy_status children conditions))
     ∙ hierarchy_told parent cascade children conditions
-payload_told kind (Anchor None) h other = ap (λ n. told_payload n kind no_members) h
-payload_told kind (Anchor (Some status)) h other = ap (λ n. told_payload n kind (own_members (Anchor (Some status)))) h ∙ ap (λ s. Anchor (Some s)) (anchor_told status)
-payload_told kind (Quota hard status) h other = absurd (other h.0)
+payload_told kind (Anchor None) h other = ap (λ n. told_payload n kind no_members) (ap number_of h)
+payload_told kind (Anchor (Some status)) h other = ap (λ n. told_payload n kind (own_members (Anchor (Some status)))) (ap number_of h) ∙ ap (λ s. Anchor (Some s)) (anchor_told status)
+payload_told kind (Quota hard status) h other = absurd (other (ap number_of h.0))
 payload_told kind (Plain members need) h other =
-    plain_told (number_of kind) kind (members_in (read members)) h.0
+    plain_told (number_of kind) kind (members_in (read members)) (plain_number kind h.0)
     ∙ ap (plain_of kind) (plain_whole kind members need h.1)
     ∙ (λ i. Plain (sym h.1.text i) (sym h.1.says i))

@@ -7,11 +7,11 @@ use Rattle.std.proofs.lemmas.Cmp.{nat_list_cmp_total}
 use Rattle.serde_json.specs.Data.{Data, string, array, object, Items, no_items, item, Members, no_members, member, put}
 use Rattle.serde_json.specs.View.{view, items_of, items_view, members_view}
 use Rattle.serde_json.specs.declared.value.Value.{Value}
-use Rattle.hx_json.specs.Writing.{put_unless_empty, put_unless_none}
+use Rattle.hx_json.specs.Inside.{put_unless_blank, put_unless_empty, put_unless_none}
 use Rattle.hx_object.specs.Pairs.{has_ascending_keys}
 use Rattle.std.proofs.lemmas.List.{take-map, length-map, get_or-map}
 use Rattle.hx_object.specs.declared.object.Limit.{Limit}
-use Rattle.hx_object.specs.Json.{limit_pair, limits_members, unless_empty, unless_none, pairs_members, texts_items, entry_data, entries_items, condition_data, conditions_items, object_data}
+use Rattle.hx_object.specs.Json.{limit_pair, limits_members, unless_blank, unless_empty, unless_none, pairs_members, texts_items, entry_data, entries_items, condition_data, conditions_items, object_data}
 use Rattle.hx_model.specs.Json.{objects_items}
 use Rattle.hx_object.specs.declared.object.Object.{Object}
 use Rattle.hx_object.specs.declared.object.ModeEntry.{ModeEntry}
@@ -86,6 +86,12 @@ put_some name (e ∷ es) ms h = refl
 pub put_items : (name : List ℕ) (vs : List Value) (ms : Members) → (length vs == 0) ≡ false → put_unless_none name (items_view vs) ms ≡ put name (array (items_view vs)) ms
 put_items name [] ms h = absurd (true≢false h)
 put_items name (v ∷ vs) ms h = refl
+
+pub put_identity : (name ns version : List ℕ)
+    → put (codes "resourceVersion") (string version) (put_unless_blank (codes "namespace") ns (put (codes "name") (string name) no_members))
+    ≡ member (codes "name") (string name) (unless_blank (codes "namespace") ns (member (codes "resourceVersion") (string version) no_members))
+put_identity name [] version = refl
+put_identity name (byte ∷ ns) version = refl
 
 pub put_status : (cs ds : Items) → put_unless_none (codes "children") cs (put_unless_none (codes "conditions") ds no_members) ≡ unless_none (codes "children") cs (unless_none (codes "conditions") ds no_members)
 put_status no_items no_items = refl

@@ -9,16 +9,16 @@ use Rattle.hx_object.specs.declared.object.Payload.TheVariants.{Config, Hierarch
 use Rattle.hx_object.specs.declared.object.ObjectFault.TheVariants.{BadName}
 use Rattle.hx_json.specs.declared.fault.JsonFault.{JsonFault}
 use Rattle.hx_json.specs.declared.fault.JsonFault.TheVariants.{WrongKind, MissingMember, WrongType, WrongPlace, Object as ObjectFaultOf}
-use Rattle.hx_json.specs.Reading.{Place, place, expected_of, fault_of, member_fault, kept_members, object_of, payload_of, version_in}
+use Rattle.hx_json.specs.Reading.{Target, target_at, expected_of, fault_of, member_fault, kept_members, object_of, payload_of, version_in}
 
 -- ---- bodies
 
 -- a POST or a PUT of a ConfigMap, whose path has the namespace a and on a PUT the name x
-abbrev post : Place
-post = place ConfigMap (codes "a") None
+abbrev post : Target
+post = target_at ConfigMap (codes "a") None
 
-abbrev put : Place
-put = place ConfigMap (codes "a") (Some (codes "x"))
+abbrev put : Target
+put = target_at ConfigMap (codes "a") (Some (codes "x"))
 
 abbrev text : List ℕ → Data
 text bytes = string bytes
@@ -105,10 +105,10 @@ null_labels = refl
 -- ---- what is specified
 
 abbrev of_config : Data → Option JsonFault
-of_config d = fault_of (place HncConfiguration [] None) d
+of_config d = fault_of (target_at HncConfiguration [] None) d
 
 abbrev of_hierarchy : Data → Option JsonFault
-of_hierarchy d = fault_of (place HierarchyConfiguration (codes "a") None) d
+of_hierarchy d = fault_of (target_at HierarchyConfiguration (codes "a") None) d
 
 config_spec_is_no_object : of_config (hnc (codes "HNCConfiguration") seven) ≡ Some (WrongType (codes "spec.resources"))
 config_spec_is_no_object = refl
@@ -134,18 +134,18 @@ parent_before_cascade = refl
 cascade_is_a_text : of_hierarchy (hierarchy (one (codes "allowCascadingDeletion") (text (codes "true")))) ≡ Some (WrongType (codes "spec.allowCascadingDeletion"))
 cascade_is_a_text = refl
 
-secret_type_is_a_number : fault_of (place Secret (codes "a") None) (body (codes "v1") (codes "Secret") (member (codes "metadata") named (member (codes "type") seven no_members))) ≡ Some (WrongType (codes "type"))
+secret_type_is_a_number : fault_of (target_at Secret (codes "a") None) (body (codes "v1") (codes "Secret") (member (codes "metadata") named (member (codes "type") seven no_members))) ≡ Some (WrongType (codes "type"))
 secret_type_is_a_number = refl
 
 -- ---- the place, and the object
 
-other_name : fault_of (place ConfigMap (codes "a") (Some (codes "y"))) (config_map named) ≡ Some WrongPlace
+other_name : fault_of (target_at ConfigMap (codes "a") (Some (codes "y"))) (config_map named) ≡ Some WrongPlace
 other_name = refl
 
 place_before_name : fault_of post (config_map (object (member (codes "name") (text (codes "A b")) (member (codes "namespace") (text (codes "b")) no_members)))) ≡ Some WrongPlace
 place_before_name = refl
 
-bad_name : fault_of (place Namespace [] None) (body (codes "v1") (codes "Namespace") (member (codes "metadata") (one (codes "name") (text (codes "A b"))) no_members)) ≡ Some (ObjectFaultOf BadName)
+bad_name : fault_of (target_at Namespace [] None) (body (codes "v1") (codes "Namespace") (member (codes "metadata") (one (codes "name") (text (codes "A b"))) no_members)) ≡ Some (ObjectFaultOf BadName)
 unfolding object_fault has_legal_names is_dns_label
 bad_name = refl
 

@@ -1,25 +1,23 @@
 -- What a body says, and the first fault of one.
---     Place            the path's kind and namespace, and its name on a PUT
---     place k ns n     the place of these
+--     Target           the path's kind and namespace, and its name on a PUT
+--     target_at k ns n the target of these
 --     member_fault p d the first fault of the members of a body
 --     fault_of p d     the first fault of the value of a body
 --     object_of p d    the object that a body without fault says
 --     expected_of n d  the version that it expects
---     IsFaultOf, IsReadOf    a fault, or an object, is what the bytes of a body give
 -- A member that is absent, or null and not required, counts as absent. Where `spec` is there, isn't null and isn't an object, each member inside it has the wrong type.
-use Rattle.std.specs.Prelude.{◌≡◌, ◌^◌, ◌-◌, ◌*◌, ◌+◌, ◌==◌, ℕ, Bool, true, false, not, ◌&&◌, ◌||◌, nat_le, List, [], ◌∷◌, codes, length, fold, Option, Some, None, option_and_then, option_map, unwrap_or, is_some, if◌then◌else◌, IsUtf8}
+use Rattle.std.specs.Prelude.{◌^◌, ◌-◌, ◌*◌, ◌+◌, ◌==◌, ℕ, Bool, true, false, not, ◌&&◌, ◌||◌, nat_le, List, [], ◌∷◌, codes, length, fold, Option, Some, None, option_and_then, option_map, unwrap_or, is_some, if◌then◌else◌}
 use Rattle.std.specs.List.{list_all}
 use Rattle.std.specs.Option.{option_map_or}
 use Rattle.std.specs.Str.{bytes_eq}
 use Rattle.serde_json.specs.Data.{Data, null, boolean, string, array, object, Items, no_items, item, Members, no_members, member}
 use Rattle.serde_json.specs.Find.{get}
-use Rattle.serde_json.specs.Read.{read}
-use Rattle.serde_json.specs.Written.{has_float, compact_text}
+use Rattle.serde_json.specs.Written.{compact_text}
 use Rattle.hx_object.specs.Faults.{object_fault, need_of}
 use Rattle.hx_object.specs.Kinds.{name_of, api_version_of}
 use Rattle.hx_object.specs.Names.{is_digit}
 use Rattle.hx_object.specs.declared.kind.Kind.{Kind}
-use Rattle.hx_object.specs.declared.kind.Kind.TheVariants.{Namespace, HncConfiguration, HierarchyConfiguration, SubnamespaceAnchor, HierarchicalResourceQuota, Secret, Pod, PersistentVolumeClaim}
+use Rattle.hx_object.specs.declared.kind.Kind.TheVariants.{Namespace, HncConfiguration, HierarchyConfiguration, SubnamespaceAnchor, Secret}
 use Rattle.hx_object.specs.declared.object.Id.{Id}
 use Rattle.hx_object.specs.declared.object.Object.{Object}
 use Rattle.hx_object.specs.declared.object.Mode.{Mode}
@@ -29,16 +27,16 @@ use Rattle.hx_object.specs.declared.object.Payload.{Payload}
 use Rattle.hx_object.specs.declared.object.Payload.TheVariants.{Namespace as NamespaceOf, Config, Hierarchy, Anchor, Plain}
 use Rattle.hx_model.specs.First.{so, or_else, first}
 use Rattle.hx_json.specs.declared.fault.JsonFault.{JsonFault}
-use Rattle.hx_json.specs.declared.fault.JsonFault.TheVariants.{NotJson, NotWhole, WrongKind, MissingMember, WrongType, WrongPlace, Object as ObjectFaultOf, NoMemory}
+use Rattle.hx_json.specs.declared.fault.JsonFault.TheVariants.{WrongKind, MissingMember, WrongType, WrongPlace, Object as ObjectFaultOf}
 
 -- the path's kind and namespace, and on a PUT its name
-pub record Place : Type 0 where
+pub record Target : Type 0 where
   pub kind : Kind
   pub ns : List ℕ
   pub name : Option (List ℕ)
 
-abbrev pub place : Kind → List ℕ → Option (List ℕ) → Place
-place kind ns name = record { kind = kind; ns = ns; name = name }
+abbrev pub target_at : Kind → List ℕ → Option (List ℕ) → Target
+target_at kind ns name = record { kind = kind; ns = ns; name = name }
 
 -- ---- members
 
@@ -207,9 +205,12 @@ abbrev pub unless_empty_text : Option (List ℕ) → Option (List ℕ)
 unless_empty_text (Some []) = None
 unless_empty_text found = found
 
+abbrev pub pair_of : List ℕ → Data → List ℕ × List ℕ
+pair_of key d = (key, text_or [] (Some d))
+
 abbrev pub pairs_of : Members → List (List ℕ × List ℕ)
 pairs_of no_members = []
-pairs_of (member k d ms) = (k, text_or [] (Some d)) ∷ pairs_of ms
+pairs_of (member k d ms) = pair_of k d ∷ pairs_of ms
 
 -- labels or annotations
 abbrev pub pairs_in : Option Data → List (List ℕ × List ℕ)
@@ -250,10 +251,10 @@ payload_of SubnamespaceAnchor d = Anchor None
 payload_of kind d = plain_of kind (kept_members d)
 
 -- the identity: a name that the path has, or else the body's
-abbrev pub id_of : Place → Data → Id
+abbrev pub id_of : Target → Data → Id
 id_of p d = record { kind = p.kind; ns = p.ns; name = unwrap_or p.name (text_or [] (counted_member (codes "name") (metadata_in d))) }
 
-abbrev pub object_of : Place → Data → Object
+abbrev pub object_of : Target → Data → Object
 object_of p d = record {
   id = id_of p d;
   labels = pairs_in (counted_member (codes "labels") (metadata_in d));
@@ -272,12 +273,12 @@ begins_with_zero (byte ∷ next ∷ text) = byte == 48
 begins_with_zero _ = false
 
 -- a decimal number without leading zeros, of at most 19 digits
-abbrev pub is_decimal : List ℕ → Bool
-is_decimal text = nat_le 1 (length text) && (nat_le (length text) 19 && (list_all is_digit text && not (begins_with_zero text)))
+abbrev pub is_long_decimal : List ℕ → Bool
+is_long_decimal text = nat_le 1 (length text) && (nat_le (length text) 19 && (list_all is_digit text && not (begins_with_zero text)))
 
 -- the version of a text, of at most 2^63 - 1, or 0, which no stored object has
 abbrev pub version_in : List ℕ → ℕ
-version_in text = if is_decimal text && nat_le (number_in text) (2 ^ 63 - 1) then number_in text else 0
+version_in text = if is_long_decimal text && nat_le (number_in text) (2 ^ 63 - 1) then number_in text else 0
 
 -- on a PUT, whose name is the path's, the version that the body names
 abbrev pub expected_of : Option (List ℕ) → Data → Option ℕ
@@ -296,35 +297,9 @@ is_elsewhere ns name d =
     option_map_or (λ text. is_other text (counted_member (codes "name") (metadata_in d))) name false || is_other ns (counted_member (codes "namespace") (metadata_in d))
 
 -- the first fault of what a value's members are
-abbrev pub member_fault : Place → Data → Option JsonFault
+abbrev pub member_fault : Target → Data → Option JsonFault
 member_fault p d = or_else (first (head_faults p.kind p.name d)) (or_else (first (own_faults p.kind d)) (so (is_elsewhere p.ns p.name d) WrongPlace))
 
 -- the first fault of a value
-abbrev pub fault_of : Place → Data → Option JsonFault
+abbrev pub fault_of : Target → Data → Option JsonFault
 fault_of p d = or_else (member_fault p d) (option_map ObjectFaultOf (object_fault (object_of p d)))
-
--- the body is JSON of whole numbers, and this is its value
-abbrev pub IsWhole : List ℕ → Data → Type 0
-IsWhole body d = IsUtf8 body × (read body ≡ Some d) × (has_float d ≡ false)
-
--- the fault is what the body gives. Want of memory is free
-abbrev pub IsFaultOf : Place → List ℕ → JsonFault → Type 0
-IsFaultOf p body NotJson = IsUtf8 body → read body ≡ None
-IsFaultOf p body NotWhole = (d : Data) × IsUtf8 body × (read body ≡ Some d) × (has_float d ≡ true)
-IsFaultOf p body NoMemory = Unit {0}
-IsFaultOf p body fault = (d : Data) × IsWhole body d × (fault_of p d ≡ Some fault)
-
--- the object and the expected version are what the body says
-pub record IsReadOf (p : Place) (body : List ℕ) (object : Object) (expected : Option ℕ) : Type 0 where
-  pub value : Data
-  pub whole : IsWhole body value
-  pub sound : fault_of p value ≡ None
-  pub says : object ≡ object_of p value
-  pub expects : expected ≡ expected_of p.name value
-
--- the kinds that are read so far
-abbrev pub is_read : Kind → Bool
-is_read HierarchicalResourceQuota = false
-is_read Pod = false
-is_read PersistentVolumeClaim = false
-is_read _ = true

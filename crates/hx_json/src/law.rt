@@ -7,12 +7,12 @@ ghost use Rattle.hx_object.specs.declared.kind.Kind.TheVariants.{HierarchicalRes
 
 use hx_object::Object;
 
-/// No two legal objects have one text, quotas apart, whose status isn't written yet.
+/// A theorem, not to be called: no two legal objects have one text, quotas apart, whose status isn't written yet.
 #[tactic(auto, using(crate::proofs::Telling::text_told))]
-pub fn text_tells(one: &Object, other: &Object)
+pub fn law_of_texts(one: &Object, other: &Object)
     requires one { IsLegal one.now }
     requires other { IsLegal other.now }
-    requires told { one.now.id.kind ≢ HierarchicalResourceQuota }
+    requires written { one.now.id.kind ≢ HierarchicalResourceQuota }
     ensures { object_text one.now ≡ object_text other.now → one.now ≡ other.now }
 {
     keep_their_types(one);

@@ -7,6 +7,6 @@ mod read;
 mod write;
 
 pub use fault::{JsonFault, Read};
-pub use law::text_tells;
-pub use read::{is_decimal, read_object};
+pub use law::law_of_texts;
+pub use read::{is_long_decimal, read_object};
 pub use write::{write_gone, write_list, write_object, write_status};

@@ -3,24 +3,23 @@ ghost use Rattle.std.specs.Prelude.{◌≡◌, [], true, None, option_copied, If
 ghost use Rattle.serde_json.specs.View.{view};
 ghost use Rattle.hx_object.specs.Faults.{IsLegal};
 ghost use Rattle.hx_object.specs.Kinds.{is_in_cluster};
-ghost use Rattle.hx_json.specs.Reading.{IsFaultOf, IsReadOf, IsWhole, is_read, member_fault, place};
+ghost use Rattle.hx_json.specs.Reading.{member_fault, target_at};
+ghost use Rattle.hx_json.specs.ReadObject.{IsFaultOf, IsReadOf, IsWhole, is_read};
 
-mod checks;
-mod faults;
+mod member_checks;
 mod members;
 mod parts;
-#[cfg(test)]
-mod tests;
+mod shapes;
 mod version;
 mod whole;
 
 use crate::{JsonFault, Read};
-use faults::check_members;
 use hx_object::{Kind, Object, Text};
+use member_checks::check_members;
 use parts::{expected_in, id_of, pairs_in, payload_of};
 use serde_json::Value;
 use std::alloc::Global;
-pub use version::is_decimal;
+pub use version::is_long_decimal;
 use whole::read_whole;
 
 /// The object that a request's body says. `kind` and `ns` are the path's, and so is `name`, which a PUT has and a POST doesn't.
@@ -33,8 +32,8 @@ pub fn read_object(
 ) -> Result<Read, JsonFault>
     requires known { is_read kind ≡ true }
     requires home { is_in_cluster kind ≡ true → ns.now ≡ [] }
-    ensures ok { IfOk result (λ r. IsReadOf (place kind ns.now (option_copied name.entry)) body.now r.object r.expected) }
-    ensures fault { IfErr result (λ f. IsFaultOf (place kind ns.now (option_copied name.entry)) body.now f) }
+    ensures ok { IfOk result (λ r. IsReadOf (target_at kind ns.now (option_copied name.entry)) body.now r.object r.expected) }
+    ensures fault { IfErr result (λ f. IsFaultOf (target_at kind ns.now (option_copied name.entry)) body.now f) }
     ensures legal { IfOk result (λ r. IsLegal r.object) }
 {
     let value = sound_value(alloc, body, kind, ns, name)?;
@@ -58,12 +57,12 @@ fn sound_value(
     name: Option<&Text>,
 ) -> Result<Value, JsonFault>
     ensures whole { IfOk result (λ v. IsWhole body.now (view v)) }
-    ensures sound { IfOk result (λ v. member_fault (place kind ns.now (option_copied name.entry)) (view v) ≡ None) }
-    ensures fault { IfErr result (λ f. IsFaultOf (place kind ns.now (option_copied name.entry)) body.now f) }
+    ensures sound { IfOk result (λ v. member_fault (target_at kind ns.now (option_copied name.entry)) (view v) ≡ None) }
+    ensures fault { IfErr result (λ f. IsFaultOf (target_at kind ns.now (option_copied name.entry)) body.now f) }
 {
     let value = read_whole(alloc, body)?;
     match check_members(&value, kind, ns, name) {
         Ok(()) => Ok(value),
-        Err(fault) => Err(fault.told(alloc)?),
+        Err(fault) => Err(fault.with_text(alloc)?),
     }
 }

@@ -6,10 +6,10 @@ ghost use Rattle.serde_json.specs.Written.{has_float, members_have_float};
 ghost use Rattle.hx_object.specs.declared.kind.Kind.TheVariants as Kind;
 ghost use Rattle.hx_object.specs.Faults.{is_token};
 ghost use Rattle.hx_object.specs.Canonical.{AreMembers, IsCanonical};
-ghost use Rattle.hx_json.specs.Reading.{counted_member, entries_of, entry_of, expected_of, id_of, in_spec, kept_members, metadata_in, pairs_in, pairs_of, payload_of, place, plain_of, text_in, text_or, unless_empty_text, without};
+ghost use Rattle.hx_json.specs.Reading.{counted_member, entries_of, entry_of, expected_of, id_of, in_spec, kept_members, metadata_in, pair_of, pairs_in, pairs_of, payload_of, target_at, plain_of, text_in, text_or, unless_empty_text, without};
 
-use super::checks::mode_of;
 use super::members::{entries, in_metadata, in_spec, member, text_in, truth_in};
+use super::shapes::mode_of;
 use super::version::version_in;
 use hx_object::{Id, Kind, List, Mode, ModeEntry, Need, NoMemory, Pairs, Payload, Text};
 use serde_json::{Map, Value};
@@ -39,7 +39,7 @@ pub fn id_of(
     ns: &Text,
     name: Option<&Text>,
 ) -> Result<Id, NoMemory>
-    ensures { IfOk result (λ id. id ≡ id_of (place kind ns.now (option_copied name.entry)) (view value.now)) }
+    ensures { IfOk result (λ id. id ≡ id_of (target_at kind ns.now (option_copied name.entry)) (view value.now)) }
 {
     let name = match name {
         Some(name) => name.clone()?,
@@ -82,13 +82,16 @@ fn pairs_of(alloc: Global, members: &Map<String, Value>) -> Result<Pairs, NoMemo
 {
     let mut pairs = Vec::new(alloc);
     for (key, member) in members.iter() {
-        let pair = (
-            Text::of(alloc, key.as_str())?,
-            text_or_empty(alloc, Some(member))?,
-        );
-        pairs.push(pair)?;
+        pairs.push(pair_of(alloc, key.as_str(), member)?)?;
     }
     Ok(Pairs::of(pairs))
+}
+
+fn pair_of(alloc: Global, key: &str, member: &Value) -> Result<(Text, Text), NoMemory>
+    ensures { IfOk result (λ pair. pair ≡ pair_of key.now (view member.now)) }
+{
+    let key = Text::of(alloc, key)?;
+    Ok((key, text_or_empty(alloc, Some(member))?))
 }
 
 /// What the body says beside the metadata.

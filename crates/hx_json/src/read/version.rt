@@ -2,14 +2,14 @@
 ghost use Rattle.std.specs.Prelude.{◌≡◌, ◌≤◌, ◌<◌, ◌^◌, IsTrue, length};
 ghost use Rattle.std.specs.List.{list_all};
 ghost use Rattle.hx_object.specs.Names.{is_digit};
-ghost use Rattle.hx_json.specs.Reading.{begins_with_zero, is_decimal, number_in, version_in};
+ghost use Rattle.hx_json.specs.Reading.{begins_with_zero, is_long_decimal, number_in, version_in};
 
 /// The version of a text, or 0, which no stored object has.
 pub fn version_in(text: &str) -> u64
     ensures { result ≡ version_in text.now }
 {
     let bytes = text.as_bytes();
-    if !is_decimal(bytes) {
+    if !is_long_decimal(bytes) {
         return 0;
     }
     let number = number_in(bytes);
@@ -17,8 +17,8 @@ pub fn version_in(text: &str) -> u64
 }
 
 /// Whether the bytes are a decimal number without leading zeros, of at most 19 digits.
-pub fn is_decimal(text: &[u8]) -> bool
-    ensures { result ≡ is_decimal text.now }
+pub fn is_long_decimal(text: &[u8]) -> bool
+    ensures { result ≡ is_long_decimal text.now }
 {
     1 <= text.len() && text.len() <= 19 && are_digits(text) && !begins_with_zero(text)
 }

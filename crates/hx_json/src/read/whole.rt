@@ -2,7 +2,8 @@
 ghost use Rattle.std.specs.Prelude.{◌≡◌, IfOk, IfErr};
 ghost use Rattle.serde_json.specs.View.{view, items_view, members_view};
 ghost use Rattle.serde_json.specs.Written.{has_float, items_have_float, members_have_float};
-ghost use Rattle.hx_json.specs.Reading.{IsFaultOf, IsWhole, Place};
+ghost use Rattle.hx_json.specs.Reading.{Target};
+ghost use Rattle.hx_json.specs.ReadObject.{IsFaultOf, IsWhole};
 
 use crate::JsonFault;
 use serde_json::{Map, Value};
@@ -11,7 +12,7 @@ use std::alloc::Global;
 /// The value of a body.
 pub fn read_whole(alloc: Global, body: &[u8]) -> Result<Value, JsonFault>
     ensures ok { IfOk result (λ v. IsWhole body.now (view v)) }
-    ensures fault { IfErr result (λ f. (p : Place) → IsFaultOf p body.now f) }
+    ensures fault { IfErr result (λ f. (p : Target) → IsFaultOf p body.now f) }
 {
     let value = match Value::from_slice(alloc, body) {
         Ok(value) => value,

@@ -2,7 +2,7 @@ use Rattle.std.proofs.Common.{rules, ◌≡◌, sym, subst, None, option_copied}
 use Rattle.serde_json.specs.View.{view}
 use Rattle.serde_json.proofs.Nesting.{depth-read}
 use Rattle.hx_object.specs.Faults.{IsLegal, object_fault}
-use Rattle.hx_json.specs.Reading.{object_of, place}
+use Rattle.hx_json.specs.Reading.{object_of, target_at}
 use Rattle.hx_json.proofs.Canonical.{read-canonical}
 use Rattle.hx_json.proofs.Legal.{legal}
 use Rattle.hx_json.proofs.read.read_object.Goals as goal
@@ -17,7 +17,7 @@ pub returns-in-Ok-clause-legal : goal.returns-in-Ok-clause-legal
 returns-in-Ok-clause-legal c =
     let whole = c.in_ok-value.ensures.whole in
     let d = view c.in_ok-value.value in
-    let p = place c.args.kind c.args.ns.now (option_copied c.args.name) in
+    let p = target_at c.args.kind c.args.ns.now (option_copied c.args.name) in
     let says : c.in-Ok.object ≡ object_of p d = search rules in
     let canonical = read-canonical c.args.body.now d whole.1 whole.2 in
     let shallow = depth-read c.args.body.now d whole.1 in
