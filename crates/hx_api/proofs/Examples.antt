@@ -8,56 +8,56 @@ use Rattle.hx_object.specs.declared.kind.Kind.TheVariants.{Namespace, Role, Pod,
 use Rattle.hx_model.specs.declared.ask.Ask.TheVariants as of
 use Rattle.hx_model.specs.declared.refusal.Refusal.TheVariants.{NoMethod, BadQuery}
 use Rattle.hx_api.specs.Asks.{ask_of}
-use Rattle.hx_api.specs.Paths.{place_of, segment_text}
-use Rattle.hx_api.specs.Queries.{bad_parameter, parameter}
+use Rattle.hx_api.specs.Paths.{resource_of, segment_text}
+use Rattle.hx_api.specs.Queries.{bad_parameter, parameters_of}
 use Rattle.hx_api.specs.declared.method.Method.TheVariants.{Get, Post}
-use Rattle.hx_api.specs.declared.path.Place.TheVariants.{Events, Collection, Object}
+use Rattle.hx_api.specs.declared.resource_path.ResourcePath.TheVariants.{Events, Collection, Object}
 
-all_pods : place_of (codes "/api/v1/pods") ≡ Some (Collection Pod None)
-unfolding place_of
+all_pods : resource_of (codes "/api/v1/pods") ≡ Some (Collection Pod None)
+unfolding resource_of
 all_pods = refl
 
-roles_in : place_of (codes "/apis/rbac.authorization.k8s.io/v1/namespaces/acme/roles") ≡ Some (Collection Role (Some (codes "acme")))
-unfolding place_of
+roles_in : resource_of (codes "/apis/rbac.authorization.k8s.io/v1/namespaces/acme/roles") ≡ Some (Collection Role (Some (codes "acme")))
+unfolding resource_of
 roles_in = refl
 
-secret : place_of (codes "/api/v1/namespaces/acme/secrets/key") ≡ Some (Object Secret (Some (codes "acme")) (codes "key"))
-unfolding place_of
+secret : resource_of (codes "/api/v1/namespaces/acme/secrets/key") ≡ Some (Object Secret (Some (codes "acme")) (codes "key"))
+unfolding resource_of
 secret = refl
 
-namespace : place_of (codes "/api/v1/namespaces/acme") ≡ Some (Object Namespace None (codes "acme"))
-unfolding place_of
+namespace : resource_of (codes "/api/v1/namespaces/acme") ≡ Some (Object Namespace None (codes "acme"))
+unfolding resource_of
 namespace = refl
 
-events : place_of (codes "/hnc/v1/events") ≡ Some Events
-unfolding place_of
+events : resource_of (codes "/hnc/v1/events") ≡ Some Events
+unfolding resource_of
 events = refl
 
-no_name : place_of (codes "/api/v1/namespaces/") ≡ None
-unfolding place_of
+no_name : resource_of (codes "/api/v1/namespaces/") ≡ None
+unfolding resource_of
 no_name = refl
 
-roles_of_the_core : place_of (codes "/api/v1/roles") ≡ None
-unfolding place_of
+roles_of_the_core : resource_of (codes "/api/v1/roles") ≡ None
+unfolding resource_of
 roles_of_the_core = refl
 
-pod_of_the_cluster : place_of (codes "/api/v1/pods/a") ≡ None
-unfolding place_of
+pod_of_the_cluster : resource_of (codes "/api/v1/pods/a") ≡ None
+unfolding resource_of
 pod_of_the_cluster = refl
 
 -- the method is tried before the segments and the query
 method_first : ask_of Post (codes "/api/v1/namespaces/%ff?watch=1") [] ≡ Err NoMethod
-unfolding ask_of place_of
+unfolding ask_of resource_of
 method_first = refl
 
 second_watch : ask_of Get (codes "/api/v1/pods?watch=&watch=1") [] ≡ Ok (of.List Pod None)
-unfolding ask_of place_of bad_parameter parameter form_urlencoded_on_literals utf8_lossy utf8_valid_len is_utf8 chars encode
+unfolding ask_of resource_of bad_parameter parameters_of form_urlencoded_on_literals utf8_lossy utf8_valid_len is_utf8 chars encode
 second_watch = refl
 
 bad_watch : ask_of Get (codes "/api/v1/pods?watch=1") [] ≡ Err (BadQuery (codes "watch"))
-unfolding ask_of place_of bad_parameter parameter form_urlencoded_on_literals utf8_lossy utf8_valid_len is_utf8 chars encode
+unfolding ask_of resource_of bad_parameter parameters_of form_urlencoded_on_literals utf8_lossy utf8_valid_len is_utf8 chars encode
 bad_watch = refl
 
 decoded : ask_of Get (codes "/api/v1/namespaces/a%2Fb") [] ≡ Ok (of.Get (record { kind = Namespace; ns = []; name = codes "a/b" }))
-unfolding ask_of place_of segment_text bad_parameter parameter form_urlencoded_on_literals is_utf8 chars encode
+unfolding ask_of resource_of segment_text bad_parameter parameters_of form_urlencoded_on_literals is_utf8 chars encode
 decoded = refl

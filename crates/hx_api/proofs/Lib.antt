@@ -5,5 +5,5 @@ pub mod Named
 pub mod Table
 pub mod Segments
 pub mod Reading
-pub mod Placed
+pub mod Scopes
 pub mod Examples

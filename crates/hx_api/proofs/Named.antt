@@ -3,12 +3,12 @@ use Rattle.std.proofs.Common.{◌≡◌, ℕ, List, [], ◌∷◌, Option, Some,
 use Rattle.std.specs.Prelude.{bytes_eq, option_and_then, if◌then◌else◌}
 use Rattle.hx_model.specs.First.{so}
 use Rattle.std.proofs.lemmas.Slice.Eq.{bytes_eq-Decides}
-use Rattle.hx_object.specs.Kinds.{api_version_of, kind_of_plural, hnc, rbac}
+use Rattle.hx_object.specs.Kinds.{api_version_of, kind_of_plural}
 use Rattle.hx_object.specs.declared.kind.Kind.{Kind}
 use Rattle.hx_object.specs.declared.kind.Kind.TheVariants.{Namespace, HncConfiguration, HierarchyConfiguration, SubnamespaceAnchor, HierarchicalResourceQuota, Role, RoleBinding, ConfigMap, Secret, NetworkPolicy, LimitRange, Pod, Service, PersistentVolumeClaim}
-use Rattle.hx_api.specs.Paths.{cluster_object, collection_in, core_place, feed_place, group_place, is_namespaces, is_served_under, kind_under, object_in, parts_of, place_of_parts, place_under, root_place, same_parts}
-use Rattle.hx_api.specs.Table.{place_on}
-use Rattle.hx_api.specs.declared.path.Place.{Place}
+use Rattle.hx_api.specs.Paths.{cluster_object, collection_in, core_resource, feed_resource, group_resource, is_namespaces, is_served_under, kind_under, object_in, parts_of, resource_of_parts, resource_under, root_resource, same_parts}
+use Rattle.hx_api.specs.InsideRoutes.{resource_on}
+use Rattle.hx_api.specs.declared.resource_path.ResourcePath.{ResourcePath}
 use Rattle.hx_api.specs.declared.routes.Form.{Form}
 use Rattle.hx_api.specs.declared.routes.Form.TheVariants.{Collection, Object, CollectionIn, ObjectIn}
 use Rattle.hx_api.specs.declared.routes.Route.{Route}
@@ -30,9 +30,9 @@ pieces_of Events = Some (codes "hnc") ∷ Some (codes "v1") ∷ Some (codes "eve
 -- ---- a route takes the path
 
 abbrev Named : Route → List (List ℕ) → Type 0
-Named route parts = place_on route parts ≡ place_of_parts parts
+Named route parts = resource_on route parts ≡ resource_of_parts parts
 
-pub named : (route : Route) (parts : List (List ℕ)) → takes (Some [] ∷ pieces_of route) parts ≡ true → place_on route parts ≡ place_of_parts parts
+pub named : (route : Route) (parts : List (List ℕ)) → takes (Some [] ∷ pieces_of route) parts ≡ true → resource_on route parts ≡ resource_of_parts parts
 named (Core Collection) = taken (Some [] ∷ pieces_of (Core Collection)) (Named (Core Collection)) (λ plural. refl)
 named (Core Object) = taken (Some [] ∷ pieces_of (Core Object)) (Named (Core Object)) (λ plural name. refl)
 named (Core CollectionIn) = taken (Some [] ∷ pieces_of (Core CollectionIn)) (Named (Core CollectionIn)) (λ ns plural. refl)
@@ -45,7 +45,7 @@ named Events = taken (Some [] ∷ pieces_of Events) (Named Events) refl
 
 -- ---- versions that serve no kind
 
-by_version : (Q : List (List ℕ) → Type 0) → Q (codes "v1" ∷ []) → Q (hnc ∷ codes "v1alpha2" ∷ []) → Q (rbac ∷ codes "v1" ∷ []) → Q (codes "networking.k8s.io" ∷ codes "v1" ∷ [])
+by_version : (Q : List (List ℕ) → Type 0) → Q (codes "v1" ∷ []) → Q (codes "hnc.x-k8s.io" ∷ codes "v1alpha2" ∷ []) → Q (codes "rbac.authorization.k8s.io" ∷ codes "v1" ∷ []) → Q (codes "networking.k8s.io" ∷ codes "v1" ∷ [])
     → (kind : Kind) → Q (parts_of (api_version_of kind))
 by_version Q core own roles net Namespace = core
 by_version Q core own roles net HncConfiguration = own
@@ -90,9 +90,9 @@ no_kind version unserved plural = by (kind_of_plural plural)
     by None = refl
     by (Some kind) = rw (unserved kind) refl
 
-only : (u : Bool) (place : Option (Place (List ℕ))) → (u ≡ true → place ≡ None) → (if u then place else None) ≡ None
-only true place none = none refl
-only false place none = refl
+only : (u : Bool) (resource : Option (ResourcePath (List ℕ))) → (u ≡ true → resource ≡ None) → (if u then resource else None) ≡ None
+only true resource none = none refl
+only false resource none = refl
 
 no_object : (version : List (List ℕ)) (plural name : List ℕ) → kind_under version plural ≡ None → cluster_object version plural name ≡ None
 no_object version plural [] none = refl
@@ -107,7 +107,7 @@ no_object_in version [] plural name none = refl
 no_object_in version (c ∷ ns) plural [] none = refl
 no_object_in version (c ∷ ns) plural (d ∷ name) none = rw none refl
 
-unserved_under : (version : List (List ℕ)) → IsUnserved version → (parts : List (List ℕ)) → place_under version parts ≡ None
+unserved_under : (version : List (List ℕ)) → IsUnserved version → (parts : List (List ℕ)) → resource_under version parts ≡ None
 unserved_under version unserved [] = refl
 unserved_under version unserved (plural ∷ []) = rw (no_kind version unserved plural) refl
 unserved_under version unserved (plural ∷ name ∷ []) = no_object version plural name (no_kind version unserved plural)
@@ -136,7 +136,7 @@ lacks_object_in version (c ∷ ns) plural [] h = refl
 lacks_object_in version (c ∷ ns) [] (e ∷ name) h = refl
 lacks_object_in version (c ∷ ns) (d ∷ plural) (e ∷ name) h = absurd (true≢false h)
 
-lacks_under : (version : List (List ℕ)) (parts : List (List ℕ)) → LacksForms parts → place_under version parts ≡ None
+lacks_under : (version : List (List ℕ)) (parts : List (List ℕ)) → LacksForms parts → resource_under version parts ≡ None
 lacks_under version [] lacks = refl
 lacks_under version ([] ∷ []) lacks = refl
 lacks_under version ((c ∷ plural) ∷ []) lacks = absurd (true≢false (lacks Collection))
@@ -147,41 +147,41 @@ lacks_under version (word ∷ ns ∷ plural ∷ []) lacks = only (is_namespaces 
 lacks_under version (word ∷ ns ∷ plural ∷ name ∷ []) lacks = only (is_namespaces word) _ (λ is. lacks_object_in version ns plural name (past _ _ is (lacks ObjectIn)))
 lacks_under version (word ∷ ns ∷ plural ∷ name ∷ more ∷ parts) lacks = refl
 
-lacks_core : (parts : List (List ℕ)) → ((form : Form) → takes (Some (codes "v1") ∷ form_pieces form) parts ≡ false) → core_place parts ≡ None
+lacks_core : (parts : List (List ℕ)) → ((form : Form) → takes (Some (codes "v1") ∷ form_pieces form) parts ≡ false) → core_resource parts ≡ None
 lacks_core [] lacks = refl
 lacks_core (version ∷ parts) lacks = by (bytes_eq version (codes "v1")) refl
   where
-    by : (v : Bool) → bytes_eq version (codes "v1") ≡ v → place_under (version ∷ []) parts ≡ None
+    by : (v : Bool) → bytes_eq version (codes "v1") ≡ v → resource_under (version ∷ []) parts ≡ None
     by true is = lacks_under (version ∷ []) parts (λ form. past _ _ is (lacks form))
     by false other = unserved_under (version ∷ []) (other_core version other) parts
 
-lacks_group : (parts : List (List ℕ)) → ((form : Form) → takes (None ∷ None ∷ form_pieces form) parts ≡ false) → group_place parts ≡ None
+lacks_group : (parts : List (List ℕ)) → ((form : Form) → takes (None ∷ None ∷ form_pieces form) parts ≡ false) → group_resource parts ≡ None
 lacks_group [] lacks = refl
 lacks_group (group ∷ []) lacks = refl
 lacks_group ([] ∷ version ∷ parts) lacks = unserved_under ([] ∷ version ∷ []) (no_group version) parts
 lacks_group ((c ∷ group) ∷ [] ∷ parts) lacks = unserved_under ((c ∷ group) ∷ [] ∷ []) (no_version (c ∷ group)) parts
 lacks_group ((c ∷ group) ∷ (d ∷ version) ∷ parts) lacks = lacks_under ((c ∷ group) ∷ (d ∷ version) ∷ []) parts lacks
 
-lacks_feed : (parts : List (List ℕ)) → takes (Some (codes "v1") ∷ Some (codes "events") ∷ []) parts ≡ false → feed_place parts ≡ None
+lacks_feed : (parts : List (List ℕ)) → takes (Some (codes "v1") ∷ Some (codes "events") ∷ []) parts ≡ false → feed_resource parts ≡ None
 lacks_feed [] lacks = refl
 lacks_feed (version ∷ []) lacks = rw (and_false (bytes_eq version (codes "v1"))) refl
 lacks_feed (version ∷ word ∷ []) lacks = rw lacks refl
 lacks_feed (version ∷ word ∷ more ∷ parts) lacks = rw lacks refl
 
-either : (u v w : Bool) (a b c : Option (Place (List ℕ))) → (u ≡ true → a ≡ None) → (v ≡ true → b ≡ None) → (w ≡ true → c ≡ None)
+either : (u v w : Bool) (a b c : Option (ResourcePath (List ℕ))) → (u ≡ true → a ≡ None) → (v ≡ true → b ≡ None) → (w ≡ true → c ≡ None)
     → (if u then a else (if v then b else (if w then c else None))) ≡ None
 either true v w a b c no_a no_b no_c = no_a refl
 either false true w a b c no_a no_b no_c = no_b refl
 either false false true a b c no_a no_b no_c = no_c refl
 either false false false a b c no_a no_b no_c = refl
 
-lacks_root : (word : List ℕ) (parts : List (List ℕ)) → ((route : Route) → takes (pieces_of route) (word ∷ parts) ≡ false) → root_place word parts ≡ None
+lacks_root : (word : List ℕ) (parts : List (List ℕ)) → ((route : Route) → takes (pieces_of route) (word ∷ parts) ≡ false) → root_resource word parts ≡ None
 lacks_root word parts lacks =
     either _ _ _ _ _ _ (λ is. lacks_core parts (λ form. past _ _ is (lacks (Core form))))
     (λ is. lacks_group parts (λ form. past _ _ is (lacks (Group form))))
     (λ is. lacks_feed parts (past _ _ is (lacks Events)))
 
-pub nameless : (parts : List (List ℕ)) → ((route : Route) → takes (Some [] ∷ pieces_of route) parts ≡ false) → place_of_parts parts ≡ None
+pub nameless : (parts : List (List ℕ)) → ((route : Route) → takes (Some [] ∷ pieces_of route) parts ≡ false) → resource_of_parts parts ≡ None
 nameless [] lacks = refl
 nameless (root ∷ []) lacks = refl
 nameless ((c ∷ root) ∷ word ∷ parts) lacks = refl

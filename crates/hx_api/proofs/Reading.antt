@@ -7,7 +7,8 @@ use Rattle.serde_json.specs.Read.{read}
 use Rattle.serde_json.specs.Written.{has_float}
 use Rattle.hx_object.specs.declared.kind.Kind.{Kind}
 use Rattle.hx_object.specs.declared.object.Object.{Object}
-use Rattle.hx_json.specs.Reading.{IsFaultOf, IsReadOf, IsWhole, Place, fault_of}
+use Rattle.hx_json.specs.Reading.{Target, fault_of}
+use Rattle.hx_json.specs.ReadObject.{IsFaultOf, IsReadOf, IsWhole}
 use Rattle.hx_json.specs.declared.fault.JsonFault.{JsonFault}
 use Rattle.hx_json.specs.declared.fault.JsonFault.TheVariants.{NotJson, NotWhole, WrongKind, MissingMember, WrongType, BadQuantity, WrongPlace, Object as OfObject, NoMemory}
 use Rattle.hx_model.specs.declared.ask.Ask.{Ask}
@@ -15,29 +16,29 @@ use Rattle.hx_model.specs.declared.refusal.Refusal.{Refusal}
 use Rattle.hx_model.specs.declared.refusal.Refusal.TheVariants as refusal
 use Rattle.hx_api.specs.Bodies.{Said, read_body, refusal_of}
 
-pub says : (p : Place) (body : List ℕ) (x : Object) (expected : Option ℕ) → IsReadOf p body x expected → read_body p body ≡ Ok (x, expected)
+pub says : (p : Target) (body : List ℕ) (x : Object) (expected : Option ℕ) → IsReadOf p body x expected → read_body p body ≡ Ok (x, expected)
 unfolding read_body
 says p body x expected h = rw (is_utf8-from_IsUtf8 body h.whole.0, h.whole.1, h.whole.2, h.sound, h.says, h.expects) refl
 
 -- a body that isn't UTF-8, or that doesn't read
-no_json_by : (p : Place) (body : List ℕ) (b : Bool) → is_utf8 body ≡ b → (IsUtf8 body → read body ≡ None) → read_body p body ≡ Err NotJson
+no_json_by : (p : Target) (body : List ℕ) (b : Bool) → is_utf8 body ≡ b → (IsUtf8 body → read body ≡ None) → read_body p body ≡ Err NotJson
 unfolding read_body
 no_json_by p body true is h = rw (is, h (IsUtf8-from_is_utf8 body is)) refl
 no_json_by p body false is h = rw is refl
 
-no_json : (p : Place) (body : List ℕ) → (IsUtf8 body → read body ≡ None) → read_body p body ≡ Err NotJson
+no_json : (p : Target) (body : List ℕ) → (IsUtf8 body → read body ≡ None) → read_body p body ≡ Err NotJson
 no_json p body h = no_json_by p body (is_utf8 body) refl h
 
-no_whole : (p : Place) (body : List ℕ) (d : Data) → IsUtf8 body → read body ≡ Some d → has_float d ≡ true → read_body p body ≡ Err NotWhole
+no_whole : (p : Target) (body : List ℕ) (d : Data) → IsUtf8 body → read body ≡ Some d → has_float d ≡ true → read_body p body ≡ Err NotWhole
 unfolding read_body
 no_whole p body d utf8 is float = rw (is_utf8-from_IsUtf8 body utf8, is, float) refl
 
-faulty : (p : Place) (body : List ℕ) (d : Data) (fault : JsonFault) → IsWhole body d → fault_of p d ≡ Some fault → read_body p body ≡ Err fault
+faulty : (p : Target) (body : List ℕ) (d : Data) (fault : JsonFault) → IsWhole body d → fault_of p d ≡ Some fault → read_body p body ≡ Err fault
 unfolding read_body
 faulty p body d fault whole is = rw (is_utf8-from_IsUtf8 body whole.0, whole.1, whole.2, is) refl
 
 -- the fault is want of memory, or the body's
-pub faults : (p : Place) (body : List ℕ) (fault : JsonFault) → IsFaultOf p body fault → (fault ≡ NoMemory) ⊎ (read_body p body ≡ Err fault)
+pub faults : (p : Target) (body : List ℕ) (fault : JsonFault) → IsFaultOf p body fault → (fault ≡ NoMemory) ⊎ (read_body p body ≡ Err fault)
 faults p body NotJson h = inr (no_json p body h)
 faults p body NotWhole h = inr (no_whole p body h.0 h.1 h.2 h.3)
 faults p body WrongKind h = inr (faulty p body h.0 WrongKind h.1 h.2)
@@ -49,7 +50,7 @@ faults p body (OfObject fault) h = inr (faulty p body h.0 (OfObject fault) h.1 h
 faults p body NoMemory h = inl refl
 
 -- the refusal of a fault is the request's, where the ask of a body gives refusals so
-pub refused : (kind : Kind) (ask : Result Said JsonFault → Result Ask Refusal) (p : Place) (body : List ℕ) (fault : JsonFault) (r : Refusal)
+pub refused : (kind : Kind) (ask : Result Said JsonFault → Result Ask Refusal) (p : Target) (body : List ℕ) (fault : JsonFault) (r : Refusal)
     → ((f : JsonFault) → ask (Err f) ≡ Err (refusal_of kind f)) → r ≡ refusal_of kind fault → IsFaultOf p body fault → (r ≡ refusal.NoMemory) ⊎ (ask (read_body p body) ≡ Err r)
 refused kind ask p body fault r gives is h = by (faults p body fault h)
   where

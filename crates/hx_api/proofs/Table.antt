@@ -1,12 +1,12 @@
--- The router finds a route of the table exactly where the definition of what a path names has a place.
+-- The router finds a route of the table exactly where the definition of what a path names has a resource.
 use Rattle.std.proofs.Common.{◌≡◌, inl, inr, ℕ, suc, ◌<◌, List, [], ◌∷◌, length, get_or, Some, None, true, false, refl, sym, ◌∙◌, subst, arith}
 use Rattle.std.specs.Prelude.{⊤}
 use Rattle.matchit.specs.Level.{IsText}
 use Rattle.matchit.specs.Router.{RouteOf}
 use Rattle.matchit.specs.Seek.{first}
 use Rattle.matchit.proofs.OnLiterals.{matchit_on_literals}
-use Rattle.hx_api.specs.Paths.{parts_of, place_of}
-use Rattle.hx_api.specs.Table.{Rows, added, place_on, table_rows}
+use Rattle.hx_api.specs.Paths.{parts_of, resource_of}
+use Rattle.hx_api.specs.InsideRoutes.{Rows, added, resource_on, table_rows}
 use Rattle.hx_api.specs.declared.routes.Form.TheVariants.{Collection, Object, CollectionIn, ObjectIn}
 use Rattle.hx_api.specs.declared.routes.Route.{Route}
 use Rattle.hx_api.specs.declared.routes.Route.TheVariants.{Core, Group, Events}
@@ -92,15 +92,15 @@ answer : (path : List ℕ) → IsText path → IsRouteOf table_rows path (first 
 answer path text = first-IsRouteOf table_rows path plain text
 
 -- the route that the router finds
-pub found_place : (path : List ℕ) (row : RouteOf Route) → IsText path → first table_rows path ≡ Some row → place_on row.value (parts_of path) ≡ place_of path
-unfolding place_of
-found_place path row text is =
+pub found_resource : (path : List ℕ) (row : RouteOf Route) → IsText path → first table_rows path ≡ Some row → resource_on row.value (parts_of path) ≡ resource_of path
+unfolding resource_of
+found_resource path row text is =
     let fit : HasFit table_rows path row = subst (IsRouteOf table_rows path) is (answer path text) in
     named row.value (parts_of path) (takes_found path table_rows row (table_parts path) fit)
 
 -- the router finds none
-pub no_place : (path : List ℕ) → IsText path → first table_rows path ≡ None → place_of path ≡ None
-unfolding place_of
-no_place path text is =
+pub no_resource : (path : List ℕ) → IsText path → first table_rows path ≡ None → resource_of path ≡ None
+unfolding resource_of
+no_resource path text is =
     let none : HasNoFit table_rows path = subst (IsRouteOf table_rows path) is (answer path text) in
     nameless (parts_of path) (each_route path (takes_none path table_rows (table_parts path) none))

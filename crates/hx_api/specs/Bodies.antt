@@ -1,5 +1,5 @@
 -- What a body says, as one result.
---     read_body place body    the object and the version that it expects, or its first fault
+--     read_body target body    the object and the version that it expects, or its first fault
 --     refusal_of kind fault   the refusal of a fault
 use Rattle.std.specs.Prelude.{ℕ, List, Option, Some, None, Result, Ok, Err, if◌then◌else◌}
 use Rattle.std.specs.Str.{is_utf8}
@@ -10,7 +10,7 @@ use Rattle.hx_object.specs.declared.kind.Kind.{Kind}
 use Rattle.hx_object.specs.declared.object.Object.{Object}
 use Rattle.hx_object.specs.declared.object.ObjectFault.{ObjectFault}
 use Rattle.hx_object.specs.declared.object.ObjectFault.TheVariants as of_object
-use Rattle.hx_json.specs.Reading.{Place, expected_of, fault_of, object_of}
+use Rattle.hx_json.specs.Reading.{Target, expected_of, fault_of, object_of}
 use Rattle.hx_json.specs.declared.fault.JsonFault.{JsonFault}
 use Rattle.hx_json.specs.declared.fault.JsonFault.TheVariants as of
 use Rattle.hx_model.specs.declared.refusal.Refusal.{Refusal}
@@ -21,18 +21,18 @@ abbrev pub Said : Type 0
 Said = Object × Option ℕ
 
 -- what a value says, by its first fault
-abbrev pub said_unless : Place → Data → Option JsonFault → Result Said JsonFault
-said_unless place value None = Ok (object_of place value, expected_of place.name value)
-said_unless place value (Some fault) = Err fault
+abbrev pub said_unless : Target → Data → Option JsonFault → Result Said JsonFault
+said_unless target value None = Ok (object_of target value, expected_of target.name value)
+said_unless target value (Some fault) = Err fault
 
 -- what a JSON value says, if the body is one
-abbrev pub said_by : Place → Option Data → Result Said JsonFault
-said_by place None = Err of.NotJson
-said_by place (Some value) = if has_float value then Err of.NotWhole else said_unless place value (fault_of place value)
+abbrev pub said_by : Target → Option Data → Result Said JsonFault
+said_by target None = Err of.NotJson
+said_by target (Some value) = if has_float value then Err of.NotWhole else said_unless target value (fault_of target value)
 
 -- what a body says
-unfoldable pub read_body : Place → List ℕ → Result Said JsonFault
-read_body place body = if is_utf8 body then said_by place (read body) else Err of.NotJson
+unfoldable pub read_body : Target → List ℕ → Result Said JsonFault
+read_body target body = if is_utf8 body then said_by target (read body) else Err of.NotJson
 
 -- ---- refusals
 

@@ -1,26 +1,26 @@
 -- The paths that are served, and the methods that each takes.
---     parts_of path        the parts of a path, between its slashes
---     place_of path        what a path names, its segments as they were sent
---     allows place method  the place takes the method
---     decoded_place place  the place with its segments decoded, where they are UTF-8 then
+--     parts_of path              the parts of a path, between its slashes
+--     resource_of path           what a path names, its segments as they were sent
+--     allows resource method     the resource takes the method
+--     decoded_resource resource  the resource with its segments decoded, where they are UTF-8 then
 -- The prefix of a kind is `/api/` or, where its `apiVersion` has a group, `/apis/`, and then that `apiVersion`.
-use Rattle.std.specs.Prelude.{◌≡◌, ℕ, Bool, true, false, not, ◌&&◌, ◌==◌, List, [], ◌∷◌, codes, Option, Some, None, option_and_then, option_map, if◌then◌else◌}
-use Rattle.std.specs.Borrow.{Bor}
+use Rattle.std.specs.Prelude.{ℕ, Bool, true, false, not, ◌&&◌, ◌==◌, List, [], ◌∷◌, codes, Option, Some, None, option_and_then, option_map, if◌then◌else◌}
 use Rattle.std.specs.List.{slice_split}
 use Rattle.std.specs.Str.{bytes_eq, is_utf8}
 use Rattle.percent_encoding.specs.Percent.{percent_decode}
 use Rattle.hx_object.specs.Kinds.{api_version_of, is_in_cluster, kind_of_plural}
+use Rattle.hx_object.specs.Names.{slash}
 use Rattle.hx_object.specs.declared.kind.Kind.{Kind}
 use Rattle.hx_model.specs.First.{so}
 use Rattle.hx_api.specs.declared.method.Method.{Method}
 use Rattle.hx_api.specs.declared.method.Method.TheVariants.{Get, Post, Put, Delete}
-use Rattle.hx_api.specs.declared.path.Place.{Place}
-use Rattle.hx_api.specs.declared.path.Place.TheVariants.{Events, Collection, Object}
+use Rattle.hx_api.specs.declared.resource_path.ResourcePath.{ResourcePath}
+use Rattle.hx_api.specs.declared.resource_path.ResourcePath.TheVariants.{Events, Collection, Object}
 
 -- ---- parts
 
 abbrev pub is_slash : ℕ → Bool
-is_slash byte = byte == 47
+is_slash byte = byte == slash
 
 -- the parts of a path, between its slashes
 abbrev pub parts_of : List ℕ → List (List ℕ)
@@ -61,67 +61,67 @@ abbrev pub is_namespaces : List ℕ → Bool
 is_namespaces word = bytes_eq word (codes "namespaces")
 
 -- the objects of a kind in all namespaces or in none
-abbrev pub collection : List (List ℕ) → List ℕ → Option (Place (List ℕ))
+abbrev pub collection : List (List ℕ) → List ℕ → Option (ResourcePath (List ℕ))
 collection version plural = option_map (λ kind. Collection kind None) (kind_under version plural)
 
 -- an object in no namespace
-abbrev pub cluster_object : List (List ℕ) → List ℕ → List ℕ → Option (Place (List ℕ))
+abbrev pub cluster_object : List (List ℕ) → List ℕ → List ℕ → Option (ResourcePath (List ℕ))
 cluster_object version plural name =
     if is_blank name then None else option_map (λ kind. Object kind None name) (cluster_kind version plural)
 
 -- the objects of a kind in a namespace
-abbrev pub collection_in : List (List ℕ) → List ℕ → List ℕ → Option (Place (List ℕ))
+abbrev pub collection_in : List (List ℕ) → List ℕ → List ℕ → Option (ResourcePath (List ℕ))
 collection_in version ns plural =
     if is_blank ns then None else option_map (λ kind. Collection kind (Some ns)) (namespaced_kind version plural)
 
 -- an object in a namespace
-abbrev pub object_in : List (List ℕ) → List ℕ → List ℕ → List ℕ → Option (Place (List ℕ))
+abbrev pub object_in : List (List ℕ) → List ℕ → List ℕ → List ℕ → Option (ResourcePath (List ℕ))
 object_in version ns plural name =
     if is_blank ns then None
     else (if is_blank name then None else option_map (λ kind. Object kind (Some ns) name) (namespaced_kind version plural))
 
 -- what the parts behind a prefix name
-abbrev pub place_under : List (List ℕ) → List (List ℕ) → Option (Place (List ℕ))
-place_under version (plural ∷ []) = collection version plural
-place_under version (plural ∷ name ∷ []) = cluster_object version plural name
-place_under version (word ∷ ns ∷ plural ∷ []) = if is_namespaces word then collection_in version ns plural else None
-place_under version (word ∷ ns ∷ plural ∷ name ∷ []) = if is_namespaces word then object_in version ns plural name else None
-place_under version _ = None
+abbrev pub resource_under : List (List ℕ) → List (List ℕ) → Option (ResourcePath (List ℕ))
+resource_under version (plural ∷ []) = collection version plural
+resource_under version (plural ∷ name ∷ []) = cluster_object version plural name
+resource_under version (word ∷ ns ∷ plural ∷ []) = if is_namespaces word then collection_in version ns plural else None
+resource_under version (word ∷ ns ∷ plural ∷ name ∷ []) = if is_namespaces word then object_in version ns plural name else None
+resource_under version _ = None
 
 -- behind `/api`, the version of the core group
-abbrev pub core_place : List (List ℕ) → Option (Place (List ℕ))
-core_place (version ∷ parts) = place_under (version ∷ []) parts
-core_place _ = None
+abbrev pub core_resource : List (List ℕ) → Option (ResourcePath (List ℕ))
+core_resource (version ∷ parts) = resource_under (version ∷ []) parts
+core_resource _ = None
 
 -- behind `/apis`, a group and its version
-abbrev pub group_place : List (List ℕ) → Option (Place (List ℕ))
-group_place (group ∷ version ∷ parts) = place_under (group ∷ version ∷ []) parts
-group_place _ = None
+abbrev pub group_resource : List (List ℕ) → Option (ResourcePath (List ℕ))
+group_resource (group ∷ version ∷ parts) = resource_under (group ∷ version ∷ []) parts
+group_resource _ = None
 
 -- behind `/hnc`, the feed of events
-abbrev pub feed_place : List (List ℕ) → Option (Place (List ℕ))
-feed_place parts = so (same_parts parts (codes "v1" ∷ codes "events" ∷ [])) Events
+abbrev pub feed_resource : List (List ℕ) → Option (ResourcePath (List ℕ))
+feed_resource parts = so (same_parts parts (codes "v1" ∷ codes "events" ∷ [])) Events
 
 -- by the first part behind the slash that a path begins with
-abbrev pub root_place : List ℕ → List (List ℕ) → Option (Place (List ℕ))
-root_place word parts =
-    if bytes_eq word (codes "api") then core_place parts
-    else (if bytes_eq word (codes "apis") then group_place parts
-    else (if bytes_eq word (codes "hnc") then feed_place parts else None))
+abbrev pub root_resource : List ℕ → List (List ℕ) → Option (ResourcePath (List ℕ))
+root_resource word parts =
+    if bytes_eq word (codes "api") then core_resource parts
+    else (if bytes_eq word (codes "apis") then group_resource parts
+    else (if bytes_eq word (codes "hnc") then feed_resource parts else None))
 
 -- what the parts of a path name
-abbrev pub place_of_parts : List (List ℕ) → Option (Place (List ℕ))
-place_of_parts (root ∷ word ∷ parts) = if is_blank root then root_place word parts else None
-place_of_parts _ = None
+abbrev pub resource_of_parts : List (List ℕ) → Option (ResourcePath (List ℕ))
+resource_of_parts (root ∷ word ∷ parts) = if is_blank root then root_resource word parts else None
+resource_of_parts _ = None
 
 -- what a path names, its segments as they were sent
-unfoldable pub place_of : List ℕ → Option (Place (List ℕ))
-place_of path = place_of_parts (parts_of path)
+unfoldable pub resource_of : List ℕ → Option (ResourcePath (List ℕ))
+resource_of path = resource_of_parts (parts_of path)
 
 -- ---- methods
 
--- the place takes the method. Without a namespace only objects of the cluster are made
-abbrev pub allows : Place (List ℕ) → Method → Bool
+-- the resource takes the method. Without a namespace only objects of the cluster are made
+abbrev pub allows : ResourcePath (List ℕ) → Method → Bool
 allows Events Get = true
 allows (Collection kind ns) Get = true
 allows (Collection kind None) Post = is_in_cluster kind
@@ -129,7 +129,7 @@ allows (Collection kind (Some ns)) Post = true
 allows (Object kind ns name) Get = true
 allows (Object kind ns name) Put = true
 allows (Object kind ns name) Delete = true
-allows place method = false
+allows resource method = false
 
 -- ---- segments
 
@@ -138,31 +138,17 @@ unfoldable pub segment_text : List ℕ → Option (List ℕ)
 segment_text segment = so (is_utf8 (percent_decode segment)) (percent_decode segment)
 
 -- the same of a segment that may be absent
-abbrev pub home_text : Option (List ℕ) → Option (Option (List ℕ))
-home_text None = Some None
-home_text (Some segment) = option_map (λ text. Some text) (segment_text segment)
+abbrev pub namespace_text : Option (List ℕ) → Option (Option (List ℕ))
+namespace_text None = Some None
+namespace_text (Some segment) = option_map (λ text. Some text) (segment_text segment)
 
 -- an object, where its segments are UTF-8
-abbrev pub decoded_object : Kind → Option (Option (List ℕ)) → Option (List ℕ) → Option (Place (List ℕ))
+abbrev pub decoded_object : Kind → Option (Option (List ℕ)) → Option (List ℕ) → Option (ResourcePath (List ℕ))
 decoded_object kind (Some ns) (Some name) = Some (Object kind ns name)
 decoded_object kind ns name = None
 
--- the place with its segments decoded, where they are UTF-8 then
-abbrev pub decoded_place : Place (List ℕ) → Option (Place (List ℕ))
-decoded_place Events = Some Events
-decoded_place (Collection kind ns) = option_map (λ text. Collection kind text) (home_text ns)
-decoded_place (Object kind ns name) = decoded_object kind (home_text ns) (segment_text name)
-
--- ---- code
-
--- a place of code, whose segments lie in the path
-abbrev pub as_sent : Place (Bor (List ℕ)) → Place (List ℕ)
-as_sent Events = Events
-as_sent (Collection kind ns) = Collection kind (option_map (λ segment. segment.now) ns)
-as_sent (Object kind ns name) = Object kind (option_map (λ segment. segment.now) ns) name.now
-
--- objects of the cluster have no namespace
-abbrev pub IsPlaced : Place (List ℕ) → Type 0
-IsPlaced Events = Unit {0}
-IsPlaced (Collection kind ns) = is_in_cluster kind ≡ true → ns ≡ None
-IsPlaced (Object kind ns name) = is_in_cluster kind ≡ true → ns ≡ None
+-- the resource with its segments decoded, where they are UTF-8 then
+abbrev pub decoded_resource : ResourcePath (List ℕ) → Option (ResourcePath (List ℕ))
+decoded_resource Events = Some Events
+decoded_resource (Collection kind ns) = option_map (λ text. Collection kind text) (namespace_text ns)
+decoded_resource (Object kind ns name) = decoded_object kind (namespace_text ns) (segment_text name)

@@ -1,20 +1,21 @@
 -- The parameters of a query.
 --     path_of, query_of target    the path, and the query behind its first `?`
---     parameter name query        the first value of a parameter
+--     parameters_of query         its names and values, form decoded
 --     bad_parameter feed query    the first parameter whose value isn't taken
--- Parameters that aren't named here are ignored.
-use Rattle.std.specs.Prelude.{ℕ, Bool, true, false, not, ◌&&◌, ◌==◌, List, [], ◌∷◌, codes, Option, Some, None, if◌then◌else◌}
+-- Of several parameters of one name the first counts. Parameters that aren't named here are ignored.
+use Rattle.std.specs.Prelude.{ℕ, slice_index, Bool, true, false, not, ◌&&◌, ◌==◌, List, [], ◌∷◌, codes, map, Option, Some, None}
 use Rattle.std.specs.List.{before_first, after_first}
 use Rattle.std.specs.Str.{bytes_eq}
 use Rattle.std.specs.Str.Lossy.{utf8_lossy}
 use Rattle.form_urlencoded.specs.Form.{decode, raw_pairs}
-use Rattle.hx_json.specs.Reading.{is_decimal}
+use Rattle.hx_json.specs.Reading.{is_long_decimal}
+use Rattle.hx_object.specs.Pairs.{value_of}
 use Rattle.hx_model.specs.First.{so, first}
 
 -- ---- targets
 
 abbrev pub is_question_mark : ℕ → Bool
-is_question_mark byte = byte == 63
+is_question_mark byte = byte == slice_index (codes "?") 0
 
 -- what stands before the first `?`, or all
 abbrev pub path_of : List ℕ → List ℕ
@@ -30,14 +31,16 @@ query_of target = after_first is_question_mark target
 abbrev pub form_text : List ℕ → List ℕ
 form_text bytes = utf8_lossy (decode bytes)
 
--- the first value of a name
-abbrev pub value_of : List ℕ → List (List ℕ × List ℕ) → Option (List ℕ)
-value_of name [] = None
-value_of name (pair ∷ pairs) = if bytes_eq (form_text pair.0) name then Some (form_text pair.1) else value_of name pairs
+-- a name and a value as texts
+abbrev pub text_pair : List ℕ × List ℕ → List ℕ × List ℕ
+text_pair pair = (form_text pair.0, form_text pair.1)
 
--- the first value of a parameter
-unfoldable pub parameter : List ℕ → List ℕ → Option (List ℕ)
-parameter name query = value_of name (raw_pairs query)
+-- the names and the values of a query, in order
+abbrev pub Parameters : Type 0
+Parameters = List (List ℕ × List ℕ)
+
+unfoldable pub parameters_of : List ℕ → Parameters
+parameters_of query = map text_pair (raw_pairs query)
 
 -- ---- values
 
@@ -58,16 +61,16 @@ is_other_admission None = false
 
 -- a number of an event, which the feed requires
 abbrev pub is_since : Option (List ℕ) → Bool
-is_since (Some text) = is_decimal text
+is_since (Some text) = is_long_decimal text
 is_since None = false
 
 -- the first parameter whose value isn't taken, at the feed of events or elsewhere
-unfoldable pub bad_parameter : Bool → List ℕ → Option (List ℕ)
+unfoldable pub bad_parameter : Bool → Parameters → Option (List ℕ)
 bad_parameter feed query =
-    first (so (is_other_admission (parameter (codes "admission") query)) (codes "admission")
-    ∷ so (feed && not (is_since (parameter (codes "since") query))) (codes "since")
-    ∷ so (is_given (parameter (codes "watch") query)) (codes "watch")
-    ∷ so (is_given (parameter (codes "fieldSelector") query)) (codes "fieldSelector")
-    ∷ so (is_given (parameter (codes "dryRun") query)) (codes "dryRun")
-    ∷ so (is_given (parameter (codes "continue") query)) (codes "continue")
+    first (so (is_other_admission (value_of query (codes "admission"))) (codes "admission")
+    ∷ so (feed && not (is_since (value_of query (codes "since")))) (codes "since")
+    ∷ so (is_given (value_of query (codes "watch"))) (codes "watch")
+    ∷ so (is_given (value_of query (codes "fieldSelector"))) (codes "fieldSelector")
+    ∷ so (is_given (value_of query (codes "dryRun"))) (codes "dryRun")
+    ∷ so (is_given (value_of query (codes "continue"))) (codes "continue")
     ∷ [])

@@ -1,7 +1,7 @@
 // Bodies of requests as asks.
 ghost use Rattle.std.specs.Prelude.{◌≡◌, ◌⊎◌, [], None, Some, Ok, Err, true, IfOk, IfErr};
 ghost use Rattle.hx_object.specs.Kinds.{is_in_cluster};
-ghost use Rattle.hx_json.specs.Reading.{place};
+ghost use Rattle.hx_json.specs.Reading.{target_at};
 ghost use Rattle.hx_model.specs.Serving.{IsServedAsk, is_written};
 ghost use Rattle.hx_api.specs.Asks.{created, replaced};
 ghost use Rattle.hx_api.specs.Bodies.{object_refusal, read_body, refusal_of};
@@ -43,9 +43,9 @@ fn refusal_of(kind: Kind, fault: JsonFault) -> Refusal
 /// To store the object that a body says.
 pub fn create(alloc: Global, kind: Kind, ns: &Text, skip: bool, body: &[u8]) -> Result<Ask, Refusal>
     requires written { is_written kind ≡ true }
-    requires home { is_in_cluster kind ≡ true → ns.now ≡ [] }
-    ensures ok { IfOk result (λ ask. created kind skip (read_body (place kind ns.now None) body.now) ≡ Ok ask) }
-    ensures refused { IfErr result (λ refusal. (refusal ≡ Refusal.NoMemory) ⊎ (created kind skip (read_body (place kind ns.now None) body.now) ≡ Err refusal)) }
+    requires namespace { is_in_cluster kind ≡ true → ns.now ≡ [] }
+    ensures ok { IfOk result (λ ask. created kind skip (read_body (target_at kind ns.now None) body.now) ≡ Ok ask) }
+    ensures refused { IfErr result (λ refusal. (refusal ≡ Refusal.NoMemory) ⊎ (created kind skip (read_body (target_at kind ns.now None) body.now) ≡ Err refusal)) }
     ensures served { IfOk result IsServedAsk }
 {
     match read_object(alloc, body, kind, ns, None) {
@@ -57,12 +57,12 @@ pub fn create(alloc: Global, kind: Kind, ns: &Text, skip: bool, body: &[u8]) -> 
     }
 }
 
-/// To store the object that a body says in the place of the one that is there.
+/// To store the object that a body says in place of the one that is there.
 pub fn replace(alloc: Global, id: &Id, skip: bool, body: &[u8]) -> Result<Ask, Refusal>
     requires written { is_written id.now.kind ≡ true }
-    requires home { is_in_cluster id.now.kind ≡ true → id.now.ns ≡ [] }
-    ensures ok { IfOk result (λ ask. replaced id.now.kind skip (read_body (place id.now.kind id.now.ns (Some id.now.name)) body.now) ≡ Ok ask) }
-    ensures refused { IfErr result (λ refusal. (refusal ≡ Refusal.NoMemory) ⊎ (replaced id.now.kind skip (read_body (place id.now.kind id.now.ns (Some id.now.name)) body.now) ≡ Err refusal)) }
+    requires namespace { is_in_cluster id.now.kind ≡ true → id.now.ns ≡ [] }
+    ensures ok { IfOk result (λ ask. replaced id.now.kind skip (read_body (target_at id.now.kind id.now.ns (Some id.now.name)) body.now) ≡ Ok ask) }
+    ensures refused { IfErr result (λ refusal. (refusal ≡ Refusal.NoMemory) ⊎ (replaced id.now.kind skip (read_body (target_at id.now.kind id.now.ns (Some id.now.name)) body.now) ≡ Err refusal)) }
     ensures served { IfOk result IsServedAsk }
 {
     match read_object(alloc, body, id.kind, &id.ns, Some(&id.name)) {

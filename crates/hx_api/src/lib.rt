@@ -5,15 +5,13 @@
 
 mod body;
 mod method;
-mod path;
 mod query;
 mod reply;
 mod request;
+mod resource_path;
 mod routes;
 mod served;
-#[cfg(test)]
-mod tests;
 
 pub use method::Method;
-pub use reply::{Reply, write_answer};
+pub use reply::{Reply, reply_to, write_answer};
 pub use routes::Routes;

@@ -1,10 +1,12 @@
 // The parameters of a query.
 ghost use Rattle.std.specs.Prelude.{◌≡◌, IfOk, codes, option_copied};
-ghost use Rattle.hx_api.specs.Queries.{bad_parameter, is_given, is_other_admission, is_since, is_skip, parameter, path_of, query_of};
+ghost use Rattle.hx_api.specs.Queries.{bad_parameter, is_given, is_other_admission, is_since, is_skip, parameters_of, path_of, query_of};
+ghost use Rattle.hx_object.specs.Pairs.{value_of};
 
-use hx_json::is_decimal;
+use hx_json::is_long_decimal;
 use hx_object::{NoMemory, Text};
 use std::alloc::Global;
+use std::marker::Model;
 
 /// The path of a target, and its query, which is empty where there is none.
 pub fn cut(target: &str) -> (&str, &str)
@@ -17,84 +19,109 @@ pub fn cut(target: &str) -> (&str, &str)
     }
 }
 
-/// The first value of a parameter.
-#[tactic(auto, unfolding(crate::specs::Queries::parameter))]
-fn parameter(alloc: Global, query: &str, name: &str) -> Result<Option<Text>, NoMemory>
-    ensures { IfOk result (λ value. value ≡ parameter name.now query.now) }
-{
-    for pair in form_urlencoded::parse(alloc, query.as_bytes()) {
-        let (key, value) = pair?;
-        if key.as_str() == name {
-            return Ok(Some(Text::of_string(value.into_owned(alloc)?)));
+/// The parameters of a query in order, each a name and a value, form decoded.
+#[derive(Drop)]
+pub struct Query {
+    pairs: Vec<(Text, Text)>,
+}
+
+impl Model for Query {
+    ghost use Rattle.hx_api.specs.Queries.{Parameters};
+
+    ghost Value = { Parameters };
+
+    ghost view = { λ query. query.pairs.items };
+}
+
+impl Query {
+    /// The parameters of what stands behind a target's `?`.
+    #[tactic(auto, unfolding(crate::specs::Queries::parameters_of))]
+    pub fn read(alloc: Global, query: &str) -> Result<Query, NoMemory>
+        ensures { IfOk result (λ read. read ≡ parameters_of query.now) }
+    {
+        let mut pairs = Vec::new(alloc);
+        for pair in form_urlencoded::parse(alloc, query.as_bytes()).into_owned() {
+            let (name, value) = pair?;
+            pairs.push((Text::of_string(name), Text::of_string(value)))?;
+        }
+        Ok(Query { pairs })
+    }
+
+    /// The first value of a parameter.
+    fn value(&self, name: &str) -> Option<&str>
+        ensures { option_copied result ≡ value_of self.now name.now }
+    {
+        value_in(self.pairs.as_slice(), name)
+    }
+
+    /// Whether a parameter has a value that isn't empty.
+    pub fn is_given(&self, name: &str) -> bool
+        ensures { result ≡ is_given (value_of self.now name.now) }
+    {
+        match self.value(name) {
+            Some(value) => !value.is_empty(),
+            None => false,
         }
     }
-    Ok(None)
+
+    /// Whether the rules of admission that may be passed over are to be.
+    pub fn is_skip(&self) -> bool
+        ensures { result ≡ is_skip (value_of self.now (codes "admission")) }
+    {
+        match self.value("admission") {
+            Some(value) => value == "skip",
+            None => false,
+        }
+    }
+
+    fn is_other_admission(&self) -> bool
+        ensures { result ≡ is_other_admission (value_of self.now (codes "admission")) }
+    {
+        match self.value("admission") {
+            Some(value) => value != "skip",
+            None => false,
+        }
+    }
+
+    fn is_since(&self) -> bool
+        ensures { result ≡ is_since (value_of self.now (codes "since")) }
+    {
+        match self.value("since") {
+            Some(value) => is_long_decimal(value.as_bytes()),
+            None => false,
+        }
+    }
+
+    /// The first parameter whose value isn't taken, at the feed of events or elsewhere.
+    #[tactic(auto, unfolding(crate::specs::Queries::bad_parameter))]
+    pub fn bad_parameter(&self, feed: bool) -> Option<&'static str>
+        ensures { option_copied result ≡ bad_parameter feed self.now }
+    {
+        if self.is_other_admission() {
+            Some("admission")
+        } else if feed && !self.is_since() {
+            Some("since")
+        } else if self.is_given("watch") {
+            Some("watch")
+        } else if self.is_given("fieldSelector") {
+            Some("fieldSelector")
+        } else if self.is_given("dryRun") {
+            Some("dryRun")
+        } else if self.is_given("continue") {
+            Some("continue")
+        } else {
+            None
+        }
+    }
 }
 
-/// Whether a parameter has a value that isn't empty.
-pub fn is_given(alloc: Global, query: &str, name: &str) -> Result<bool, NoMemory>
-    ensures { IfOk result (λ given. given ≡ is_given (parameter name.now query.now)) }
+fn value_in<'a>(pairs: &'a [(Text, Text)], name: &str) -> Option<&'a str>
+    ensures { option_copied result ≡ value_of pairs.now name.now }
 {
-    match parameter(alloc, query, name)? {
-        Some(value) => Ok(!value.as_str().is_empty()),
-        None => Ok(false),
+    for pair in pairs {
+        if name == pair.0.as_str() {
+            return Some(pair.1.as_str());
+        }
     }
-}
-
-/// Whether the rules of admission that may be passed over are to be.
-pub fn is_skip(alloc: Global, query: &str) -> Result<bool, NoMemory>
-    ensures { IfOk result (λ skip. skip ≡ is_skip (parameter (codes "admission") query.now)) }
-{
-    match parameter(alloc, query, "admission")? {
-        Some(value) => Ok(value.as_str() == "skip"),
-        None => Ok(false),
-    }
-}
-
-fn is_other_admission(alloc: Global, query: &str) -> Result<bool, NoMemory>
-    ensures { IfOk result (λ other. other ≡ is_other_admission (parameter (codes "admission") query.now)) }
-{
-    match parameter(alloc, query, "admission")? {
-        Some(value) => Ok(value.as_str() != "skip"),
-        None => Ok(false),
-    }
-}
-
-fn is_since(alloc: Global, query: &str) -> Result<bool, NoMemory>
-    ensures { IfOk result (λ since. since ≡ is_since (parameter (codes "since") query.now)) }
-{
-    match parameter(alloc, query, "since")? {
-        Some(value) => Ok(is_decimal(value.as_bytes())),
-        None => Ok(false),
-    }
-}
-
-/// The first parameter whose value isn't taken, at the feed of events or elsewhere.
-#[tactic(auto, unfolding(crate::specs::Queries::bad_parameter))]
-pub fn bad_parameter(
-    alloc: Global,
-    feed: bool,
-    query: &str,
-) -> Result<Option<&'static str>, NoMemory>
-    ensures { IfOk result (λ name. option_copied name ≡ bad_parameter feed query.now) }
-{
-    if is_other_admission(alloc, query)? {
-        return Ok(Some("admission"));
-    }
-    if feed && !is_since(alloc, query)? {
-        return Ok(Some("since"));
-    }
-    if is_given(alloc, query, "watch")? {
-        return Ok(Some("watch"));
-    }
-    if is_given(alloc, query, "fieldSelector")? {
-        return Ok(Some("fieldSelector"));
-    }
-    if is_given(alloc, query, "dryRun")? {
-        return Ok(Some("dryRun"));
-    }
-    if is_given(alloc, query, "continue")? {
-        return Ok(Some("continue"));
-    }
-    Ok(None)
+    None
 }

@@ -1,8 +1,8 @@
 // Answers as replies.
-ghost use Rattle.std.specs.Prelude.{◌≡◌, [], IfOk};
+ghost use Rattle.std.specs.Prelude.{◌≡◌, [], IfOk, IfSome};
 ghost use Rattle.hx_model.specs.Bodies.{answer_code, answer_text};
 ghost use Rattle.hx_model.specs.Serving.{IsLegalAnswer};
-ghost use Rattle.hx_api.specs.Replies.{IsReplyTo};
+ghost use Rattle.hx_api.specs.Replies.{Carries, IsReplyTo};
 
 use hx_json::{write_gone, write_list, write_object, write_status};
 use hx_model::Answer;
@@ -45,7 +45,7 @@ fn body_of(alloc: Global, answer: &Answer) -> Result<Text, NoMemory>
     ensures { IfOk result (λ text. text ≡ answer_text answer.now) }
 {
     match answer {
-        Answer::One { object, .. } => write_object(alloc, object),
+        Answer::One { object, .. } => write_object(alloc, object.object()),
         Answer::Many {
             kind,
             objects,
@@ -56,16 +56,29 @@ fn body_of(alloc: Global, answer: &Answer) -> Result<Text, NoMemory>
     }
 }
 
+/// The reply that carries an answer. A body that was written already, as that of an object which a request stored, is handed in, and isn't written again.
+pub fn reply_to(alloc: Global, answer: &Answer, written: Option<Text>) -> Result<Reply, NoMemory>
+    requires legal { IsLegalAnswer answer.now }
+    requires written { IfSome written (λ body. body ≡ answer_text answer.now) }
+    ensures { IfOk result (Carries answer.now) }
+{
+    let body = match written {
+        Some(body) => body,
+        None => body_of(alloc, answer)?,
+    };
+    Ok(Reply {
+        status: status_of(answer),
+        body,
+    })
+}
+
 /// The reply that carries an answer, or the one for want of memory.
 pub fn write_answer(alloc: Global, answer: &Answer) -> Reply
     requires { IsLegalAnswer answer.now }
     ensures { IsReplyTo answer.now result }
 {
-    match body_of(alloc, answer) {
-        Ok(body) => Reply {
-            status: status_of(answer),
-            body,
-        },
+    match reply_to(alloc, answer, None) {
+        Ok(reply) => reply,
         Err(NoMemory) => Reply::no_memory(alloc),
     }
 }

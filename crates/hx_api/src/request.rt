@@ -1,12 +1,13 @@
 // Requests as asks.
 ghost use Rattle.std.specs.Prelude.{◌≡◌, ◌⊎◌, Ok, Err, true, IfOk, IfErr, OnOk};
 ghost use Rattle.hx_model.specs.Serving.{IsServedAsk, is_written};
-ghost use Rattle.hx_api.specs.Asks.{IsServedForm, ask_of, home, is_feed, is_served, place_for, told};
-ghost use Rattle.hx_api.specs.Paths.{IsPlaced, place_of};
+ghost use Rattle.hx_api.specs.Asks.{ask_of, namespace, is_feed, is_served, resource_for, ask_at};
+ghost use Rattle.hx_api.specs.Inside.{FitsScope, IsServedForm};
+ghost use Rattle.hx_api.specs.Paths.{resource_of};
 
 use crate::body::{create, replace};
-use crate::path::{Place, allows, decoded};
-use crate::query::{bad_parameter, cut, is_given, is_skip};
+use crate::query::{Query, cut};
+use crate::resource_path::{ResourcePath, allows, decoded};
 use crate::{Method, Routes};
 use hx_model::{Ask, Refusal};
 use hx_object::{Id, Kind, NoMemory, Text};
@@ -14,7 +15,7 @@ use std::alloc::Global;
 
 impl Routes {
     /// What a request asks, or the first refusal that holds. The bodies of `Get` and `Delete` are ignored.
-    #[tactic(auto, using(crate::proofs::Placed::placed), unfolding(crate::specs::Asks::ask_of))]
+    #[tactic(auto, using(crate::proofs::Scopes::fits_scope), unfolding(crate::specs::Asks::ask_of))]
     pub fn read_ask(
         &self,
         alloc: Global,
@@ -27,40 +28,45 @@ impl Routes {
         ensures served { IfOk result IsServedAsk }
     {
         let (path, query) = cut(target);
-        let place = self.place_for(alloc, method, path)?;
-        if let Some(name) = bad_parameter(alloc, is_feed(&place), query)? {
+        let resource = self.resource_for(alloc, method, path)?;
+        let query = Query::read(alloc, query)?;
+        if let Some(name) = query.bad_parameter(is_feed(&resource)) {
             let name = Text::of(alloc, name)?;
             return Err(Refusal::BadQuery { name });
         }
-        if !is_served(alloc, method, &place, query)? {
+        if !is_served(method, &resource, &query) {
             return Err(Refusal::NotServed);
         }
-        let skip = is_skip(alloc, query)?;
-        tell(alloc, method, place, skip, body)
+        ask_at(alloc, method, resource, query.is_skip(), body)
     }
 
-    /// The place of a request, its segments decoded, if the path is served and takes the method.
-    fn place_for(&self, alloc: Global, method: Method, path: &str) -> Result<Place<Text>, Refusal>
-        ensures ok { IfOk result (λ place. place_for method (place_of path.now) ≡ Ok place) }
-        ensures refused { IfErr result (λ refusal. (refusal ≡ Refusal.NoMemory) ⊎ (place_for method (place_of path.now) ≡ Err refusal)) }
+    /// The resource of a request, its segments decoded, if the path is served and takes the method.
+    fn resource_for(
+        &self,
+        alloc: Global,
+        method: Method,
+        path: &str,
+    ) -> Result<ResourcePath<Text>, Refusal>
+        ensures ok { IfOk result (λ resource. resource_for method (resource_of path.now) ≡ Ok resource) }
+        ensures refused { IfErr result (λ refusal. (refusal ≡ Refusal.NoMemory) ⊎ (resource_for method (resource_of path.now) ≡ Err refusal)) }
     {
-        let Some(place) = self.place_of(path) else {
+        let Some(resource) = self.resource_of(path) else {
             return Err(Refusal::NoPath);
         };
-        if !allows(&place, method) {
+        if !allows(&resource, method) {
             return Err(Refusal::NoMethod);
         }
-        match decoded(alloc, &place)? {
-            Some(place) => Ok(place),
+        match decoded(alloc, &resource)? {
+            Some(resource) => Ok(resource),
             None => Err(Refusal::BadPath),
         }
     }
 }
 
-fn is_feed(place: &Place<Text>) -> bool
-    ensures { result ≡ is_feed place.now }
+fn is_feed(resource: &ResourcePath<Text>) -> bool
+    ensures { result ≡ is_feed resource.now }
 {
-    matches!(place, Place::Events)
+    matches!(resource, ResourcePath::Events)
 }
 
 /// Whether objects of the kind may be stored.
@@ -77,27 +83,22 @@ fn is_written(kind: Kind) -> bool
 }
 
 /// Whether the request's form is served.
-fn is_served(
-    alloc: Global,
-    method: Method,
-    place: &Place<Text>,
-    query: &str,
-) -> Result<bool, NoMemory>
-    ensures { IfOk result (λ served. served ≡ is_served method place.now query.now) }
+fn is_served(method: Method, resource: &ResourcePath<Text>, query: &Query) -> bool
+    ensures { result ≡ is_served method resource.now query.now }
 {
-    match (method, place) {
-        (Method::Get, Place::Events) => Ok(false),
-        (Method::Get, Place::Collection { .. }) => Ok(!is_given(alloc, query, "labelSelector")?),
-        (Method::Post, Place::Collection { kind, .. }) => Ok(is_written(*kind)),
-        (Method::Put, Place::Object { kind, .. }) => Ok(is_written(*kind)),
-        (Method::Delete, Place::Object { kind, .. }) => Ok(*kind != Kind::Namespace),
-        _ => Ok(true),
+    match (method, resource) {
+        (Method::Get, ResourcePath::Events) => false,
+        (Method::Get, ResourcePath::Collection { .. }) => !query.is_given("labelSelector"),
+        (Method::Post, ResourcePath::Collection { kind, .. }) => is_written(*kind),
+        (Method::Put, ResourcePath::Object { kind, .. }) => is_written(*kind),
+        (Method::Delete, ResourcePath::Object { kind, .. }) => *kind != Kind::Namespace,
+        _ => true,
     }
 }
 
 /// The namespace, empty where there is none.
-fn home(alloc: Global, ns: Option<Text>) -> Result<Text, NoMemory>
-    ensures { IfOk result (λ text. text ≡ home ns) }
+fn namespace(alloc: Global, ns: Option<Text>) -> Result<Text, NoMemory>
+    ensures { IfOk result (λ text. text ≡ namespace ns) }
 {
     match ns {
         Some(ns) => Ok(ns),
@@ -105,38 +106,38 @@ fn home(alloc: Global, ns: Option<Text>) -> Result<Text, NoMemory>
     }
 }
 
-/// The ask of a method at a place that takes it.
-fn tell(
+/// The ask of a method at a resource that takes it.
+fn ask_at(
     alloc: Global,
     method: Method,
-    place: Place<Text>,
+    resource: ResourcePath<Text>,
     skip: bool,
     body: &[u8],
 ) -> Result<Ask, Refusal>
-    requires placed { IsPlaced place }
-    requires formed { IsServedForm method place }
-    ensures ok { IfOk result (λ ask. told method place skip body.now ≡ Ok ask) }
-    ensures refused { IfErr result (λ refusal. (refusal ≡ Refusal.NoMemory) ⊎ (told method place skip body.now ≡ Err refusal)) }
+    requires scope { FitsScope resource }
+    requires formed { IsServedForm method resource }
+    ensures ok { IfOk result (λ ask. ask_at method resource skip body.now ≡ Ok ask) }
+    ensures refused { IfErr result (λ refusal. (refusal ≡ Refusal.NoMemory) ⊎ (ask_at method resource skip body.now ≡ Err refusal)) }
     ensures served { IfOk result IsServedAsk }
 {
-    match (method, place) {
-        (Method::Get, Place::Collection { kind, ns }) => Ok(Ask::List { kind, ns }),
-        (Method::Get, Place::Object { kind, ns, name }) => {
-            let ns = home(alloc, ns)?;
+    match (method, resource) {
+        (Method::Get, ResourcePath::Collection { kind, ns }) => Ok(Ask::List { kind, ns }),
+        (Method::Get, ResourcePath::Object { kind, ns, name }) => {
+            let ns = namespace(alloc, ns)?;
             Ok(Ask::Get {
                 id: Id { kind, ns, name },
             })
         }
-        (Method::Post, Place::Collection { kind, ns }) => {
-            let ns = home(alloc, ns)?;
+        (Method::Post, ResourcePath::Collection { kind, ns }) => {
+            let ns = namespace(alloc, ns)?;
             create(alloc, kind, &ns, skip, body)
         }
-        (Method::Put, Place::Object { kind, ns, name }) => {
-            let ns = home(alloc, ns)?;
+        (Method::Put, ResourcePath::Object { kind, ns, name }) => {
+            let ns = namespace(alloc, ns)?;
             replace(alloc, &Id { kind, ns, name }, skip, body)
         }
-        (Method::Delete, Place::Object { kind, ns, name }) => {
-            let ns = home(alloc, ns)?;
+        (Method::Delete, ResourcePath::Object { kind, ns, name }) => {
+            let ns = namespace(alloc, ns)?;
             Ok(Ask::Delete {
                 id: Id { kind, ns, name },
                 skip,

@@ -1,11 +1,11 @@
 // The table of routes.
 ghost use Rattle.std.specs.Prelude.{◌≡◌, ◌≤◌, IfOk, OnOk, option_map};
 ghost use Rattle.std.specs.List.{slice_get};
-ghost use Rattle.hx_api.specs.Paths.{as_sent, parts_of, place_of};
-ghost use Rattle.hx_api.specs.Table.{added, core_rows, group_rows, group_version, place_behind, place_on};
-ghost use Rattle.hx_api.specs.Versions.{parts_of_version};
+ghost use Rattle.hx_api.specs.Paths.{parts_of, resource_of};
+ghost use Rattle.hx_api.specs.Inside.{as_sent, parts_of_version};
+ghost use Rattle.hx_api.specs.InsideRoutes.{added, core_rows, group_rows, group_version, resource_behind, resource_on};
 
-use crate::path::Place;
+use crate::resource_path::ResourcePath;
 use crate::served::{Version, cluster_object, collection, collection_in, object_in};
 use hx_object::NoMemory;
 use matchit::Router;
@@ -44,7 +44,7 @@ pub struct Routes {
 
 impl Model for Routes {
     ghost use Rattle.std.specs.Prelude.{◌≡◌};
-    ghost use Rattle.hx_api.specs.Table.{table_rows};
+    ghost use Rattle.hx_api.specs.InsideRoutes.{table_rows};
 
     ghost Value = { Unit {0} };
 
@@ -62,11 +62,11 @@ impl Routes {
     }
 
     /// What a path names, its segments as they were sent.
-    pub(crate) fn place_of<'a>(&self, path: &'a str) -> Option<Place<&'a str>>
-        ensures { option_map as_sent result ≡ place_of path.now }
+    pub(crate) fn resource_of<'a>(&self, path: &'a str) -> Option<ResourcePath<&'a str>>
+        ensures { option_map as_sent result ≡ resource_of path.now }
     {
         match self.router.at(path) {
-            Ok(found) => place_on(*found.value, path),
+            Ok(found) => resource_on(*found.value, path),
             Err(_) => None,
         }
     }
@@ -74,11 +74,14 @@ impl Routes {
 
 // ---- the table
 
-#[tactic(auto, unfolding(crate::specs::Table::added))]
+#[tactic(auto, unfolding(crate::specs::InsideRoutes::added))]
 fn add(router: &mut Router<Route>, path: &str, route: Route) -> Result<(), NoMemory>
     ensures { OnOk result (router.new ≡ added path.now route router.old) }
 {
-    router.insert(path, route).map_err(|_| NoMemory)
+    match router.insert(path, route) {
+        Ok(()) => Ok(()),
+        Err(_) => Err(NoMemory),
+    }
 }
 
 fn core_routes(alloc: Global) -> Result<Router<Route>, NoMemory>
@@ -145,13 +148,13 @@ fn part(path: &str, index: usize) -> Option<&str>
 }
 
 /// What a path of this route names.
-fn place_on(route: Route, path: &str) -> Option<Place<&str>>
-    ensures { option_map as_sent result ≡ place_on route (parts_of path.now) }
+fn resource_on(route: Route, path: &str) -> Option<ResourcePath<&str>>
+    ensures { option_map as_sent result ≡ resource_on route (parts_of path.now) }
 {
     match route {
-        Route::Core(form) => place_behind(Version::Core { version: "v1" }, form, path, 3),
-        Route::Group(form) => place_behind(group_version(path)?, form, path, 4),
-        Route::Events => Some(Place::Events),
+        Route::Core(form) => resource_behind(Version::Core { version: "v1" }, form, path, 3),
+        Route::Group(form) => resource_behind(group_version(path)?, form, path, 4),
+        Route::Events => Some(ResourcePath::Events),
     }
 }
 
@@ -164,14 +167,14 @@ fn group_version(path: &str) -> Option<Version<'_>>
 }
 
 /// What the parts from an index on name, which stand behind a version.
-fn place_behind<'a>(
+fn resource_behind<'a>(
     version: Version<'a>,
     form: Form,
     path: &'a str,
     index: usize,
-) -> Option<Place<&'a str>>
+) -> Option<ResourcePath<&'a str>>
     requires { index ≤ 4 }
-    ensures { option_map as_sent result ≡ place_behind (parts_of_version version.entry) form (parts_of path.now) index }
+    ensures { option_map as_sent result ≡ resource_behind (parts_of_version version.entry) form (parts_of path.now) index }
 {
     match form {
         Form::Collection => collection(version, part(path, index)?),

@@ -1,9 +1,9 @@
 // The kinds that are served under a version, and the places of their objects.
 ghost use Rattle.std.specs.Prelude.{◌≡◌, option_map};
-ghost use Rattle.hx_api.specs.Paths.{as_sent, cluster_kind, cluster_object, collection, collection_in, is_served_under, kind_under, namespaced_kind, object_in};
-ghost use Rattle.hx_api.specs.Versions.{parts_of_version};
+ghost use Rattle.hx_api.specs.Paths.{cluster_kind, cluster_object, collection, collection_in, is_served_under, kind_under, namespaced_kind, object_in};
+ghost use Rattle.hx_api.specs.Inside.{as_sent, parts_of_version};
 
-use crate::path::Place;
+use crate::resource_path::ResourcePath;
 use hx_object::Kind;
 
 /// The parts of an `apiVersion` in a path. The core group's has no group.
@@ -65,25 +65,25 @@ fn namespaced_kind(version: Version<'_>, plural: &str) -> Option<Kind>
 
 // ---- places
 
-pub fn collection<'a>(version: Version<'a>, plural: &'a str) -> Option<Place<&'a str>>
+pub fn collection<'a>(version: Version<'a>, plural: &'a str) -> Option<ResourcePath<&'a str>>
     ensures { option_map as_sent result ≡ collection (parts_of_version version.entry) plural.now }
 {
     let kind = kind_under(version, plural)?;
-    Some(Place::Collection { kind, ns: None })
+    Some(ResourcePath::Collection { kind, ns: None })
 }
 
 pub fn cluster_object<'a>(
     version: Version<'a>,
     plural: &'a str,
     name: &'a str,
-) -> Option<Place<&'a str>>
+) -> Option<ResourcePath<&'a str>>
     ensures { option_map as_sent result ≡ cluster_object (parts_of_version version.entry) plural.now name.now }
 {
     if name.is_empty() {
         return None;
     }
     let kind = cluster_kind(version, plural)?;
-    Some(Place::Object {
+    Some(ResourcePath::Object {
         kind,
         ns: None,
         name,
@@ -94,14 +94,14 @@ pub fn collection_in<'a>(
     version: Version<'a>,
     ns: &'a str,
     plural: &'a str,
-) -> Option<Place<&'a str>>
+) -> Option<ResourcePath<&'a str>>
     ensures { option_map as_sent result ≡ collection_in (parts_of_version version.entry) ns.now plural.now }
 {
     if ns.is_empty() {
         return None;
     }
     let kind = namespaced_kind(version, plural)?;
-    Some(Place::Collection { kind, ns: Some(ns) })
+    Some(ResourcePath::Collection { kind, ns: Some(ns) })
 }
 
 pub fn object_in<'a>(
@@ -109,14 +109,14 @@ pub fn object_in<'a>(
     ns: &'a str,
     plural: &'a str,
     name: &'a str,
-) -> Option<Place<&'a str>>
+) -> Option<ResourcePath<&'a str>>
     ensures { option_map as_sent result ≡ object_in (parts_of_version version.entry) ns.now plural.now name.now }
 {
     if ns.is_empty() || name.is_empty() {
         return None;
     }
     let kind = namespaced_kind(version, plural)?;
-    Some(Place::Object {
+    Some(ResourcePath::Object {
         kind,
         ns: Some(ns),
         name,

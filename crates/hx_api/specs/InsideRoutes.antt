@@ -1,6 +1,6 @@
 -- The table of routes.
 --     table_rows               the rows that the router holds
---     place_on route parts     what the parts of a path name that took a route
+--     resource_on route parts     what the parts of a path name that took a route
 use Rattle.std.specs.Prelude.{ℕ, ◌+◌, List, [], ◌∷◌, codes, Option, Some, option_and_then, option_map, Result, Ok, Err}
 use Rattle.std.specs.List.{slice_get}
 use Rattle.matchit.specs.Rows.{RowsOf}
@@ -9,8 +9,8 @@ use Rattle.matchit.specs.Router.{RouteOf, route_from}
 use Rattle.matchit.specs.Route.{Scan, parse_route}
 use Rattle.matchit.specs.declared.error.InsertError.{InsertError}
 use Rattle.hx_api.specs.Paths.{cluster_object, collection, collection_in, object_in}
-use Rattle.hx_api.specs.declared.path.Place.{Place}
-use Rattle.hx_api.specs.declared.path.Place.TheVariants as place
+use Rattle.hx_api.specs.declared.resource_path.ResourcePath.{ResourcePath}
+use Rattle.hx_api.specs.declared.resource_path.ResourcePath.TheVariants as resource
 use Rattle.hx_api.specs.declared.routes.Form.{Form}
 use Rattle.hx_api.specs.declared.routes.Form.TheVariants.{Collection, Object, CollectionIn, ObjectIn}
 use Rattle.hx_api.specs.declared.routes.Route.{Route}
@@ -62,17 +62,17 @@ abbrev pub group_version : List (List ℕ) → Option (List (List ℕ))
 group_version parts = option_and_then (λ group. option_map (λ version. group ∷ version ∷ []) (slice_get parts 3)) (slice_get parts 2)
 
 -- what the parts from an index on name, which stand behind a version
-abbrev pub place_behind : List (List ℕ) → Form → List (List ℕ) → ℕ → Option (Place (List ℕ))
-place_behind version Collection parts index = option_and_then (λ plural. collection version plural) (slice_get parts index)
-place_behind version Object parts index =
+abbrev pub resource_behind : List (List ℕ) → Form → List (List ℕ) → ℕ → Option (ResourcePath (List ℕ))
+resource_behind version Collection parts index = option_and_then (λ plural. collection version plural) (slice_get parts index)
+resource_behind version Object parts index =
     option_and_then (λ plural. option_and_then (λ name. cluster_object version plural name) (slice_get parts (index + 1))) (slice_get parts index)
-place_behind version CollectionIn parts index =
+resource_behind version CollectionIn parts index =
     option_and_then (λ ns. option_and_then (λ plural. collection_in version ns plural) (slice_get parts (index + 2))) (slice_get parts (index + 1))
-place_behind version ObjectIn parts index =
+resource_behind version ObjectIn parts index =
     option_and_then (λ ns. option_and_then (λ plural. option_and_then (λ name. object_in version ns plural name) (slice_get parts (index + 3))) (slice_get parts (index + 2))) (slice_get parts (index + 1))
 
 -- what the parts of a path name that took a route
-abbrev pub place_on : Route → List (List ℕ) → Option (Place (List ℕ))
-place_on (Core form) parts = place_behind core_version form parts 3
-place_on (Group form) parts = option_and_then (λ version. place_behind version form parts 4) (group_version parts)
-place_on Events parts = Some place.Events
+abbrev pub resource_on : Route → List (List ℕ) → Option (ResourcePath (List ℕ))
+resource_on (Core form) parts = resource_behind core_version form parts 3
+resource_on (Group form) parts = option_and_then (λ version. resource_behind version form parts 4) (group_version parts)
+resource_on Events parts = Some resource.Events

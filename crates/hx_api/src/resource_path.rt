@@ -1,6 +1,7 @@
 // What paths name, and the methods that are taken there.
 ghost use Rattle.std.specs.Prelude.{◌≡◌, IfOk, option_copied};
-ghost use Rattle.hx_api.specs.Paths.{allows, as_sent, decoded_place, home_text, segment_text};
+ghost use Rattle.hx_api.specs.Paths.{allows, decoded_resource, namespace_text, segment_text};
+ghost use Rattle.hx_api.specs.Inside.{as_sent};
 
 use crate::Method;
 use hx_object::{Kind, NoMemory, Text};
@@ -9,7 +10,7 @@ use std::alloc::Global;
 
 /// What a path names. A segment is a `&str` as it was sent, and a `Text` once it is decoded.
 #[derive(Drop)]
-pub enum Place<S> {
+pub enum ResourcePath<S> {
     /// The feed of events.
     Events,
     /// The objects of a kind, in a namespace or in all of them.
@@ -18,16 +19,16 @@ pub enum Place<S> {
     Object { kind: Kind, ns: Option<S>, name: S },
 }
 
-/// Whether a place takes a method.
-pub fn allows(place: &Place<&str>, method: Method) -> bool
-    ensures { result ≡ allows (as_sent place.now) method }
+/// Whether a resource takes a method.
+pub fn allows(resource: &ResourcePath<&str>, method: Method) -> bool
+    ensures { result ≡ allows (as_sent resource.now) method }
 {
-    match (place, method) {
-        (Place::Events, Method::Get) => true,
-        (Place::Collection { .. }, Method::Get) => true,
-        (Place::Collection { kind, ns: None }, Method::Post) => kind.is_in_cluster(),
-        (Place::Collection { ns: Some(_), .. }, Method::Post) => true,
-        (Place::Object { .. }, Method::Get | Method::Put | Method::Delete) => true,
+    match (resource, method) {
+        (ResourcePath::Events, Method::Get) => true,
+        (ResourcePath::Collection { .. }, Method::Get) => true,
+        (ResourcePath::Collection { kind, ns: None }, Method::Post) => kind.is_in_cluster(),
+        (ResourcePath::Collection { ns: Some(_), .. }, Method::Post) => true,
+        (ResourcePath::Object { .. }, Method::Get | Method::Put | Method::Delete) => true,
         _ => false,
     }
 }
@@ -44,8 +45,8 @@ fn segment_text(alloc: Global, segment: &str) -> Result<Option<Text>, NoMemory>
 }
 
 /// The text of a segment that may be absent. `None` where there is one that isn't UTF-8.
-fn home_text(alloc: Global, segment: Option<&str>) -> Result<Option<Option<Text>>, NoMemory>
-    ensures { IfOk result (λ text. text ≡ home_text (option_copied segment.entry)) }
+fn namespace_text(alloc: Global, segment: Option<&str>) -> Result<Option<Option<Text>>, NoMemory>
+    ensures { IfOk result (λ text. text ≡ namespace_text (option_copied segment.entry)) }
 {
     match segment {
         None => Ok(Some(None)),
@@ -56,24 +57,27 @@ fn home_text(alloc: Global, segment: Option<&str>) -> Result<Option<Option<Text>
     }
 }
 
-/// The place with its segments decoded, or `None` where one isn't UTF-8.
-pub fn decoded(alloc: Global, place: &Place<&str>) -> Result<Option<Place<Text>>, NoMemory>
-    ensures { IfOk result (λ p. p ≡ decoded_place (as_sent place.now)) }
+/// The resource with its segments decoded, or `None` where one isn't UTF-8.
+pub fn decoded(
+    alloc: Global,
+    resource: &ResourcePath<&str>,
+) -> Result<Option<ResourcePath<Text>>, NoMemory>
+    ensures { IfOk result (λ p. p ≡ decoded_resource (as_sent resource.now)) }
 {
-    match place {
-        Place::Events => Ok(Some(Place::Events)),
-        Place::Collection { kind, ns } => match home_text(alloc, *ns)? {
-            Some(ns) => Ok(Some(Place::Collection { kind: *kind, ns })),
+    match resource {
+        ResourcePath::Events => Ok(Some(ResourcePath::Events)),
+        ResourcePath::Collection { kind, ns } => match namespace_text(alloc, *ns)? {
+            Some(ns) => Ok(Some(ResourcePath::Collection { kind: *kind, ns })),
             None => Ok(None),
         },
-        Place::Object { kind, ns, name } => {
-            let Some(ns) = home_text(alloc, *ns)? else {
+        ResourcePath::Object { kind, ns, name } => {
+            let Some(ns) = namespace_text(alloc, *ns)? else {
                 return Ok(None);
             };
             let Some(name) = segment_text(alloc, name)? else {
                 return Ok(None);
             };
-            Ok(Some(Place::Object {
+            Ok(Some(ResourcePath::Object {
                 kind: *kind,
                 ns,
                 name,

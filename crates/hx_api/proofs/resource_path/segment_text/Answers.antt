@@ -2,7 +2,7 @@ use Rattle.std.proofs.Common.{◌∙◌, ap, sym, subst}
 use Rattle.std.specs.Str.{IsUtf8}
 use Rattle.percent_encoding.specs.Percent.{percent_decode}
 use Rattle.hx_api.proofs.Segments.{taken, refused}
-use Rattle.hx_api.proofs.path.segment_text.Goals as goal
+use Rattle.hx_api.proofs.resource_path.segment_text.Goals as goal
 
 pub returns-in_ok-into_owned-in-Ok : goal.returns-in_ok-into_owned-in-Ok
 returns-in_ok-into_owned-in-Ok c =
