@@ -1,3 +1,7 @@
-pub mod Counts
-pub mod Entries
+pub mod Apart
+pub mod ByKind
+pub mod Edits
+pub mod Finding
 pub mod Listing
+pub mod Waiting
+pub mod Writing

@@ -1,29 +1,56 @@
--- What a sort of the listed objects gives: the rows that are listed.
-use Rattle.std.proofs.Common.{◌≡◌, ℕ, ◌+◌, ◌<◌, Bool, true, false, cond, Option, Some, List, [], ◌∷◌, filter, map, length, get_or, Ordering, Less, Equal, Greater, is_lt, refl, sym, ap, subst, ◌∙◌, arith, true≢false}
+-- What a sort of the listed objects gives: the objects that are listed.
+use Rattle.std.proofs.Common.{◌≡◌, ℕ, ◌+◌, ◌-◌, ◌<◌, ◌==◌, Bool, true, false, cond, ◌&&◌, Option, Some, None, List, [], ◌∷◌, filter, map, length, get_or, Ordering, Less, Equal, Greater, is_eq, is_lt, refl, sym, ap, subst, ◌∙◌, arith, true≢false, eqb-true, eq-eqb}
+use Rattle.std.specs.Prelude.{option_and_then, slice_get}
 use Rattle.std.specs.Ordering.{ordering_reverse}
+use Rattle.std.specs.Option.{option_map_or}
 use Rattle.std.specs.List.{AllByRecursion, IsDistinct}
 use Rattle.std.specs.List.Sorted.{IsPermutation, IsSortedBy, IsSortedByKey, IsStrictlySortedBy}
+use Rattle.std.specs.Str.{bytes_eq}
 use Rattle.std.specs.Borrow.{Bor}
-use Rattle.std.specs.Cmp.{IsStrictWeakOrder}
+use Rattle.std.specs.Cmp.{IsStrictWeakOrder, IsEquivalence, both_ways}
 use Rattle.std.specs.Fn.{Called, Mut, ComparesAs}
 use lib.ListN.{length-map}
-use Rattle.std.specs.Map.{keys_of, values_of, lookup}
-use Rattle.std.proofs.lemmas.Bool.{and_from}
+use Rattle.std.specs.Map.{keys_of, lookup}
+use Rattle.std.proofs.lemmas.Bool.{and_from, and_parts}
 use Rattle.std.proofs.lemmas.List.{get_or-map}
 use Rattle.std.proofs.lemmas.List.Sorted.{IsPermutation-map, ranks_by}
 use Rattle.std.proofs.lemmas.Fn.{always_returns_same}
-use Rattle.std.proofs.lemmas.Map.Entries.{option_filter, lookup-filter-values}
-use Rattle.std.proofs.lemmas.Map.Keys.{IsDistinct-head, IsDistinct-tail, IsDistinct-cons, IsDistinct-IsPermutation, apart_from_distinct, sorted_from_all_adjacent, sorted_head, sorted_tail}
+use Rattle.std.proofs.lemmas.Map.Entries.{option_filter}
+use Rattle.std.proofs.lemmas.Map.Keys.{IsDistinct-cons, IsDistinct-IsPermutation, apart_from_distinct, sorted_from_all_adjacent, sorted_head, sorted_tail}
+use Rattle.std.proofs.lemmas.Slice.Eq.{bytes_eq-Decides}
 use Rattle.indexmap.proofs.MapLemmas.{lookup_permutation}
+use Rattle.hx_object.specs.Kinds.{number_of}
+use Rattle.hx_object.specs.declared.kind.Kind.{Kind}
 use Rattle.hx_object.specs.declared.object.Id.{Id}
 use Rattle.hx_object.specs.declared.object.Object.{Object}
 use Rattle.hx_object.specs.Order.{id_cmp}
-use Rattle.hx_model.specs.State.{row_of, is_below_all, ascends}
-use Rattle.hx_model.proofs.Rows.{id_total, same_from_Equal, same_rows, ascends-filter, row_of-filter, row_of-rows_from, ascends-rows_from}
-use Rattle.hx_store.specs.Inside.{AreKeyed, id_test, rows_of}
-use Rattle.hx_store.proofs.Entries.{id_laws, id_test-same}
+use Rattle.hx_object.specs.contracts.object.IdPartialEq.TheImpl as id_eq
+use Rattle.hx_object.specs.contracts.object.IdEq.TheImpl.Laws.{laws-law}
+use Rattle.hx_object.specs.contracts.object.IdOrd.TheImpl.Laws.{matches_eq-law}
+use Rattle.hx_object.proofs.Identities.{derived_cmp}
+use Rattle.hx_model.specs.State.{Objects, same_id, object_at, is_below_all, ascends}
+use Rattle.hx_model.specs.Answers.{is_listed}
+use Rattle.hx_model.proofs.Objects.{id_total, same_id-cmp, same_from_Equal, same_rows, ascends-filter, object_at-filter, ascends-objects_from}
+use Rattle.hx_store.specs.Places.{IsSound, found, kind_at, place_in, place_of, place_at, shelf_in, objects_in, objects_under, objects_listed, all_objects, objects_at}
+use Rattle.hx_store.specs.declared.shelf.Shelf.{Shelf}
+use Rattle.hx_store.specs.declared.shelves.Shelves.{Shelves}
+use Rattle.hx_store.specs.declared.places.Places.{Places}
+use Rattle.hx_store.proofs.Finding.{id_of, found_in, found_of, found_at, own_in}
+use Rattle.hx_store.proofs.Apart.{AreApart, shelf_apart, shelves_apart}
 
-abbrev ids : List Object → List Id
+-- whether two identities are one, as maps test it
+id_test : Id → Id → Bool
+id_test = (id_eq.ghosts).eq
+
+id_laws : IsEquivalence id_test
+unfolding id_test
+id_laws = laws-law
+
+id_test-same : (a b : Id) → id_test a b ≡ same_id a b
+unfolding id_test
+id_test-same a b = matches_eq-law a b ∙ ap is_eq (derived_cmp a b) ∙ sym (same_id-cmp a b)
+
+abbrev pub ids : List Object → List Id
 ids xs = map (λ x. x.id) xs
 
 -- objects with their own keys
@@ -34,54 +61,21 @@ keys-pairs : (xs : List Object) → keys_of (pairs xs) ≡ ids xs
 keys-pairs [] = refl
 keys-pairs (x ∷ xs) = ap (λ l. x.id ∷ l) (keys-pairs xs)
 
-lookup-pairs : (q : Id) (xs : List Object) → lookup (id_test q) (pairs xs) ≡ row_of xs q
+lookup-pairs : (q : Id) (xs : List Object) → lookup (id_test q) (pairs xs) ≡ object_at xs q
 lookup-pairs q [] = refl
 lookup-pairs q (x ∷ xs) = λ i. cond {A = Option Object} (id_test-same q x.id i) (Some x) (lookup-pairs q xs i)
 
-filter-pairs : (p : Object → Bool) (xs : List Object) → filter (λ e. p e.1) (pairs xs) ≡ pairs (filter p xs)
-filter-pairs p [] = refl
-filter-pairs p (x ∷ xs) =
-    elim (p x) as (λ b. cond b ((x.id, x) ∷ filter (λ e. p e.1) (pairs xs)) (filter (λ e. p e.1) (pairs xs)) ≡ pairs (cond b (x ∷ filter p xs) (filter p xs))) [
-      | true ↦ ap (λ l. (x.id, x) ∷ l) (filter-pairs p xs)
-      | false ↦ filter-pairs p xs
-    ]
-
--- ---- identities that differ still do in a filter
-
-apart-filter : (p : Object → Bool) (k : Id) (xs : List Object) → AllByRecursion (λ y. id_test k y ≡ false) (ids xs) → AllByRecursion (λ y. id_test k y ≡ false) (ids (filter p xs))
-apart-filter p k [] apart = tt
-apart-filter p k (x ∷ xs) apart =
-    elim (p x) as (λ b. AllByRecursion (λ y. id_test k y ≡ false) (ids (cond b (x ∷ filter p xs) (filter p xs)))) [
-      | true ↦ (apart.0, apart-filter p k xs apart.1)
-      | false ↦ apart-filter p k xs apart.1
-    ]
-
-distinct-filter : (p : Object → Bool) (xs : List Object) → IsDistinct id_test (ids xs) → IsDistinct id_test (ids (filter p xs))
-distinct-filter p [] distinct = distinct
-distinct-filter p (x ∷ xs) distinct =
-    let rest = distinct-filter p xs (IsDistinct-tail id_test x.id (ids xs) distinct) in
-    elim (p x) as (λ b. IsDistinct id_test (ids (cond b (x ∷ filter p xs) (filter p xs)))) [
-      | true ↦ IsDistinct-cons id_test x.id (ids (filter p xs)) (apart-filter p x.id xs (IsDistinct-head id_test x.id (ids xs) distinct)) rest
-      | false ↦ rest
-    ]
-
--- ---- the same objects are found in another order, and after a filter
+-- ---- the same objects are found in another order
 
 distinct-permutation : (xs ys : List Object) → IsPermutation xs ys → IsDistinct id_test (ids xs) → IsDistinct id_test (ids ys)
 distinct-permutation xs ys moved distinct = IsDistinct-IsPermutation id_test id_laws.symm (ids xs) (ids ys) (IsPermutation-map (λ x. x.id) xs ys moved) distinct
 
-row_of-permutation : (xs ys : List Object) (q : Id) → IsPermutation xs ys → IsDistinct id_test (ids xs) → row_of ys q ≡ row_of xs q
-row_of-permutation xs ys q moved distinct =
+object_at-permutation : (xs ys : List Object) (q : Id) → IsPermutation xs ys → IsDistinct id_test (ids xs) → object_at ys q ≡ object_at xs q
+object_at-permutation xs ys q moved distinct =
     let apart = subst (IsDistinct id_test) (sym (keys-pairs ys)) (distinct-permutation xs ys moved distinct) in
     sym (lookup-pairs q ys)
     ∙ lookup_permutation id_laws (pairs xs) (pairs ys) (IsPermutation-map (λ x. (x.id, x)) xs ys moved) apart (id_test q) (id_laws.congr q)
     ∙ lookup-pairs q xs
-
-row_of-kept : (p : Object → Bool) (xs : List Object) (q : Id) → IsDistinct id_test (ids xs) → row_of (filter p xs) q ≡ option_filter p (row_of xs q)
-row_of-kept p xs q distinct =
-    sym (lookup-pairs q (filter p xs)) ∙ ap (lookup (id_test q)) (sym (filter-pairs p xs))
-    ∙ lookup-filter-values id_laws p q (pairs xs) (subst (IsDistinct id_test) (sym (keys-pairs xs)) distinct)
-    ∙ ap (option_filter p) (lookup-pairs q xs)
 
 -- ---- a sort of objects whose identities differ puts them in ascending order
 
@@ -122,17 +116,96 @@ pub sorted_by_ids : {F : Type 0} {g : Mut F (Bor Object × (Bor Object × Unit {
 sorted_by_ids {g = g} {f = f} xs up says = up (λ x y. is_lt (id_cmp x.id y.id)) (ranks_by id_total (λ (x : Object). x.id))
     (always_returns_same g (λ a r. is_lt r ≡ is_lt (id_cmp a.0.now.id a.1.0.now.id)) f (λ a r f' k. (ap is_lt (says a r f' k).0, (says a r f' k).1)))
 
--- the sort of what is listed is what is listed of the rows
-pub listed : (p : Object → Bool) (es : List (Id × Object)) (ys : List Object) → AreKeyed es → IsDistinct id_test (keys_of es)
-    → IsPermutation (filter p (values_of es)) ys → IsSortedByKey (λ x. x.id) id_cmp ys → ys ≡ filter p (rows_of es)
-listed p es ys keyed distinct moved sorted =
-    let xs = values_of es in
-    let apart : IsDistinct id_test (ids xs) = subst (IsDistinct id_test) (own_keys es keyed) distinct in
-    let apart_in : IsDistinct id_test (ids (filter p xs)) = distinct-filter p xs apart in
-    same_rows ys (filter p (rows_of es)) (ascends-sort ys sorted (distinct-permutation (filter p xs) ys moved apart_in)) (ascends-filter p (rows_of es) (ascends-rows_from xs)) (λ q.
-    row_of-permutation (filter p xs) ys q moved apart_in ∙ row_of-kept p xs q apart
-    ∙ ap (option_filter p) (sym (row_of-rows_from xs q)) ∙ sym (row_of-filter p (rows_of es) q (ascends-rows_from xs)))
+distinct-apart : (xs : List Object) → AreApart xs → IsDistinct id_test (ids xs)
+unfolding IsDistinct
+distinct-apart [] apart = tt
+distinct-apart (x ∷ xs) apart = IsDistinct-cons id_test x.id (ids xs) (others xs apart.0) (distinct-apart xs apart.1)
   where
-    own_keys : (es : List (Id × Object)) → AreKeyed es → keys_of es ≡ ids (values_of es)
-    own_keys [] keyed = refl
-    own_keys (e ∷ es) keyed = λ i. sym keyed.0 i ∷ own_keys es keyed.1 i
+    others : (ys : List Object) → object_at ys x.id ≡ None → AllByRecursion (λ y. id_test x.id y ≡ false) (ids ys)
+    others [] none = tt
+    others (y ∷ ys) none = by (same_id x.id y.id) refl none (λ rest. others ys rest)
+      where
+        by : (b : Bool) → same_id x.id y.id ≡ b → cond b (Some y) (object_at ys x.id) ≡ None → (object_at ys x.id ≡ None → AllByRecursion (λ z. id_test x.id z ≡ false) (ids ys)) → AllByRecursion (λ z. id_test x.id z ≡ false) (ids (y ∷ ys))
+        by true e h rest = absurd (cc)
+        by false e h rest = (id_test-same x.id y.id ∙ e, rest h)
+
+-- the sort of objects that are found where a filter keeps what is found is the filter
+listed : (p : Object → Bool) (objects : Objects) (xs ys : List Object) → ascends objects ≡ true → AreApart xs → IsPermutation xs ys → IsSortedByKey (λ x. x.id) id_cmp ys
+    → ((q : Id) → object_at xs q ≡ option_filter p (object_at objects q)) → ys ≡ filter p objects
+listed p objects xs ys up apart moved sorted finds =
+    let distinct = distinct-apart xs apart in
+    same_rows ys (filter p objects) (ascends-sort ys sorted (distinct-permutation xs ys moved distinct)) (ascends-filter p objects up)
+    (λ q. object_at-permutation xs ys q moved distinct ∙ finds q ∙ sym (object_at-filter p objects q up))
+
+-- ---- what is listed of places
+
+-- an identity is of the kind, and lies in the namespace if one is asked for
+is_under : Kind → Option (List ℕ) → Id → Bool
+is_under kind ns q = (number_of q.kind == number_of kind) && option_map_or (bytes_eq q.ns) ns true
+
+and_true : (b : Bool) → (b && true) ≡ b
+and_true true = refl
+and_true false = refl
+
+flip_eqb : (a b : ℕ) → (a == b) ≡ (b == a)
+flip_eqb a b = both_ways (a == b) (b == a) (λ h. eq-eqb b a (sym (eqb-true a b h))) (λ h. eq-eqb a b (sym (eqb-true b a h)))
+
+same_then : (b : Bool) (u v : Option Object) → (b ≡ true → u ≡ v) → cond b u None ≡ cond b v None
+same_then true u v same = same refl
+same_then false u v same = refl
+
+none_then : (b : Bool) (v : Option Object) → (b ≡ true → v ≡ None) → None ≡ cond b v None
+none_then true v none = sym (none refl)
+none_then false v none = refl
+
+module _ (places : Places) (sound : IsSound places) (kind : Kind) where
+  own_kind : (s : Shelves) → kind_at places kind ≡ Some s → (n m : List ℕ) (x : Object) → found (place_of s n m) ≡ Some x → x.id ≡ id_of kind n m
+  own_kind s e n m x there = sound.own (id_of kind n m) x (ap (λ o. found (option_and_then (λ t. place_of t n m) o)) e ∙ there)
+
+  same_place : (o : Option Shelves) → kind_at places kind ≡ o → (q : Id) → (number_of q.kind == number_of kind) ≡ true → place_at places q ≡ option_and_then (λ s. place_of s q.ns q.name) o
+  same_place o e q same = ap (λ n. option_and_then (λ s. place_of s q.ns q.name) (slice_get places.kinds (n - 1))) (eqb-true (number_of q.kind) (number_of kind) same) ∙ ap (option_and_then (λ s. place_of s q.ns q.name)) e
+
+  finds : (ns : Option (List ℕ)) (o : Option Shelves) → kind_at places kind ≡ o → (q : Id) → object_at (option_map_or (objects_under ns) o []) q ≡ cond (is_under kind ns q) (found (place_at places q)) None
+  unfolding is_under
+  finds ns None e q = none_then (is_under kind ns q) (found (place_at places q)) (λ t. ap found (same_place None e q (and_parts (number_of q.kind == number_of kind) (option_map_or (bytes_eq q.ns) ns true) t).0))
+  finds None (Some s) e q =
+      found_of kind s (sound.distinct.1 (number_of kind - 1) s e) (own_kind s e) q
+      ∙ same_then (number_of q.kind == number_of kind) (found (place_of s q.ns q.name)) (found (place_at places q)) (λ t. ap found (sym (same_place (Some s) e q t)))
+      ∙ ap (λ b. cond b (found (place_at places q)) None) (sym (and_true (number_of q.kind == number_of kind)))
+  finds (Some ns) (Some s) e q = by (shelf_in s ns) refl
+    where
+      here : (number_of q.kind == number_of kind && bytes_eq q.ns ns) ≡ true → (o : Option Shelf) → shelf_in s ns ≡ o → place_at places q ≡ option_and_then (λ shelf. place_in shelf q.name) o
+      here t o at =
+          let parts = and_parts (number_of q.kind == number_of kind) (bytes_eq q.ns ns) t in
+          same_place (Some s) e q parts.0 ∙ ap (option_and_then (λ shelf. place_in shelf q.name)) (ap (shelf_in s) ((bytes_eq-Decides q.ns ns).0 parts.1) ∙ at)
+
+      by : (o : Option Shelf) → shelf_in s ns ≡ o → object_at (option_map_or objects_in o []) q ≡ cond (number_of q.kind == number_of kind && bytes_eq q.ns ns) (found (place_at places q)) None
+      by None at = none_then (number_of q.kind == number_of kind && bytes_eq q.ns ns) (found (place_at places q)) (λ t. ap found (here t None at))
+      by (Some shelf) at =
+          found_in kind ns shelf ((sound.distinct.1 (number_of kind - 1) s e).1 ns shelf at).0 (own_in kind s (sound.distinct.1 (number_of kind - 1) s e) (own_kind s e) ns shelf at) q
+          ∙ same_then (number_of q.kind == number_of kind && bytes_eq q.ns ns) (found (place_in shelf q.name)) (found (place_at places q)) (λ t. ap found (sym (here t (Some shelf) at)))
+
+  are_apart : (ns : Option (List ℕ)) (o : Option Shelves) → kind_at places kind ≡ o → AreApart (option_map_or (objects_under ns) o [])
+  are_apart ns None e = tt
+  are_apart None (Some s) e = shelves_apart kind s (sound.distinct.1 (number_of kind - 1) s e) (own_kind s e)
+  are_apart (Some ns) (Some s) e = by (shelf_in s ns) refl
+    where
+      by : (o : Option Shelf) → shelf_in s ns ≡ o → AreApart (option_map_or objects_in o [])
+      by None at = tt
+      by (Some shelf) at = shelf_apart kind ns shelf ((sound.distinct.1 (number_of kind - 1) s e).1 ns shelf at).0 (own_in kind s (sound.distinct.1 (number_of kind - 1) s e) (own_kind s e) ns shelf at)
+
+  -- what lies under the kind and the namespace is what a filter keeps
+  kept : (ns : Option (List ℕ)) (q : Id) (o : Option Object) → found (place_at places q) ≡ o → cond (is_under kind ns q) o None ≡ option_filter (is_listed kind ns) o
+  unfolding is_under
+  kept ns q None e = either (is_under kind ns q)
+    where
+      either : (b : Bool) → cond {A = Option Object} b None None ≡ None
+      either true = refl
+      either false = refl
+  kept ns q (Some x) e =
+      ap (λ b. cond {A = Option Object} b (Some x) None) (ap (λ b. b && option_map_or (bytes_eq q.ns) ns true) (flip_eqb (number_of q.kind) (number_of kind)) ∙ ap (λ (i : Id). (number_of kind == number_of i.kind) && option_map_or (bytes_eq i.ns) ns true) (sym (sound.own q x e)))
+
+  pub places_listed : (ns : Option (List ℕ)) (ys : List Object) → IsPermutation (objects_listed places kind ns) ys → IsSortedByKey (λ x. x.id) id_cmp ys → ys ≡ filter (is_listed kind ns) (objects_at places)
+  places_listed ns ys moved sorted =
+      listed (is_listed kind ns) (objects_at places) (objects_listed places kind ns) ys (ascends-objects_from (all_objects places)) (are_apart ns (kind_at places kind) refl) moved sorted
+      (λ q. finds ns (kind_at places kind) refl q ∙ kept ns q (found (place_at places q)) refl ∙ ap (option_filter (is_listed kind ns)) (sym (found_at places sound q)))

@@ -2,7 +2,6 @@
 --     write_of key object     the object is put, or that of the key is cut
 --     id_of, object_of        the identity that is written, and the object that is put
 --     HasItsKey key object    the key is the object's own
---     IsChange w key object   the write is that of the key and the object, and the key is the object's own
 use Rattle.std.specs.Prelude.{◌≡◌, Option, Some, None, IfSome}
 use Rattle.std.specs.Option.{option_map_or}
 use Rattle.std.specs.Coded.{Coded}
@@ -33,7 +32,3 @@ object_of (Cut id) = None
 -- the key is the object's own
 abbrev pub HasItsKey : Id → Option Object → Type 0
 HasItsKey key object = IfSome object (λ x. x.id ≡ key)
-
--- the write is that of the key and the object, and the key is the object's own
-abbrev pub IsChange : Write → Id → Option Object → Type 0
-IsChange w key object = (w ≡ write_of key object) × HasItsKey key object

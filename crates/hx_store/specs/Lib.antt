@@ -1,3 +1,3 @@
 pub mod Changes
-pub mod Inside
 pub mod Kept
+pub mod Places

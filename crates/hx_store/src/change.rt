@@ -1,16 +1,16 @@
 // Writes that are ready to be made.
 ghost use Rattle.std.specs.Prelude.{◌≡◌, IfOk, option_copied};
-ghost use Rattle.hx_store.specs.Changes.{IsChange, id_of, object_of};
+ghost use Rattle.hx_store.specs.Changes.{id_of, object_of};
 
 use hx_model::Write;
-use hx_object::{Id, NoMemory, Object};
+use hx_object::{Id, NoMemory, Shared};
 use std::marker::Model;
 
-/// A write, with the key that a store keeps its object by. It is made before anything is stored, so that making the write takes no memory.
+/// A write, with the identity that it is of.
 #[derive(Drop)]
 pub struct Change {
     key: Id,
-    object: Option<Object>,
+    object: Option<Shared>,
 }
 
 impl Model for Change {
@@ -28,11 +28,11 @@ impl Model for Change {
 
 impl Change {
     /// The object is stored, in the place of the one of its identity.
-    pub fn put(object: Object) -> Result<Change, NoMemory>
+    pub fn put(object: Shared) -> Result<Change, NoMemory>
         ensures { IfOk result (λ c. c ≡ Write.Put object) }
     {
         Ok(Change {
-            key: object.id.clone()?,
+            key: object.object().id.clone()?,
             object: Some(object),
         })
     }
@@ -55,17 +55,17 @@ impl Change {
     }
 
     /// The object that is stored, unless one is taken away.
-    pub fn object(&self) -> Option<&Object>
+    pub fn object(&self) -> Option<&Shared>
         ensures { option_copied result ≡ object_of self.now }
     {
         self.object.as_ref()
     }
 
-    /// The key, and the object that is stored.
-    pub(crate) fn into_parts(self) -> (Id, Option<Object>)
-        ensures { IsChange self result.0 result.1 }
+    /// Takes the object out, which leaves a write that takes the object of the identity away.
+    pub(crate) fn take_object(&mut self) -> Option<Shared>
+        ensures object { result ≡ object_of self.old }
+        ensures rest { self.new ≡ Write.Cut (id_of self.old) }
     {
-        let Change { key, object } = self;
-        (key, object)
+        self.object.take()
     }
 }

@@ -1,13 +1,16 @@
 //! Versioned objects in memory, found by their identities.
 //!
-//! Contracts see a [`Store`] as its rows, which are the objects in ascending order of identities, its version, and how many more objects fit without taking memory.
+//! Contracts see a [`Store`] as its objects in ascending order of identities, its version, and the writes that are staged.
 //! A [`Change`] is seen as the write that it is.
 #![tactic(auto)]
 
 mod change;
+mod map;
+mod places;
+mod shelf;
+mod shelves;
 mod store;
-#[cfg(test)]
-mod tests;
+mod writes;
 
 pub use change::Change;
 pub use store::Store;

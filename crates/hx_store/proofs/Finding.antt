@@ -1,0 +1,209 @@
+-- What is found among the objects of places: each in the place of its identity.
+use Rattle.std.proofs.Common.{◌≡◌, ◌<◌, ◌+◌, ◌-◌, ◌==◌, ℕ, zero, suc, Bool, true, false, cond, ◌&&◌, Option, Some, None, List, [], ◌∷◌, refl, sym, ap, subst, ◌∙◌, true≢false, eqb-true, eq-eqb, arith}
+use Rattle.std.specs.Prelude.{String, is_some, option_and_then, slice_get}
+use Rattle.std.specs.Option.{option_or}
+use Rattle.std.specs.List.{AllByRecursion, IsDistinct, flat_map}
+use Rattle.std.specs.Map.{keys_of, values_of, lookup}
+use Rattle.std.specs.Str.{bytes_eq}
+use Rattle.std.specs.String.{string_bytes, string_eq}
+use Rattle.std.proofs.lemmas.Bool.{false_from_ne_true}
+use Rattle.std.proofs.lemmas.Option.{slice_get_within}
+use Rattle.std.proofs.lemmas.List.Folds.{find-append}
+use Rattle.std.proofs.lemmas.Map.Keys.{IsDistinct-head, IsDistinct-tail}
+use Rattle.std.proofs.lemmas.Slice.Eq.{bytes_eq-Decides}
+use Rattle.hx_object.specs.Kinds.{number_of}
+use Rattle.hx_object.specs.declared.kind.Kind.{Kind}
+use Rattle.hx_object.specs.declared.kind.Kind.TheVariants.{Namespace, HncConfiguration, HierarchyConfiguration, SubnamespaceAnchor, HierarchicalResourceQuota, Role, RoleBinding, ConfigMap, Secret, NetworkPolicy, LimitRange, Pod, Service, PersistentVolumeClaim}
+use Rattle.hx_object.specs.declared.object.Id.{Id}
+use Rattle.hx_object.specs.declared.object.Object.{Object}
+use Rattle.hx_model.specs.State.{same_id, object_at}
+use Rattle.hx_model.proofs.Objects.{object_at-objects_from}
+use Rattle.hx_store.proofs.ByKind.{number_of-least}
+use Rattle.hx_store.specs.Places.{Place, AreShelves, IsShelf, IsSound, found, place_in, place_of, place_at, shelf_in, of_place, objects_in, objects_of, all_objects, objects_at}
+use Rattle.hx_store.specs.declared.shelf.Shelf.{Shelf}
+use Rattle.hx_store.specs.declared.shelves.Shelves.{Shelves}
+use Rattle.hx_store.specs.declared.places.Places.{Places}
+
+-- ---- keys that are texts
+
+pub text_itself : (n : List ℕ) → bytes_eq n n ≡ true
+text_itself n = (bytes_eq-Decides n n).1 refl
+
+or_none : {X : Type 0} (o : Option X) → option_or o None ≡ o
+or_none None = refl
+or_none (Some x) = refl
+
+module _ {Y V : Type 0} where
+  -- no later key is that of the first
+  pub none_among : (k : String Y) (n : List ℕ) (es : List (String Y × V)) → bytes_eq n (string_bytes k) ≡ true → AllByRecursion (λ y. string_eq k y ≡ false) (keys_of es) → lookup (λ y. bytes_eq n (string_bytes y)) es ≡ None
+  none_among k n [] same apart = refl
+  none_among k n (e ∷ es) same apart =
+      let other : bytes_eq n (string_bytes e.0) ≡ false = subst (λ m. bytes_eq m (string_bytes e.0) ≡ false) (sym ((bytes_eq-Decides n (string_bytes k)).0 same)) apart.0 in
+      ap (λ b. cond b (Some e.1) (lookup (λ y. bytes_eq n (string_bytes y)) es)) other ∙ none_among k n es same apart.1
+
+  -- what holds of all that look-ups find holds of each entry
+  pub each : (P : List ℕ → V → Type 0) (es : List (String Y × V)) → IsDistinct string_eq (keys_of es) → ((n : List ℕ) (v : V) → lookup (λ y. bytes_eq n (string_bytes y)) es ≡ Some v → P n v) → AllByRecursion (λ e. P (string_bytes e.0) e.1) es
+  each P [] distinct holds = tt
+  each P (e ∷ es) distinct holds = (
+    holds (string_bytes e.0) e.1 (ap (λ b. cond b (Some e.1) (lookup (λ y. bytes_eq (string_bytes e.0) (string_bytes y)) es)) (text_itself (string_bytes e.0))),
+    each P es (IsDistinct-tail string_eq e.0 (keys_of es) distinct) (λ n v later. holds n v (past n v (bytes_eq n (string_bytes e.0)) refl later)),
+  )
+    where
+      past : (n : List ℕ) (v : V) (b : Bool) → bytes_eq n (string_bytes e.0) ≡ b → lookup (λ y. bytes_eq n (string_bytes y)) es ≡ Some v → cond (bytes_eq n (string_bytes e.0)) (Some e.1) (lookup (λ y. bytes_eq n (string_bytes y)) es) ≡ Some v
+      past n v true same later = absurd (true≢false (ap is_some (sym later ∙ none_among e.0 n es same (IsDistinct-head string_eq e.0 (keys_of es) distinct))))
+      past n v false other later = ap (λ b. cond b (Some e.1) (lookup (λ y. bytes_eq n (string_bytes y)) es)) other ∙ later
+
+-- ---- where all objects of an entry have its key, what is found is found in one entry
+
+module _ {Y V : Type 0} (f : V → List Object) (q : Id) (n : List ℕ) where
+  pub level : (es : List (String Y × V)) → IsDistinct string_eq (keys_of es) → AllByRecursion (λ e. bytes_eq n (string_bytes e.0) ≡ false → object_at (f e.1) q ≡ None) es
+      → object_at (flat_map f (values_of es)) q ≡ option_and_then (λ v. object_at (f v) q) (lookup (λ y. bytes_eq n (string_bytes y)) es)
+  level [] distinct apart = refl
+  level (e ∷ es) distinct apart =
+      find-append (λ x. same_id q x.id) (f e.1) (flat_map f (values_of es))
+      ∙ by (level es (IsDistinct-tail string_eq e.0 (keys_of es) distinct) apart.1) (bytes_eq n (string_bytes e.0)) refl
+    where
+      by : object_at (flat_map f (values_of es)) q ≡ option_and_then (λ v. object_at (f v) q) (lookup (λ y. bytes_eq n (string_bytes y)) es)
+          → (b : Bool) → bytes_eq n (string_bytes e.0) ≡ b → option_or (object_at (f e.1) q) (object_at (flat_map f (values_of es)) q) ≡ option_and_then (λ v. object_at (f v) q) (cond b (Some e.1) (lookup (λ y. bytes_eq n (string_bytes y)) es))
+      by rest true same = ap (option_or (object_at (f e.1) q)) (rest ∙ ap (option_and_then (λ v. object_at (f v) q)) (none_among e.0 n es same (IsDistinct-head string_eq e.0 (keys_of es) distinct))) ∙ or_none (object_at (f e.1) q)
+      by rest false other = ap (λ o. option_or o (object_at (flat_map f (values_of es)) q)) (apart.0 other) ∙ rest
+
+-- ---- the objects of one kind and namespace
+
+abbrev pub id_of : Kind → List ℕ → List ℕ → Id
+id_of kind ns name = record { kind = kind; ns = ns; name = name }
+
+and_false : (b : Bool) → (b && false) ≡ false
+and_false true = refl
+and_false false = refl
+
+and_true : (b : Bool) → (b && true) ≡ b
+and_true true = refl
+and_true false = refl
+
+module _ (kind : Kind) (ns : List ℕ) (shelf : Shelf) (distinct : IsShelf shelf) (own : (m : List ℕ) (x : Object) → found (place_in shelf m) ≡ Some x → x.id ≡ id_of kind ns m) where
+  pub apart_in : (q : Id) (m : List ℕ) (v : Option Object) → place_in shelf m ≡ Some v → bytes_eq q.name m ≡ false → object_at (of_place v) q ≡ None
+  apart_in q m None e other = refl
+  apart_in q m (Some x) e other =
+      ap (λ i. cond (same_id q i) (Some x) None) (own m x (ap found e))
+      ∙ ap (λ b. cond (number_of q.kind == number_of kind && bytes_eq q.ns ns && b) (Some x) None) other
+      ∙ ap (λ b. cond {A = Option Object} b (Some x) None) (and_false (number_of q.kind == number_of kind && bytes_eq q.ns ns))
+
+  pub found_in : (q : Id) → object_at (objects_in shelf) q ≡ cond (number_of q.kind == number_of kind && bytes_eq q.ns ns) (found (place_in shelf q.name)) None
+  found_in q = level of_place q q.name shelf.places.entries distinct (each (λ m v. bytes_eq q.name m ≡ false → object_at (of_place v) q ≡ None) shelf.places.entries distinct (apart_in q)) ∙ by (place_in shelf q.name) refl
+    where
+      by : (p : Place) → place_in shelf q.name ≡ p → option_and_then (λ v. object_at (of_place v) q) p ≡ cond (number_of q.kind == number_of kind && bytes_eq q.ns ns) (found p) None
+      by None e = none (number_of q.kind == number_of kind && bytes_eq q.ns ns)
+        where
+          none : (b : Bool) → None ≡ cond {A = Option Object} b None None
+          none true = refl
+          none false = refl
+      by (Some None) e = none (number_of q.kind == number_of kind && bytes_eq q.ns ns)
+        where
+          none : (b : Bool) → None ≡ cond {A = Option Object} b None None
+          none true = refl
+          none false = refl
+      by (Some (Some x)) e =
+          ap (λ i. cond (same_id q i) (Some x) None) (own q.name x (ap found e))
+          ∙ ap (λ b. cond (number_of q.kind == number_of kind && bytes_eq q.ns ns && b) (Some x) None) (text_itself q.name)
+          ∙ ap (λ b. cond {A = Option Object} b (Some x) None) (and_true (number_of q.kind == number_of kind && bytes_eq q.ns ns))
+
+-- ---- the objects of one kind
+
+module _ (kind : Kind) (shelves : Shelves) (distinct : AreShelves shelves) (own : (n m : List ℕ) (x : Object) → found (place_of shelves n m) ≡ Some x → x.id ≡ id_of kind n m) where
+  pub own_in : (n : List ℕ) (shelf : Shelf) → shelf_in shelves n ≡ Some shelf → (m : List ℕ) (x : Object) → found (place_in shelf m) ≡ Some x → x.id ≡ id_of kind n m
+  own_in n shelf e m x there = own n m x (ap (λ o. found (option_and_then (λ s. place_in s m) o)) e ∙ there)
+
+  pub apart_of : (q : Id) (n : List ℕ) (shelf : Shelf) → shelf_in shelves n ≡ Some shelf → bytes_eq q.ns n ≡ false → object_at (objects_in shelf) q ≡ None
+  apart_of q n shelf e other =
+      found_in kind n shelf (distinct.1 n shelf e).0 (own_in n shelf e) q
+      ∙ ap (λ b. cond (number_of q.kind == number_of kind && b) (found (place_in shelf q.name)) None) other
+      ∙ ap (λ b. cond {A = Option Object} b (found (place_in shelf q.name)) None) (and_false (number_of q.kind == number_of kind))
+
+  pub found_of : (q : Id) → object_at (objects_of shelves) q ≡ cond (number_of q.kind == number_of kind) (found (place_of shelves q.ns q.name)) None
+  found_of q = level objects_in q q.ns shelves.shelves.entries distinct.0 (each (λ n shelf. bytes_eq q.ns n ≡ false → object_at (objects_in shelf) q ≡ None) shelves.shelves.entries distinct.0 (apart_of q)) ∙ by (shelf_in shelves q.ns) refl
+    where
+      by : (o : Option Shelf) → shelf_in shelves q.ns ≡ o → option_and_then (λ shelf. object_at (objects_in shelf) q) o ≡ cond (number_of q.kind == number_of kind) (found (option_and_then (λ shelf. place_in shelf q.name) o)) None
+      by None e = none (number_of q.kind == number_of kind)
+        where
+          none : (b : Bool) → None ≡ cond {A = Option Object} b None None
+          none true = refl
+          none false = refl
+      by (Some shelf) e =
+          found_in kind q.ns shelf (distinct.1 q.ns shelf e).0 (own_in q.ns shelf e) q
+          ∙ ap (λ b. cond (number_of q.kind == number_of kind && b) (found (place_in shelf q.name)) None) (text_itself q.ns)
+          ∙ ap (λ b. cond {A = Option Object} b (found (place_in shelf q.name)) None) (and_true (number_of q.kind == number_of kind))
+
+-- ---- the objects of all kinds
+
+-- the kind at an index
+pub kind_of_index : (i : ℕ) → i < 14 → (k : Kind) × (number_of k ≡ i + 1)
+kind_of_index zero h = (Namespace, refl)
+kind_of_index (suc zero) h = (HncConfiguration, refl)
+kind_of_index (suc (suc zero)) h = (HierarchyConfiguration, refl)
+kind_of_index (suc (suc (suc zero))) h = (SubnamespaceAnchor, refl)
+kind_of_index (suc (suc (suc (suc zero)))) h = (HierarchicalResourceQuota, refl)
+kind_of_index (suc (suc (suc (suc (suc zero))))) h = (Role, refl)
+kind_of_index (suc (suc (suc (suc (suc (suc zero)))))) h = (RoleBinding, refl)
+kind_of_index (suc (suc (suc (suc (suc (suc (suc zero))))))) h = (ConfigMap, refl)
+kind_of_index (suc (suc (suc (suc (suc (suc (suc (suc zero)))))))) h = (Secret, refl)
+kind_of_index (suc (suc (suc (suc (suc (suc (suc (suc (suc zero))))))))) h = (NetworkPolicy, refl)
+kind_of_index (suc (suc (suc (suc (suc (suc (suc (suc (suc (suc zero)))))))))) h = (LimitRange, refl)
+kind_of_index (suc (suc (suc (suc (suc (suc (suc (suc (suc (suc (suc zero))))))))))) h = (Pod, refl)
+kind_of_index (suc (suc (suc (suc (suc (suc (suc (suc (suc (suc (suc (suc zero)))))))))))) h = (Service, refl)
+kind_of_index (suc (suc (suc (suc (suc (suc (suc (suc (suc (suc (suc (suc (suc zero))))))))))))) h = (PersistentVolumeClaim, refl)
+kind_of_index (suc (suc (suc (suc (suc (suc (suc (suc (suc (suc (suc (suc (suc (suc i)))))))))))))) h = absurd (omega arith)
+
+module _ (q : Id) where
+  -- each of the shelves has the objects of one kind, by the kinds' numbers
+  abbrev InOrder : List Shelves → ℕ → Type 0
+  InOrder [] n = Unit {0}
+  InOrder (s ∷ rest) n = ((number_of q.kind == n) ≡ true → object_at (objects_of s) q ≡ found (place_of s q.ns q.name)) × ((number_of q.kind == n) ≡ false → object_at (objects_of s) q ≡ None) × InOrder rest (n + 1)
+
+  other : (n : ℕ) → number_of q.kind < n → (number_of q.kind == n) ≡ false
+  other n less = false_from_ne_true _ (λ t. absurd (omega (arith, eqb-true (number_of q.kind) n t, less)))
+
+  none_past : (ss : List Shelves) (n : ℕ) → InOrder ss n → number_of q.kind < n → object_at (flat_map objects_of ss) q ≡ None
+  none_past [] n in_order less = refl
+  none_past (s ∷ ss) n in_order less =
+      find-append (λ x. same_id q x.id) (objects_of s) (flat_map objects_of ss)
+      ∙ ap (λ o. option_or o (object_at (flat_map objects_of ss) q)) (in_order.1 (other n less)) ∙ none_past ss (n + 1) in_order.2 (omega arith)
+
+  found_from : (ss : List Shelves) (n j : ℕ) → InOrder ss n → number_of q.kind ≡ n + j → object_at (flat_map objects_of ss) q ≡ found (option_and_then (λ s. place_of s q.ns q.name) (slice_get ss j))
+  found_from [] n j in_order e = refl
+  found_from (s ∷ ss) n zero in_order e =
+      find-append (λ x. same_id q x.id) (objects_of s) (flat_map objects_of ss)
+      ∙ ap (option_or (object_at (objects_of s) q)) (none_past ss (n + 1) in_order.2 (omega arith)) ∙ or_none (object_at (objects_of s) q)
+      ∙ in_order.0 (eq-eqb (number_of q.kind) n (omega arith))
+  found_from (s ∷ ss) n (suc j) in_order e =
+      find-append (λ x. same_id q x.id) (objects_of s) (flat_map objects_of ss)
+      ∙ ap (λ o. option_or o (object_at (flat_map objects_of ss) q)) (in_order.1 (apart e)) ∙ found_from ss (n + 1) j in_order.2 (omega arith)
+    where
+      apart : number_of q.kind ≡ n + suc j → (number_of q.kind == n) ≡ false
+      apart e = false_from_ne_true _ (λ t. absurd (omega (arith, eqb-true (number_of q.kind) n t, e)))
+
+  order_from : (ss : List Shelves) (i : ℕ) → ((j : ℕ) (s : Shelves) → slice_get ss j ≡ Some s → (m : ℕ) → m ≡ i + j + 1 → object_at (objects_of s) q ≡ cond (number_of q.kind == m) (found (place_of s q.ns q.name)) None) → InOrder ss (i + 1)
+  order_from [] i holds = tt
+  order_from (s ∷ ss) i holds =
+      let this = holds zero s refl (i + 1) (omega arith) in (
+        λ t. this ∙ ap (λ b. cond {A = Option Object} b (found (place_of s q.ns q.name)) None) t,
+        λ t. this ∙ ap (λ b. cond {A = Option Object} b (found (place_of s q.ns q.name)) None) t,
+        order_from ss (i + 1) (λ j t e m at. holds (suc j) t e m (omega arith)),
+      )
+
+-- what is found among all objects is what is in the place
+found_among : (places : Places) → IsSound places → (q : Id) → object_at (all_objects places) q ≡ found (place_at places q)
+found_among places sound q = found_from q places.kinds 1 (number_of q.kind - 1) (order_from q places.kinds 0 of_kind) (omega (arith, number_of-least q.kind))
+  where
+    of_kind : (j : ℕ) (s : Shelves) → slice_get places.kinds j ≡ Some s → (m : ℕ) → m ≡ 0 + j + 1 → object_at (objects_of s) q ≡ cond (number_of q.kind == m) (found (place_of s q.ns q.name)) None
+    of_kind j s e m at =
+        let within = slice_get_within places.kinds j s e in
+        let long = sound.distinct.0 in
+        let k = kind_of_index j (omega (arith, within, long)) in
+        let here : slice_get places.kinds (number_of k.0 - 1) ≡ Some s = subst (λ i. slice_get places.kinds i ≡ Some s) (omega (arith, k.1)) e in
+        let same : number_of k.0 ≡ m = omega (arith, k.1, at) in
+        found_of k.0 s (sound.distinct.1 j s e) (λ n name x there. sound.own (id_of k.0 n name) x (ap (λ o. found (option_and_then (λ t. place_of t n name) o)) here ∙ there)) q
+        ∙ ap (λ i. cond {A = Option Object} (number_of q.kind == i) (found (place_of s q.ns q.name)) None) same
+
+pub found_at : (places : Places) → IsSound places → (q : Id) → object_at (objects_at places) q ≡ found (place_at places q)
+found_at places sound q = object_at-objects_from (all_objects places) q ∙ found_among places sound q

@@ -1,0 +1,9 @@
+use Rattle.std.proofs.Common.{◌≡◌, ◌++◌}
+use Rattle.std.specs.List.{flat_map}
+use Rattle.std.specs.Map.{values_of}
+use Rattle.hx_store.specs.Places.{objects_in, objects_of}
+use Rattle.hx_store.proofs.shelves.Shelves.list.Given as goal
+
+-- what is listed, and then the objects of the shelves that are left
+abbrev pub invariant-loop-shelf : goal.invariant-loop-shelf
+invariant-loop-shelf l = l.listed.items ++ flat_map objects_in (values_of l.shelf-iterator) ≡ l.fn.listed.items ++ objects_of l.self

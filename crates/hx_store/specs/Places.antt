@@ -1,0 +1,194 @@
+-- Where a store keeps its objects: by kind, then by namespace, then by name. A place holds an object, or is empty.
+--     place_in shelf name        the place of a name, among the objects of one kind and namespace
+--     place_of shelves ns name   the place of a namespace and a name, among the objects of one kind
+--     place_at places id         the place of an identity
+--     found place                the object in a place, where there is one
+--     EditsShelf g old new name  the place of one name changes by g, and every other stays
+--     made, filled, swept        how a place changes: it is there;  it holds this;  it is gone if it is empty
+--     objects_in, objects_of     the objects of one kind and namespace;  of one kind
+--     objects_at places          all objects, in the order of their identities
+--     IsReady places staged      what a store keeps true: each object is in its place, each staged write has its place, and no place is empty but those
+use Rattle.std.specs.Prelude.{◌≡◌, ◌≢◌, ℕ, ◌-◌, Bool, true, false, ◌&&◌, cond, List, [], ◌∷◌, Option, Some, None, IsSome, option_and_then, length}
+use Rattle.std.specs.List.{IsDistinct, flat_map, list_any, slice_get}
+use Rattle.std.specs.Map.{keys_of, values_of}
+use Rattle.std.specs.HashMap.{get_by_text}
+use Rattle.std.specs.Option.{option_map_or}
+use Rattle.std.specs.Str.{bytes_eq}
+use Rattle.std.specs.String.{string_eq}
+use Rattle.hx_object.specs.Kinds.{number_of}
+use Rattle.hx_object.specs.declared.kind.Kind.{Kind}
+use Rattle.hx_object.specs.declared.object.Id.{Id}
+use Rattle.hx_object.specs.declared.object.Object.{Object}
+use Rattle.hx_model.specs.State.{Objects, objects_from, same_id}
+use Rattle.hx_model.specs.declared.key.Write.{Write}
+use Rattle.hx_model.specs.declared.key.Write.TheVariants.{Put, Cut}
+use Rattle.hx_store.specs.Changes.{id_of}
+use Rattle.hx_store.specs.declared.shelf.Shelf.{Shelf}
+use Rattle.hx_store.specs.declared.shelves.Shelves.{Shelves}
+use Rattle.hx_store.specs.declared.places.Places.{Places}
+
+-- a place: None where it is missing, Some None where it is empty
+abbrev pub Place : Type 0
+Place = Option (Option Object)
+
+-- the object in a place
+abbrev pub found : Place → Option Object
+found place = option_and_then (λ o. o) place
+
+-- the place of a name
+abbrev pub place_in : Shelf → List ℕ → Place
+place_in shelf name = get_by_text shelf.places name
+
+-- the shelf of a namespace
+abbrev pub shelf_in : Shelves → List ℕ → Option Shelf
+shelf_in shelves ns = get_by_text shelves.shelves ns
+
+-- the place of a namespace and a name
+abbrev pub place_of : Shelves → List ℕ → List ℕ → Place
+place_of shelves ns name = option_and_then (λ shelf. place_in shelf name) (shelf_in shelves ns)
+
+-- the shelves of a kind
+abbrev pub kind_at : Places → Kind → Option Shelves
+kind_at places kind = slice_get places.kinds (number_of kind - 1)
+
+-- the place of an identity
+abbrev pub place_at : Places → Id → Place
+place_at places id = option_and_then (λ shelves. place_of shelves id.ns id.name) (kind_at places id.kind)
+
+-- ---- how a place changes
+
+-- it is there, and empty if it is new
+abbrev pub made : Place → Place
+made None = Some None
+made (Some o) = Some o
+
+-- it holds this, if it is there
+abbrev pub filled : Option Object → Place → Place
+filled o None = None
+filled o (Some _) = Some o
+
+-- it is gone, if it is empty
+abbrev pub swept : Place → Place
+swept (Some (Some x)) = Some (Some x)
+swept _ = None
+
+-- it stays
+abbrev pub unchanged : Place → Place
+unchanged place = place
+
+-- the place of the name changes so, and every other stays
+abbrev pub EditsShelf : (Place → Place) → Shelf → Shelf → List ℕ → Type 0
+EditsShelf g old new name = (q : List ℕ) → place_in new q ≡ cond (bytes_eq name q) (g (place_in old q)) (place_in old q)
+
+-- the place of the namespace and the name changes so, and every other stays
+abbrev pub EditsShelves : (Place → Place) → Shelves → Shelves → List ℕ → List ℕ → Type 0
+EditsShelves g old new ns name = (n m : List ℕ) → place_of new n m ≡ cond (bytes_eq ns n && bytes_eq name m) (g (place_of old n m)) (place_of old n m)
+
+-- the place of the identity changes so, and every other stays
+abbrev pub EditsPlaces : (Place → Place) → Places → Places → Id → Type 0
+EditsPlaces g old new id = (q : Id) → place_at new q ≡ cond (same_id id q) (g (place_at old q)) (place_at old q)
+
+-- ---- what is kept true
+
+-- no two places have one name
+abbrev pub IsShelf : Shelf → Type 0
+IsShelf shelf = IsDistinct string_eq (keys_of shelf.places.entries)
+
+-- a place is there
+abbrev pub IsFull : Shelf → Type 0
+IsFull shelf = shelf.places.entries ≢ []
+
+-- no two shelves have one namespace, no two places of a shelf one name, and no shelf is without places
+abbrev pub AreShelves : Shelves → Type 0
+AreShelves shelves = IsDistinct string_eq (keys_of shelves.shelves.entries) × ((ns : List ℕ) (shelf : Shelf) → shelf_in shelves ns ≡ Some shelf → IsShelf shelf × IsFull shelf)
+
+-- so it is, but that the shelf of one namespace may be without places
+abbrev pub AreShelvesBut : List ℕ → Shelves → Type 0
+AreShelvesBut but shelves = IsDistinct string_eq (keys_of shelves.shelves.entries) × ((ns : List ℕ) (shelf : Shelf) → shelf_in shelves ns ≡ Some shelf → IsShelf shelf × (bytes_eq but ns ≡ false → IsFull shelf))
+
+-- so it is for each of the kinds
+abbrev pub ArePlaces : Places → Type 0
+ArePlaces places = (length places.kinds ≡ 14) × ((i : ℕ) (shelves : Shelves) → slice_get places.kinds i ≡ Some shelves → AreShelves shelves)
+
+-- each object is in the place of its identity
+abbrev pub AreOwn : Places → Type 0
+AreOwn places = (id : Id) (x : Object) → found (place_at places id) ≡ Some x → x.id ≡ id
+
+-- places that can be read
+pub record IsSound (places : Places) : Type 0 where
+  pub distinct : ArePlaces places
+  pub own : AreOwn places
+
+-- the object that is put has a place
+abbrev pub HasPlace : Places → Write → Type 0
+HasPlace places (Put x) = IsSome (place_at places x.id)
+HasPlace places (Cut id) = Unit {0}
+
+-- each object that is put has a place
+abbrev pub HasPlaces : Places → List Write → Type 0
+HasPlaces places writes = (i : ℕ) (w : Write) → slice_get writes i ≡ Some w → HasPlace places w
+
+-- what has a place keeps it
+abbrev pub KeepsPlaces : Places → Places → Type 0
+KeepsPlaces old new = (w : Write) → HasPlace old w → HasPlace new w
+
+-- the same objects are found
+abbrev pub HasSame : Places → Places → Type 0
+HasSame old new = (id : Id) → found (place_at new id) ≡ found (place_at old id)
+
+-- one of the writes is of the identity
+abbrev pub is_written : List Write → Id → Bool
+is_written writes id = list_any (λ w. same_id id (id_of w)) writes
+
+-- the places of other identities stay
+abbrev pub KeepsOthers : List Write → Places → Places → Type 0
+KeepsOthers writes old new = (id : Id) → is_written writes id ≡ false → place_at new id ≡ place_at old id
+
+-- no place of a write is empty
+abbrev pub AreSwept : Places → List Write → Type 0
+AreSwept places writes = (i : ℕ) (w : Write) → slice_get writes i ≡ Some w → place_at places (id_of w) ≢ Some None
+
+-- each empty place is that of a write
+abbrev pub AreAwaited : Places → List Write → Type 0
+AreAwaited places writes = (id : Id) → place_at places id ≡ Some None → is_written writes id ≡ true
+
+-- what a store keeps true of its places and the writes that are staged
+pub record IsReady (places : Places) (staged : List Write) : Type 0 where
+  pub sound : IsSound places
+  pub there : HasPlaces places staged
+  pub awaited : AreAwaited places staged
+
+-- the one place has the name, and is empty
+abbrev pub IsNewShelf : List ℕ → Shelf → Type 0
+IsNewShelf name shelf = (q : List ℕ) → place_in shelf q ≡ cond (bytes_eq name q) (Some None) None
+
+-- ---- the objects
+
+-- the object of a place, as a list
+abbrev pub of_place : Option Object → List Object
+of_place None = []
+of_place (Some x) = x ∷ []
+
+-- the objects of one kind and namespace
+abbrev pub objects_in : Shelf → List Object
+objects_in shelf = flat_map of_place (values_of shelf.places.entries)
+
+-- the objects of one kind
+abbrev pub objects_of : Shelves → List Object
+objects_of shelves = flat_map objects_in (values_of shelves.shelves.entries)
+
+-- the objects of one kind, in one namespace or in all
+abbrev pub objects_under : Option (List ℕ) → Shelves → List Object
+objects_under None shelves = objects_of shelves
+objects_under (Some ns) shelves = option_map_or objects_in (shelf_in shelves ns) []
+
+abbrev pub objects_listed : Places → Kind → Option (List ℕ) → List Object
+objects_listed places kind ns = option_map_or (objects_under ns) (kind_at places kind) []
+
+-- all objects
+abbrev pub all_objects : Places → List Object
+all_objects places = flat_map objects_of places.kinds
+
+-- all objects, in the order of their identities
+abbrev pub objects_at : Places → Objects
+objects_at places = objects_from (all_objects places)

@@ -1,0 +1,120 @@
+// The objects of one kind.
+ghost use Rattle.std.specs.Prelude.{◌≡◌, ◌++◌, ℕ, List, [], None, OnOk, IsTrue, ◌↔◌, MatchResult, option_copied};
+ghost use Rattle.std.specs.Option.{option_map_or};
+ghost use Rattle.hx_store.specs.Places.{AreShelves, AreShelvesBut, shelf_in, place_of, found, EditsShelves, made, filled, swept, unchanged, objects_in, objects_of};
+
+use crate::map::{TextMap, empty_map};
+use crate::shelf::Shelf;
+use hx_object::{NoMemory, Shared};
+use std::alloc::Global;
+
+/// The objects of one kind, by their namespaces. No shelf is without places.
+#[derive(Drop)]
+pub(crate) struct Shelves {
+    shelves: TextMap<Shelf>,
+}
+
+impl Shelves {
+    /// No objects.
+    pub(crate) fn new(alloc: Global) -> Shelves
+        ensures { result.shelves.entries ≡ [] }
+    {
+        Shelves {
+            shelves: empty_map(alloc),
+        }
+    }
+
+    /// The objects of a namespace.
+    pub(crate) fn shelf(&self, ns: &str) -> Option<&Shelf>
+        ensures { option_copied result ≡ shelf_in self.now ns.now }
+    {
+        self.shelves.get(ns)
+    }
+
+    /// The object of a namespace and a name.
+    pub(crate) fn find(&self, ns: &str, name: &str) -> Option<&Shared>
+        ensures { option_copied result ≡ found (place_of self.now ns.now name.now) }
+    {
+        match self.shelf(ns) {
+            Some(shelf) => shelf.find(name),
+            None => None,
+        }
+    }
+
+    /// Makes a place for an object, unless there is one.
+    pub(crate) fn make(&mut self, ns: &str, name: &str) -> Result<(), NoMemory>
+        ensures shelves { AreShelves self.old → AreShelves self.new }
+        ensures places { MatchResult result (λ _. EditsShelves made self.old self.new ns.now name.now) (λ _. EditsShelves unchanged self.old self.new ns.now name.now) }
+    {
+        match self.shelves.get_mut(ns) {
+            Some(shelf) => shelf.make(name),
+            None => self.add(ns, name),
+        }
+    }
+
+    /// Adds a shelf with an empty place.
+    fn add(&mut self, ns: &str, name: &str) -> Result<(), NoMemory>
+        requires { shelf_in self.old ns.now ≡ None }
+        ensures shelves { AreShelves self.old → AreShelves self.new }
+        ensures places { MatchResult result (λ _. EditsShelves made self.old self.new ns.now name.now) (λ _. EditsShelves unchanged self.old self.new ns.now name.now) }
+    {
+        let alloc = *self.shelves.allocator();
+        let shelf = Shelf::new(alloc, name)?;
+        let _none = self.shelves.insert(String::from_str(alloc, ns)?, shelf)?;
+        Ok(())
+    }
+
+    /// Puts an object, or none, in its place, where there is one.
+    pub(crate) fn fill(&mut self, ns: &str, name: &str, object: Option<Shared>)
+        ensures shelves { AreShelves self.old → AreShelves self.new }
+        ensures places { EditsShelves (filled object) self.old self.new ns.now name.now }
+    {
+        match self.shelves.get_mut(ns) {
+            Some(shelf) => shelf.fill(name, object),
+            None => drop(object),
+        }
+    }
+
+    /// Takes a place away where it is empty, and its shelf where it is the last one.
+    pub(crate) fn sweep(&mut self, ns: &str, name: &str)
+        ensures shelves { AreShelves self.old → AreShelves self.new }
+        ensures places { EditsShelves swept self.old self.new ns.now name.now }
+    {
+        if let Some(shelf) = self.shelves.get_mut(ns) {
+            shelf.sweep(name);
+            self.drop_empty(ns);
+        }
+    }
+
+    /// Takes a shelf away where it has no places.
+    fn drop_empty(&mut self, ns: &str)
+        ensures shelves { AreShelvesBut ns.now self.old → AreShelves self.new }
+        ensures places { (n m : List ℕ) → place_of self.new n m ≡ place_of self.old n m }
+    {
+        if let Some(shelf) = self.shelves.get(ns) {
+            if shelf.is_empty() {
+                let _shelf = self.shelves.swap_remove(ns);
+            }
+        }
+    }
+
+    /// Adds the objects of a namespace to those that are listed.
+    pub(crate) fn list_in(&self, ns: &str, listed: &mut Vec<Shared>) -> Result<(), NoMemory>
+        ensures { OnOk result (listed.new.items ≡ listed.old.items ++ option_map_or objects_in (shelf_in self.now ns.now) []) }
+    {
+        match self.shelf(ns) {
+            Some(shelf) => shelf.list(listed),
+            None => Ok(()),
+        }
+    }
+
+    /// Adds the objects of all namespaces to those that are listed.
+    pub(crate) fn list(&self, listed: &mut Vec<Shared>) -> Result<(), NoMemory>
+        ensures { OnOk result (listed.new.items ≡ listed.old.items ++ objects_of self.now) }
+    {
+        for (_, shelf) in self.shelves.iter() {
+            shelf.list(listed)?;
+        }
+        Ok(())
+    }
+}
