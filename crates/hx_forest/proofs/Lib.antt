@@ -1,4 +1,12 @@
 pub mod Nodes
-pub mod Stepping
-pub mod Halting
 pub mod Listing
+pub mod Ascending
+pub mod Indexing
+pub mod Changing
+pub mod Readiness
+pub mod Stepping
+pub mod Passing
+pub mod Rings
+pub mod Reasons
+pub mod Descending
+pub mod Depths

@@ -1,7 +1,7 @@
 -- Forests after a change, and forests of nodes in any order.
 --     ascends f          the names are in ascending order
 --     same_forests       two forests in order that answer alike are the same
---     node_of-with_node, node_of-with_changed, node_of-without_node      what is found after a change
+--     node_of-with_node, node_of-without_node      what is found after a change
 --     forest-put, forest-cut, forest-changed      the forest of entries after a change of them
 --     length-forest      as many nodes as entries
 use Rattle.std.proofs.Common.{◌≡◌, ℕ, ◌+◌, Bool, true, false, cond, not, ◌&&◌, Option, Some, None, List, [], ◌∷◌, length, Ordering, Less, Equal, Greater, is_eq, is_lt, is_some, unwrap_or, refl, sym, ap, subst, ◌∙◌, arith, true≢false}
@@ -18,8 +18,10 @@ use Rattle.std.proofs.lemmas.Map.Lookups.{exact_bytes}
 use Rattle.std.proofs.lemmas.Map.Keys.{IsDistinct-head, IsDistinct-tail}
 use Rattle.hx_object.specs.Texts.{bytes_cmp}
 use Rattle.hx_model.specs.declared.node.Node.{Node}
-use Rattle.hx_model.specs.Forest.{Forest, is_there, node_of, with_node, without_node, with_changed, forest_from}
+use Rattle.hx_model.specs.Forest.{Forest, is_there, node_of, with_changed}
+use Rattle.hx_model.specs.ForestChanges.{with_node, without_node, forest_from}
 use Rattle.hx_model.proofs.Climbing.{is_same, same_itself}
+use Rattle.hx_model.proofs.Moving.{changed_node}
 
 -- ---- the order of names
 
@@ -102,23 +104,6 @@ node_of-without_node n (y ∷ f) q =
     dropped true b e = refl
     dropped false true e = absurd (true≢false (sym e))
     dropped false false e = refl
-
-pub node_of-with_changed : (n : List ℕ) (change : Node → Node) (f : Forest) (q : List ℕ) → node_of (with_changed n change f) q ≡ cond (bytes_eq q n) (option_map change (node_of f n)) (node_of f q)
-node_of-with_changed n change [] q = elim (bytes_eq q n) as (λ b. ◌≡◌ {A = Option Node} None (cond b None None)) [ true ↦ refl | false ↦ refl ]
-node_of-with_changed n change (y ∷ f) q =
-    ap (cond (bytes_eq q y.0) (Some (cond (bytes_eq n y.0) (change y.1) y.1))) (node_of-with_changed n change f q)
-    ∙ by (bytes_eq q y.0) (bytes_eq n y.0) (bytes_eq q n) (λ p r. ap (bytes_eq q) (is_same n y.0 r) ∙ p) (λ p s. subst (λ (x : List ℕ). bytes_eq x y.0 ≡ true) (is_same q n s) p) (λ r s. subst (λ (x : List ℕ). bytes_eq x y.0 ≡ true) (sym (is_same q n s)) r)
-  where
-    by : (at same_n at_n : Bool) → (at ≡ true → same_n ≡ true → at_n ≡ true) → (at ≡ true → at_n ≡ true → same_n ≡ true) → (same_n ≡ true → at_n ≡ true → at ≡ true)
-        → cond at (Some (cond same_n (change y.1) y.1)) (cond at_n (option_map change (node_of f n)) (node_of f q)) ≡ cond at_n (option_map change (cond same_n (Some y.1) (node_of f n))) (cond at (Some y.1) (node_of f q))
-    by true true true a b c = refl
-    by true true false a b c = absurd (true≢false (sym (a refl refl)))
-    by true false true a b c = absurd (true≢false (sym (b refl refl)))
-    by true false false a b c = refl
-    by false true true a b c = absurd (true≢false (sym (c refl refl)))
-    by false true false a b c = refl
-    by false false true a b c = refl
-    by false false false a b c = refl
 
 -- ---- the order is kept
 
@@ -235,8 +220,13 @@ pub forest-changed : (new old : List (List ℕ × Node)) (n : List ℕ) (change 
 forest-changed new old n change node there is =
     same_forests (forest_from new) (with_changed n change (forest_from old)) (ascends-forest new) (ascends-with_changed n change (forest_from old) ∙ ascends-forest old) (λ q.
     node_of-forest new q ∙ is q
-    ∙ (λ i. cond {A = Option Node} (flip_test n q i) (option_map change (sym (node_of-forest old n ∙ there) i)) (sym (node_of-forest old q) i))
-    ∙ sym (node_of-with_changed n change (forest_from old) q))
+    ∙ at q (bytes_eq n q) refl
+    ∙ ap (λ (o : Option Node). cond (bytes_eq n q) (option_map change o) o) (sym (node_of-forest old q))
+    ∙ sym (changed_node n change (forest_from old) q))
+  where
+    at : (q : List ℕ) (b : Bool) → bytes_eq n q ≡ b → cond b (Some (change node)) (lookup (bytes_eq q) old) ≡ cond b (option_map change (lookup (bytes_eq q) old)) (lookup (bytes_eq q) old)
+    at q true same = sym (ap (option_map change) (ap (λ (m : List ℕ). lookup (bytes_eq m) old) (sym (is_same n q same)) ∙ there))
+    at q false out = refl
 
 -- a namespace of the forest is among the entries
 pub among_entries : (f : Forest) (es : List (List ℕ × Node)) (n : List ℕ) → forest_from es ≡ f → is_there f n ≡ true → lookup (bytes_eq n) es ≡ None → ⊥

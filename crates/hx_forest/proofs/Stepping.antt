@@ -1,14 +1,14 @@
 -- One step of the walks up the parents.
 --     to_on          after how many steps it comes to a name
 --     counted_on     a count of what is passed, and of what is left
---     halts_on       whether it passes a namespace that is halted by itself
---     climb_on       the chain so far
-use Rattle.std.proofs.Common.{◌≡◌, ℕ, zero, suc, ◌+◌, ◌-◌, ◌<◌, true, false, cond, ◌&&◌, ◌||◌, Option, Some, None, option_map, List, [], ◌∷◌, ◌++◌, is_some, refl, ap, ◌∙◌, arith}
+--     halts_on       whether it passes a namespace that has a reason by its parent
+use Rattle.std.proofs.Common.{◌≡◌, ℕ, zero, suc, ◌+◌, ◌-◌, ◌<◌, false, cond, ◌&&◌, ◌||◌, Option, Some, None, option_map, List, is_some, refl, ap, ◌∙◌, arith}
 use Rattle.std.specs.Prelude.{option_and_then}
 use Rattle.std.specs.Str.{bytes_eq}
 use Rattle.hx_model.specs.declared.node.Node.{Node}
-use Rattle.hx_model.specs.Forest.{Forest, node_of, parent_of, own_halt_of, goes_on, climb}
-use Rattle.hx_model.specs.Walks.{walk_to, walk_halts}
+use Rattle.hx_model.specs.Forest.{Forest, node_of, parent_of}
+use Rattle.hx_model.specs.Walks.{walk_to}
+use Rattle.hx_forest.specs.Inside.{halt_by, walk_halts_by}
 
 nothing_left : {A : Type 0} → 0 < 0 → A
 nothing_left pos = let no : ⊥ = omega arith in absurd no
@@ -33,20 +33,11 @@ pub counted_one : (passed : ℕ) (more : Option ℕ) → counted_on (passed + 1)
 counted_one passed None = refl
 counted_one passed (Some k) = let same : passed + 1 + k ≡ passed + suc k = omega arith in ap Some same
 
--- ---- whether it passes a halted namespace
+-- ---- whether it passes a namespace that has a reason by its parent
 
-pub halts_on : (left : ℕ) (f : Forest) (next : Option (List ℕ)) (n : List ℕ) (node : Node) → 0 < left → next ≡ Some n → node_of f n ≡ Some node → is_some (own_halt_of f n) ≡ false
-    → walk_halts left f next ≡ walk_halts (left - 1) f node.parent
+pub halts_on : (left : ℕ) (f : Forest) (next : Option (List ℕ)) (n : List ℕ) (node : Node) → 0 < left → next ≡ Some n → node_of f n ≡ Some node → is_some (halt_by f (parent_of f n)) ≡ false
+    → walk_halts_by left f next ≡ walk_halts_by (left - 1) f node.parent
 halts_on zero f next n node pos is found free = nothing_left pos
-halts_on (suc left) f next n node pos is found free = ap (walk_halts (suc left) f) is
-    ∙ (λ i. is_some (found i) && (free i || walk_halts left f (option_and_then (λ node. node.parent) (found i))))
-    ∙ ap (λ k. walk_halts k f node.parent) (one_less left)
-
--- ---- the chain so far
-
-pub climb_on : (left : ℕ) (f : Forest) (built : List (List ℕ)) (next : Option (List ℕ)) (n : List ℕ) → 0 < left → next ≡ Some n → goes_on f built n ≡ true
-    → climb left f built next ≡ climb (left - 1) f (built ++ n ∷ []) (parent_of f n)
-climb_on zero f built next n pos is goes = nothing_left pos
-climb_on (suc left) f built next n pos is goes = ap (climb (suc left) f built) is
-    ∙ ap (λ b. cond b (climb left f (built ++ n ∷ []) (parent_of f n)) built) goes
-    ∙ ap (λ k. climb k f (built ++ n ∷ []) (parent_of f n)) (one_less left)
+halts_on (suc left) f next n node pos is found free = ap (walk_halts_by (suc left) f) is
+    ∙ (λ i. is_some (found i) && (free i || walk_halts_by left f (option_and_then (λ node. node.parent) (found i))))
+    ∙ ap (λ k. walk_halts_by k f node.parent) (one_less left)

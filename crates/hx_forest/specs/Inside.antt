@@ -1,19 +1,53 @@
 -- Words for the inside of a forest.
+--     walk_names          the namespaces that a walk up passes
+--     chain_count         how many members a chain has, in a cycle too
 --     halt_under node     the reason that a namespace has by the node of its parent
---     is_farther          n is so many steps above a namespace that these and the base are over a bound
-use Rattle.std.specs.Prelude.{ℕ, ◌+◌, Bool, false, nat_lt, List, [], ◌∷◌, length, Option, Some}
+--     halt_by             the reason that one has by its parent, which may not be there
+--     walk_halts_by       whether a walk up passes a namespace that has such a reason
+--     is_over, goes_deeper      whether the way down from a name goes on for more than so many steps
+use Rattle.std.specs.Prelude.{ℕ, zero, suc, ◌+◌, Bool, false, not, ◌&&◌, ◌||◌, if◌then◌else◌, List, [], ◌∷◌, length, is_some, Option, Some, None}
+use Rattle.std.specs.List.{list_any}
 use Rattle.std.specs.Option.{option_map_or}
+use Rattle.std.specs.Str.{bytes_eq}
 use Rattle.hx_model.specs.First.{so, first}
-use Rattle.hx_model.specs.Forest.{Forest}
+use Rattle.hx_model.specs.Forest.{Forest, node_of, is_there, parent_of}
+use Rattle.hx_forest.specs.Children.{children_of}
+use Rattle.hx_model.specs.Walks.{walk_to}
 use Rattle.hx_model.specs.declared.node.Node.{Node}
 use Rattle.hx_model.specs.declared.node.Halt.{Halt}
 use Rattle.hx_model.specs.declared.node.Halt.TheVariants.{ParentMissing, IllegalParent}
-use Rattle.hx_model.specs.Walks.{walk_to}
+
+-- the namespaces that a walk up passes in so many steps
+abbrev pub walk_names : ℕ → Forest → Option (List ℕ) → List (List ℕ)
+walk_names zero f next = []
+walk_names (suc left) f None = []
+walk_names (suc left) f (Some n) = if is_there f n then n ∷ walk_names left f (parent_of f n) else []
+
+-- how many members a chain has, counted up to one that comes back to itself, and then round once
+abbrev pub chain_count : ℕ → Forest → List ℕ → ℕ
+chain_count zero f n = 0
+chain_count (suc left) f n = if is_there f n then option_map_or (λ p. option_map_or (λ k. k + 1) (walk_to (length f) f (Some p) n) (1 + chain_count left f p)) (parent_of f n) 1 else 0
 
 -- the reason that a namespace has by the node of its parent
 abbrev pub halt_under : Node → Option Halt
 halt_under node = first (so node.terminating ParentMissing ∷ so node.excluded IllegalParent ∷ [])
 
--- n is so many steps above m that these and the base are over the bound
-abbrev pub is_farther : Forest → List ℕ → ℕ → ℕ → List ℕ → Bool
-is_farther f n base most m = option_map_or (λ k. nat_lt most (k + base)) (walk_to (length f) f (Some m) n) false
+-- the reason that a namespace has by its parent, which may not be there
+abbrev pub halt_by : Forest → Option (List ℕ) → Option Halt
+halt_by f None = None
+halt_by f (Some p) = option_map_or halt_under (node_of f p) (Some ParentMissing)
+
+-- whether a walk up passes a namespace that has such a reason
+abbrev pub walk_halts_by : ℕ → Forest → Option (List ℕ) → Bool
+walk_halts_by zero f next = false
+walk_halts_by (suc left) f None = false
+walk_halts_by (suc left) f (Some n) = is_there f n && (is_some (halt_by f (parent_of f n)) || walk_halts_by left f (parent_of f n))
+
+-- c isn't top, and the way down from it goes on for so many steps more, where it doesn't come back to top
+abbrev pub is_over : ℕ → Forest → List ℕ → List ℕ → Bool
+is_over zero f top c = not (bytes_eq c top)
+is_over (suc left) f top c = not (bytes_eq c top) && list_any (is_over left f top) (children_of f c)
+
+-- the way down from n goes on for more than so many steps
+abbrev pub goes_deeper : ℕ → Forest → List ℕ → List ℕ → Bool
+goes_deeper left f top n = list_any (is_over left f top) (children_of f n)

@@ -4,12 +4,15 @@
 #![tactic(auto)]
 
 mod change;
+mod children;
+mod descents;
 mod forest;
-#[cfg(test)]
-mod graphs;
-#[cfg(test)]
-mod tests;
+mod halting;
+mod names;
+mod prepared;
+mod walks;
 
 pub use change::Change;
 pub use forest::Forest;
 pub use hx_model::{Halt, Node};
+pub use walks::Ancestors;

@@ -1,10 +1,10 @@
-use Rattle.std.proofs.Common.{◌≡◌, ◌++◌, ℕ, List, filter}
-use Rattle.std.specs.Map.{keys_of}
-use Rattle.hx_model.specs.Forest.{in_chain}
+use Rattle.std.proofs.Common.{◌≤◌, ◌-◌, length}
+use Rattle.hx_forest.proofs.Descending.{IsDescent}
 use Rattle.hx_forest.proofs.forest.Forest.below.Given as goal
 
--- the names so far, and then those below among the names that are left
-abbrev pub invariant-loop-below : goal.invariant-loop-below
-invariant-loop-below l =
-    let test = λ (m : List ℕ). in_chain l.self.nodes m l.name in
-    l.names.items ++ filter test (keys_of l.below-iterator) ≡ filter test (keys_of l.initial.below-iterator)
+-- the names so far, and the children of the first ones are among them
+abbrev pub invariant-loop-at : goal.invariant-loop-at
+invariant-loop-at l = (l.at ≤ length l.names.items) × IsDescent l.self.nodes l.name l.at l.names.items
+
+abbrev pub decreases-loop-at : goal.decreases-loop-at
+decreases-loop-at l = length l.self.nodes - l.at

@@ -1,16 +1,18 @@
-use Rattle.std.proofs.Common.{sym, ap, ◌∙◌, option_copied}
-use Rattle.std.specs.List.{list_any}
-use Rattle.hx_model.specs.Forest.{names_of}
-use Rattle.hx_model.proofs.Moving.{moved_reaches_deeper}
-use Rattle.hx_forest.specs.Inside.{is_farther}
-use Rattle.hx_forest.proofs.Halting.{apart_from}
+use Rattle.std.proofs.Common.{option_copied}
+use Rattle.hx_forest.proofs.Reasons.{apart_from}
+use Rattle.hx_forest.proofs.Depths.{deeper_base, deeper_below}
 use Rattle.hx_forest.proofs.forest.Forest.reaches_deeper.Goals as goal
 
-pub returns : goal.returns
-returns c =
+pub returns-then-base-most : goal.returns-then-base-most
+returns-then-base-most c =
     let f = c.args.self.now.nodes in
     let n = c.args.name.now in
     let parent = option_copied c.args.parent in
-    c.has_farther.ensures
-    ∙ ap (λ k. list_any (is_farther f n k c.args.most) (names_of f)) c.len_from-base.ensures
-    ∙ sym (moved_reaches_deeper c.args.most f n parent (apart_from f n parent c.requires.apart))
+    deeper_base c.args.most f n parent c.len_from-base.result (apart_from f n parent c.requires.apart) c.requires.there c.len_from-base.ensures c.if-base-most.true
+
+pub returns-else-base-most : goal.returns-else-base-most
+returns-else-base-most c =
+    let f = c.args.self.now.nodes in
+    let n = c.args.name.now in
+    let parent = option_copied c.args.parent in
+    deeper_below c.args.most f n parent c.len_from-base.result c.goes_deeper.result (apart_from f n parent c.requires.apart) c.requires.there c.len_from-base.ensures c.if-base-most.false c.goes_deeper.ensures

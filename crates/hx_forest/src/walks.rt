@@ -1,0 +1,159 @@
+// Walks up the parents.
+ghost use Rattle.std.specs.Prelude.{◌≡◌, ◌+◌, IfOk, Some, length};
+ghost use Rattle.std.specs.Iterator.{YieldsFirstRef, item_count};
+ghost use Rattle.hx_model.specs.Forest.{depth_of, in_chain, chain_of};
+ghost use Rattle.hx_model.specs.Walks.{walk_to, walk_ends};
+
+use crate::forest::Forest;
+use hx_object::{NoMemory, Text};
+use std::marker::Model;
+
+/// The members of a chain: a namespace, its parent, the parent's parent and so on. It ends also where the parents go in a cycle.
+#[derive(Drop)]
+pub struct Ancestors<'a> {
+    forest: &'a Forest,
+    next: Option<&'a Text>,
+    left: usize,
+}
+
+impl<'a> Model for Ancestors<'a> {
+    ghost use Rattle.std.specs.Prelude.{List, ℕ, option_copied};
+    ghost use Rattle.hx_forest.specs.Inside.{walk_names};
+
+    ghost Value = { List (List ℕ) };
+
+    ghost view = { λ a. walk_names a.left a.forest.now.nodes (option_copied a.next) };
+}
+
+impl<'a> Iterator for Ancestors<'a> {
+    type Item = &'a Text;
+
+    ghost next_gives = { YieldsFirstRef (λ s. s) };
+
+    ghost remaining = { item_count (λ s. s) };
+
+    fn next(&mut self) -> Option<&'a Text> {
+        if self.left == 0 {
+            return None;
+        }
+        let member = self.next?;
+        let node = self.forest.node(member)?;
+        self.left -= 1;
+        self.next = node.parent.as_ref();
+        Some(member)
+    }
+}
+
+impl Forest {
+    /// The members of the chain of a namespace, which begins with that one itself. It takes no memory.
+    pub fn ancestors<'a>(&'a self, name: &'a Text) -> Ancestors<'a>
+        ensures { result ≡ chain_of self.now.nodes name.now }
+    {
+        Ancestors {
+            forest: self,
+            next: Some(name),
+            left: self.chain_len(name),
+        }
+    }
+
+    /// A namespace, its parent, the parent's parent and so on: up to a name that isn't there, or one that the chain has.
+    pub fn chain(&self, name: &Text) -> Result<Vec<Text>, NoMemory>
+        ensures { IfOk result (λ names. names.items ≡ chain_of self.now.nodes name.now) }
+    {
+        let mut names = Vec::new(*self.nodes.allocator());
+        for member in self.ancestors(name) {
+            names.push(member.clone()?)?;
+        }
+        Ok(names)
+    }
+
+    /// How far a namespace is from the end of its chain: 0 for a root, and for a name without a namespace.
+    pub fn depth(&self, name: &Text) -> usize
+        ensures { result ≡ depth_of self.now.nodes name.now }
+    {
+        self.chain_len(name).saturating_sub(1)
+    }
+
+    /// How many members the chain of a namespace has.
+    pub(crate) fn chain_len(&self, name: &Text) -> usize
+        ensures { result ≡ length (chain_of self.now.nodes name.now) }
+    {
+        match self.walk_len(name) {
+            Some(len) => len,
+            None => self.len_to_ring(name),
+        }
+    }
+
+    /// How many members the chain of a namespace has that comes to a cycle: those before the cycle, and those in it.
+    fn len_to_ring(&self, name: &Text) -> usize
+        ensures { result ≡ length (chain_of self.now.nodes name.now) }
+    {
+        let mut member = name;
+        let mut passed = 0;
+        let mut left = self.len();
+        while left > 0 {
+            left -= 1;
+            let Some(node) = self.node(member) else {
+                return passed;
+            };
+            let Some(parent) = node.parent.as_ref() else {
+                return passed + 1;
+            };
+            if let Some(steps) = self.steps_to(parent, member) {
+                return passed + steps + 1;
+            }
+            passed += 1;
+            member = parent;
+        }
+        passed
+    }
+
+    /// How many namespaces the walk up passes until it ends. None where it goes in a cycle.
+    pub(crate) fn walk_len(&self, name: &Text) -> Option<usize>
+        ensures { result ≡ walk_ends (length self.now.nodes + 1) self.now.nodes (Some name.now) }
+    {
+        let mut next = Some(name);
+        let mut passed = 0;
+        let mut left = self.len() + 1;
+        while left > 0 {
+            left -= 1;
+            let Some(member) = next else {
+                return Some(passed);
+            };
+            let Some(node) = self.node(member) else {
+                return Some(passed);
+            };
+            passed += 1;
+            next = node.parent.as_ref();
+        }
+        None
+    }
+
+    /// Whether a namespace is in the chain of another, which begins with that one itself.
+    pub fn in_chain(&self, name: &Text, above: &Text) -> bool
+        ensures { result ≡ in_chain self.now.nodes name.now above.now }
+    {
+        self.steps_to(name, above).is_some()
+    }
+
+    /// After how many steps the walk up comes to a namespace.
+    pub(crate) fn steps_to(&self, name: &Text, above: &Text) -> Option<usize>
+        ensures { result ≡ walk_to (length self.now.nodes) self.now.nodes (Some name.now) above.now }
+    {
+        let count = self.len();
+        let mut next = Some(name);
+        for steps in 0..count {
+            let Some(member) = next else {
+                return None;
+            };
+            let Some(node) = self.node(member) else {
+                return None;
+            };
+            if member.as_str() == above.as_str() {
+                return Some(steps);
+            }
+            next = node.parent.as_ref();
+        }
+        None
+    }
+}
