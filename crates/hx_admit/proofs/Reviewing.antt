@@ -1,101 +1,123 @@
 -- What a review promises, by how it ends.
 --     refused_by         what stands against an ask
 --     passes_get, passes_list, passes_unchanged    asks that write nothing
---     ready_write, passes_write      one write
---     passes_create, passes_replace
---     room_made          there is room for the changes
-use Rattle.std.proofs.Common.{◌≡◌, ◌≤◌, ◌+◌, ℕ, length, Bool, true, false, List, [], ◌∷◌, None, Some, Option, refl, sym, ap, subst, ◌∙◌, inl, inr, ◌⊎◌, filter, nat_lt, le-ltb, arith}
-use Rattle.std.specs.Prelude.{Result, Ok, Err, OnOk}
+--     may_none, may_one  no write, and one, may be made
+--     may_put, may_replace      an object with the next version, and that of a PUT, may be put
+--     passes_create, passes_replace     asks of one write
+use Rattle.std.proofs.Common.{◌≡◌, ◌<◌, ◌+◌, ℕ, Bool, true, false, ◌&&◌, List, [], ◌∷◌, None, Some, Option, refl, sym, ap, subst, ◌∙◌, inl, inr, ◌⊎◌, filter, nat_lt, le-ltb, arith, IfSome}
+use Rattle.std.specs.List.{AllByRecursion, IsDistinct}
+use Rattle.std.specs.Str.{bytes_eq}
+use Rattle.hx_object.specs.Faults.{IsLegal}
 use Rattle.hx_object.specs.declared.kind.Kind.{Kind}
+use Rattle.hx_object.specs.declared.kind.Kind.TheVariants.{Namespace}
 use Rattle.hx_object.specs.declared.object.Id.{Id}
 use Rattle.hx_object.specs.declared.object.Object.{Object}
-use Rattle.hx_forest.specs.declared.change.Change.{Change as TreeChange}
-use Rattle.hx_model.specs.Answers.{refusal_of, writes_of, success, shown, is_listed, same_object, replaced_by}
-use Rattle.hx_model.specs.Limits.{bytes_in}
+use Rattle.hx_model.specs.Answers.{refusal_of, writes_of, success, answer_found, is_listed, same_object, replaced_by, version_refusal, rule_refusal}
+use Rattle.hx_model.specs.First.{first}
+use Rattle.hx_model.specs.Limits.{is_namespace, is_hierarchy, bytes_in, greatest_version}
 use Rattle.hx_model.specs.Serving.{IsServed, IsLegalAnswer}
-use Rattle.hx_model.specs.State.{State, row_of, written, stamped, state_after}
+use Rattle.hx_model.specs.State.{State, object_at, with_version, state_after}
+use Rattle.hx_model.specs.Valid.{IsValid}
 use Rattle.hx_model.specs.declared.ask.Ask.{Ask}
 use Rattle.hx_model.specs.declared.ask.Ask.TheVariants.{Get, List as ListOf, Create, Replace}
 use Rattle.hx_model.specs.declared.ask.Answer.{Answer}
 use Rattle.hx_model.specs.declared.ask.Answer.TheVariants.{One, Many}
 use Rattle.hx_model.specs.declared.key.Write.{Write}
-use Rattle.hx_model.specs.declared.key.Write.TheVariants.{Put, Cut}
+use Rattle.hx_model.specs.declared.key.Write.TheVariants.{Put}
 use Rattle.hx_model.specs.declared.refusal.Refusal.{Refusal}
 use Rattle.hx_model.specs.declared.refusal.Refusal.TheVariants.{NoMemory}
-use Rattle.hx_model.proofs.Legality.{legal_stamped, legal_replaced}
-use Rattle.hx_admit.specs.Inside.{IsRefusal, IsReviewed, IsPlanted}
-use Rattle.hx_store.specs.Kept.{puts_in}
-use Rattle.hx_admit.specs.Kept.{Kept, IsCounted}
-use Rattle.hx_admit.specs.Refusing.{refusal_by}
-use Rattle.hx_admit.specs.Reviewing.{Passes, MayWrite, IsReady, HasRoom}
-use Rattle.hx_admit.specs.declared.check.Hurdle.{Hurdle}
-use Rattle.hx_admit.specs.declared.tally.Tally.{Tally}
-use Rattle.hx_admit.proofs.Counting.{valid_counted, listed_legal}
-use Rattle.hx_admit.proofs.Sameness.{found_again}
+use Rattle.hx_model.proofs.Legality.{legal_with_version, legal_replaced}
+use Rattle.hx_model.proofs.Objects.{found_id}
+use Rattle.hx_model.proofs.Planting.{terminating-replaced}
+use Rattle.hx_model.proofs.Storing.{All-found}
+use Rattle.hx_admit.specs.Inside.{IsRefusal, IsReviewed}
+use Rattle.hx_model.specs.Denials.{refusal_by}
+use Rattle.hx_admit.specs.Reviewing.{Passes}
+use Rattle.hx_model.specs.Writes.{MayPut, MayWrite, MayWriteAll, KeepsItsPlace, id_written}
+use Rattle.hx_model.specs.declared.denial.Denial.{Denial}
+use Rattle.hx_admit.proofs.Counting.{valid_served}
+use Rattle.hx_admit.proofs.Homes.{same_annotation}
+use Rattle.hx_model.proofs.Objects.{object_at-put_itself}
 
 -- ---- refusals
 
-pub refused_by : (s : State) (ask : Ask) (id : Id) (hurdle : Hurdle) (refusal : Refusal) → refusal_of s ask ≡ Some (refusal_by id hurdle) → (refusal ≡ refusal_by id hurdle) ⊎ (refusal ≡ NoMemory) → IsRefusal s ask refusal
-refused_by s ask id hurdle refusal e (inl is) = inr (e ∙ ap Some (sym is))
-refused_by s ask id hurdle refusal e (inr is) = inl is
+pub refused_by : (s : State) (ask : Ask) (id : Id) (denial : Denial) (refusal : Refusal) → refusal_of s ask ≡ Some (refusal_by id denial) → (refusal ≡ refusal_by id denial) ⊎ (refusal ≡ NoMemory) → IsRefusal s ask refusal
+refused_by s ask id denial refusal e (inl is) = inr (e ∙ ap Some (sym is))
+refused_by s ask id denial refusal e (inr is) = inl is
 
 -- ---- asks that write nothing
 
 not_less : (n : ℕ) → nat_lt n n ≡ false
 not_less n = le-ltb n n (omega arith)
 
-pub passes_get : (s : State) (id : Id) (x : Object) (writes : List Write) (says : Answer) → row_of s.rows id ≡ Some x → IsServed x → writes ≡ [] → says ≡ One x false → Passes s (Get id) writes says
+pub passes_get : (s : State) (id : Id) (x : Object) (writes : List Write) (says : Answer) → object_at s.objects id ≡ Some x → IsServed x → writes ≡ [] → says ≡ One x false → Passes s (Get id) writes says
 passes_get s id x writes says there served none is =
-    subst (λ ws. Passes s (Get id) ws says) (sym none) (subst (λ a. Passes s (Get id) [] a) (sym is) (record { passes = rw (there, not_less (bytes_in s.rows)) refl; changes = refl; says = ap (λ o. shown o false id) there; legal = served.legal }))
+    subst (λ ws. Passes s (Get id) ws says) (sym none) (subst (λ a. Passes s (Get id) [] a) (sym is) (record { passes = rw (there, not_less (bytes_in s.objects)) refl; changes = refl; says = ap (λ o. answer_found o false id) there; legal = served.legal }))
 
-pub passes_list : (s : State) (kind : Kind) (ns : Option (List ℕ)) (tally : Tally) (writes : List Write) (says : Answer) → IsCounted s.rows s.last tally → writes ≡ [] → says ≡ Many kind (filter (is_listed kind ns) s.rows) s.last → Passes s (ListOf kind ns) writes says
-passes_list s kind ns tally writes says counted none is =
+pub passes_list : (s : State) (kind : Kind) (ns : Option (List ℕ)) (writes : List Write) (says : Answer) → ((p : Object → Bool) → AllByRecursion IsLegal (filter p s.objects)) → writes ≡ [] → says ≡ Many kind (filter (is_listed kind ns) s.objects) s.last → Passes s (ListOf kind ns) writes says
+passes_list s kind ns writes says legal none is =
     subst (λ ws. Passes s (ListOf kind ns) ws says) (sym none) (subst (λ a. Passes s (ListOf kind ns) [] a) (sym is)
-    (record { passes = rw (not_less (bytes_in s.rows)) refl; changes = refl; says = refl; legal = listed_legal (is_listed kind ns) s.rows s.last tally counted }))
+    (record { passes = rw (not_less (bytes_in s.objects)) refl; changes = refl; says = refl; legal = legal (is_listed kind ns) }))
 
-pub passes_unchanged : (s : State) (x old next : Object) (expected : Option ℕ) (skip : Bool) (writes : List Write) (says : Answer) → row_of s.rows x.id ≡ Some old → IsServed x
+pub passes_unchanged : (s : State) (x old next : Object) (expected : Option ℕ) (skip : Bool) (writes : List Write) (says : Answer) → object_at s.objects x.id ≡ Some old → IsServed x
     → (refusal_of s (Replace x expected skip) ≡ None) × (writes_of s (Replace x expected skip) ≡ []) → next ≡ replaced_by old x → next ≡ old → writes ≡ [] → says ≡ One next false → Passes s (Replace x expected skip) writes says
 passes_unchanged s x old next expected skip writes says there served quiet is same none answers =
     subst (λ ws. Passes s (Replace x expected skip) ws says) (sym none) (subst (λ a. Passes s (Replace x expected skip) [] a) (sym answers) (record {
       passes = quiet.0;
       changes = quiet.1;
-      says = ap (λ o. shown o false x.id) there ∙ ap (λ (y : Object). One y false) (sym same);
+      says = ap (λ o. answer_found o false x.id) there ∙ ap (λ (y : Object). One y false) (sym same);
       legal = subst (λ (y : Object). IsLegalAnswer (One y false)) (sym is) (legal_replaced old x served.legal);
     }))
 
--- ---- one write
+-- ---- writes that may be made
 
--- the changes of one write are ready
-pub ready_write : (s : State) (write : Write) (answer : Answer) (tally : Tally) (tree : Option TreeChange) (writes : List Write) (says : Answer) (numbers : Tally) (change : Option TreeChange) → MayWrite s write → IsCounted (written (write ∷ []) s.rows) (s.last + 1) tally → IsPlanted s (write ∷ []) tree
-    → IsReviewed write answer tally tree writes says numbers change → IsReady s writes numbers change
-ready_write s write answer tally tree writes says numbers change may counted plants reviewed =
-    let base : IsReady s (write ∷ []) tally tree = record { may = (may, refl); valid = valid_counted (state_after s (write ∷ [])) tally counted; counted = counted; planted = plants.planted; grows = plants.grows } in
-    subst (λ ws. IsReady s ws numbers change) (sym reviewed.writing) (subst (λ t. IsReady s (write ∷ []) t change) (sym reviewed.counts) (subst (λ t. IsReady s (write ∷ []) tally t) (sym reviewed.grows) base))
+pub may_none : (s : State) (writes : List Write) → writes ≡ [] → MayWriteAll s writes
+unfolding IsDistinct
+may_none s writes none = subst (MayWriteAll s) (sym none) (record { each = tt; distinct = tt; apart = tt; fits = λ some. absurd (some refl) })
 
-passes_write : (s : State) (ask : Ask) (write : Write) (answer : Answer) (tally : Tally) (tree : Option TreeChange) (writes : List Write) (says : Answer) (numbers : Tally) (change : Option TreeChange) → refusal_of s ask ≡ None → writes_of s ask ≡ write ∷ [] → success s (state_after s (write ∷ [])) ask ≡ answer → IsLegalAnswer answer
-    → IsReviewed write answer tally tree writes says numbers change → Passes s ask writes says
-passes_write s ask write answer tally tree writes says numbers change passes changes is legal reviewed =
+-- no identity is both of a namespace and of a HierarchyConfiguration
+unjoined : (kind : Kind) (b : Bool) → (is_namespace kind && is_hierarchy kind && b) ≡ false
+unjoined Namespace b = refl
+unjoined _ b = refl
+
+pub may_one : (s : State) (write : Write) (writes : List Write) → MayWrite s write → s.last < greatest_version → writes ≡ write ∷ [] → MayWriteAll s writes
+unfolding IsDistinct
+may_one s write writes may fits is = subst (MayWriteAll s) (sym is) (record { each = (may, tt); distinct = (tt, tt); apart = ((unjoined (id_written write).kind (bytes_eq (id_written write).name (id_written write).ns), tt), tt); fits = λ some. fits })
+
+-- an object with the next version
+pub may_put : (s : State) (x : Object) → IsServed x → (is_namespace x.id.kind ≡ true → IfSome (object_at s.objects x.id) (λ old. KeepsItsPlace old x)) → MayPut s (with_version x (s.last + 1))
+may_put s x served later = record {
+  served = record { legal = legal_with_version x (s.last + 1) served.legal; written = served.written };
+  next = refl;
+  place = λ is. each (object_at s.objects x.id) (later is);
+}
+  where
+    each : (o : Option Object) → IfSome o (λ old. KeepsItsPlace old x) → IfSome o (λ old. KeepsItsPlace old (with_version x (s.last + 1)))
+    each None p = tt
+    each (Some old) p = record { annotation = p.annotation; phase = p.phase }
+
+-- the object that a PUT gives
+pub may_replace : (s : State) (x old : Object) (expected : Option ℕ) (skip : Bool) → IsValid s → object_at s.objects x.id ≡ Some old → first (version_refusal s (Replace x expected skip) ∷ rule_refusal s (Replace x expected skip) ∷ []) ≡ None → IsServed x
+    → MayPut s (with_version (replaced_by old x) (s.last + 1))
+may_replace s x old expected skip valid there passes served =
+    may_put s (replaced_by old x) (record { legal = legal_replaced old x served.legal; written = served.written }) (λ is.
+    subst (λ (o : Option Object). IfSome o (λ found. KeepsItsPlace found (replaced_by old x))) (sym there)
+    (record { annotation = same_annotation s x old expected skip there passes is; phase = λ gone. terminating-replaced old x (sym (found_id s.objects x.id old there)) is (All-found IsServed x.id old s.objects (valid_served s valid) there) served ∙ gone }))
+
+-- ---- asks of one write
+
+passes_write : (s : State) (ask : Ask) (write : Write) (answer : Answer) (writes : List Write) (says : Answer) → refusal_of s ask ≡ None → writes_of s ask ≡ write ∷ [] → success s (state_after s (write ∷ [])) ask ≡ answer → IsLegalAnswer answer
+    → IsReviewed write answer writes says → Passes s ask writes says
+passes_write s ask write answer writes says passes changes is legal reviewed =
     subst (λ ws. Passes s ask ws says) (sym reviewed.writing) (subst (λ a. Passes s ask (write ∷ []) a) (sym reviewed.answers) (record { passes = passes; changes = changes; says = is; legal = legal }))
 
-pub passes_create : (s : State) (x : Object) (skip : Bool) (tally : Tally) (tree : Option TreeChange) (writes : List Write) (says : Answer) (numbers : Tally) (change : Option TreeChange) → IsServed x → refusal_of s (Create x skip) ≡ None
-    → IsReviewed (Put (stamped x (s.last + 1))) (One (stamped x (s.last + 1)) true) tally tree writes says numbers change → Passes s (Create x skip) writes says
-passes_create s x skip tally tree writes says numbers change served passes reviewed =
-    passes_write s (Create x skip) (Put (stamped x (s.last + 1))) (One (stamped x (s.last + 1)) true) tally tree writes says numbers change passes refl (ap (λ o. shown o true x.id) (found_again (stamped x (s.last + 1)) s.rows)) (legal_stamped x (s.last + 1) served.legal) reviewed
+pub passes_create : (s : State) (x : Object) (skip : Bool) (writes : List Write) (says : Answer) → IsServed x → refusal_of s (Create x skip) ≡ None
+    → IsReviewed (Put (with_version x (s.last + 1))) (One (with_version x (s.last + 1)) true) writes says → Passes s (Create x skip) writes says
+passes_create s x skip writes says served passes reviewed =
+    passes_write s (Create x skip) (Put (with_version x (s.last + 1))) (One (with_version x (s.last + 1)) true) writes says passes refl (ap (λ o. answer_found o true x.id) (object_at-put_itself (with_version x (s.last + 1)) s.objects)) (legal_with_version x (s.last + 1) served.legal) reviewed
 
-pub passes_replace : (s : State) (x old : Object) (expected : Option ℕ) (skip : Bool) (tally : Tally) (tree : Option TreeChange) (writes : List Write) (says : Answer) (numbers : Tally) (change : Option TreeChange) → row_of s.rows x.id ≡ Some old → same_object (replaced_by old x) old ≡ false → IsServed x
-    → refusal_of s (Replace x expected skip) ≡ None → IsReviewed (Put (stamped (replaced_by old x) (s.last + 1))) (One (stamped (replaced_by old x) (s.last + 1)) false) tally tree writes says numbers change → Passes s (Replace x expected skip) writes says
-passes_replace s x old expected skip tally tree writes says numbers change there differs served passes reviewed =
-    let next = stamped (replaced_by old x) (s.last + 1) in
-    passes_write s (Replace x expected skip) (Put next) (One next false) tally tree writes says numbers change passes (rw (there, differs) refl) (ap (λ o. shown o false x.id) (found_again next s.rows)) (legal_stamped (replaced_by old x) (s.last + 1) (legal_replaced old x served.legal)) reviewed
-
--- ---- room
-
-puts_few : (writes : List Write) → puts_in writes ≤ length writes
-puts_few [] = omega arith
-puts_few (Put x ∷ writes) = let few = puts_few writes in omega arith
-puts_few (Cut id ∷ writes) = let few = puts_few writes in omega arith
-
--- there is room for the changes
-pub room_made : {A E : Type 0} (result : Result A E) (k : Kept) (writes : List Write) (count : ℕ) → count ≡ length writes → count ≤ k.objects → OnOk result (2 ≤ k.nodes) → OnOk result (HasRoom k writes)
-room_made (Ok x) k writes count is fits nodes = record { objects = (let few = puts_few writes in omega arith); nodes = nodes }
-room_made (Err fault) k writes count is fits nodes = tt
+pub passes_replace : (s : State) (x old : Object) (expected : Option ℕ) (skip : Bool) (writes : List Write) (says : Answer) → object_at s.objects x.id ≡ Some old → same_object (replaced_by old x) old ≡ false → IsServed x
+    → refusal_of s (Replace x expected skip) ≡ None → IsReviewed (Put (with_version (replaced_by old x) (s.last + 1))) (One (with_version (replaced_by old x) (s.last + 1)) false) writes says → Passes s (Replace x expected skip) writes says
+passes_replace s x old expected skip writes says there differs served passes reviewed =
+    let next = with_version (replaced_by old x) (s.last + 1) in
+    passes_write s (Replace x expected skip) (Put next) (One next false) writes says passes (rw (there, differs) refl) (ap (λ o. answer_found o false x.id) (object_at-put_itself next s.objects)) (legal_with_version (replaced_by old x) (s.last + 1) (legal_replaced old x served.legal)) reviewed

@@ -1,6 +1,8 @@
 pub mod Counting
 pub mod Refusing
-pub mod Kept
+pub mod Limiting
 pub mod Ruling
+pub mod Planning
+pub mod StateView
 pub mod Reviewing
 pub mod Inside

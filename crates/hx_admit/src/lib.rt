@@ -1,23 +1,19 @@
-//! What a request changes and is answered, or the first refusal that holds.
+//! What a request writes and is answered, or the first refusal that holds; and what writes change beside the objects.
 //!
-//! [`Books`] keep the objects of a state, and beside them all that a request would else have to walk over: the tree of namespaces and the running numbers of what is limited. Their reviews are the machine's answers, which `hx_model` defines.
+//! An [`IndexedState`] keeps the objects of a state, and beside them all that a request would else have to walk over: the tree of namespaces and the running numbers of what is limited. Its reviews are the machine's answers, which `hx_model` defines. Writes of any number are staged and then made as one.
 #![tactic(auto)]
 
-mod books;
-mod changes;
-mod check;
-mod hurdles;
+mod case;
+mod checks;
+mod indexed_state;
+mod limits;
+mod plan;
 mod review;
+mod reviewed;
 mod rules;
-mod tally;
-mod terms;
-#[cfg(test)]
-mod tests;
 mod tree;
 mod update;
 
-pub use books::Books;
-pub use changes::{Changes, Reviewed};
-pub use check::GREATEST_VERSION;
-pub use tally::Tally;
-pub use terms::Terms;
+pub use indexed_state::IndexedState;
+pub use limits::{GREATEST_VERSION, LimitCounts};
+pub use reviewed::Reviewed;

@@ -5,15 +5,14 @@ ghost use Rattle.hx_model.specs.Answers.{replaced_by, with_status};
 use hx_object::{NoMemory, Object, Payload};
 
 /// The object that a PUT gives in the place of another, of that one's version. The status that is reported stays.
-pub fn replaced_by(old: &Object, object: &Object) -> Result<Object, NoMemory>
-    ensures { IfOk result (λ o. o ≡ replaced_by old.now object.now) }
+pub fn replaced_by(old: &Object, object: Object) -> Result<Object, NoMemory>
+    ensures { IfOk result (λ o. o ≡ replaced_by old.now object) }
 {
-    let copy = object.copy()?;
     Ok(Object {
-        id: copy.id,
-        labels: copy.labels,
-        annotations: copy.annotations,
-        payload: with_status(&old.payload, copy.payload)?,
+        id: object.id,
+        labels: object.labels,
+        annotations: object.annotations,
+        payload: with_status(&old.payload, object.payload)?,
         version: old.version,
     })
 }

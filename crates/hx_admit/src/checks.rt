@@ -1,0 +1,135 @@
+// The checks of a write.
+ghost use Rattle.std.specs.Prelude.{◌≡◌, ◌<◌, ◌∷◌, [], Some, None, option_copied, option_map, IfSome, OnOk};
+ghost use Rattle.hx_model.specs.Answers.{refusal_of, version_refusal, rule_refusal, lacks_namespace, case_at, other_version};
+ghost use Rattle.hx_model.specs.Denials.{refusal_by};
+ghost use Rattle.hx_model.specs.First.{first};
+ghost use Rattle.hx_model.specs.Limits.{greatest_version};
+ghost use Rattle.hx_model.specs.Rules.{rules};
+ghost use Rattle.hx_model.specs.Serving.{IsServed};
+ghost use Rattle.hx_model.specs.State.{object_at};
+ghost use Rattle.hx_model.specs.Valid.{IsValid};
+ghost use Rattle.hx_model.specs.declared.ask.Ask.TheVariants as ask_of;
+ghost use Rattle.hx_admit.specs.Inside.{IsHomeOf, place_refusals, growth_refusals, objects_with};
+ghost use Rattle.hx_admit.specs.Refusing.{fault_in};
+
+use crate::case::Case;
+use crate::indexed_state::IndexedState;
+use crate::limits::{check_counts, check_growth, counts};
+use crate::rules::check_rules;
+use hx_model::Denial;
+use hx_object::{Id, Object};
+
+impl IndexedState {
+    /// Finds what stands against a POST.
+    pub(crate) fn check_create(&self, object: &Object, skip: bool) -> Result<(), Denial>
+        requires served { IsServed object.now }
+        ensures refusal { option_map (refusal_by object.now.id) (fault_in result) ≡ refusal_of self.now.state (ask_of.Create object.now skip) }
+        ensures free { OnOk result (object_at self.now.state.objects object.now.id ≡ None) }
+        ensures fits { OnOk result (self.now.state.last < greatest_version) }
+    {
+        let id = &object.id;
+        self.check_place(id)?;
+        self.check_case(id, None, Some(object), self.home_of(id), skip)?;
+        check_counts(id.kind.is_namespace(), counts(object), self.counts)?;
+        self.check_growth(id, None, Some(object))
+    }
+
+    /// Finds what stands against a PUT before its growth is known.
+    pub(crate) fn check_replace(
+        &self,
+        old: &Object,
+        object: &Object,
+        expected: Option<u64>,
+        skip: bool,
+    ) -> Result<(), Denial>
+        requires there { object_at self.now.state.objects object.now.id ≡ Some old.now }
+        ensures refusal { option_map (refusal_by object.now.id) (fault_in result) ≡ first (version_refusal self.now.state (ask_of.Replace object.now expected skip) ∷ rule_refusal self.now.state (ask_of.Replace object.now expected skip) ∷ []) }
+        ensures valid { OnOk result (IsValid self.now.state) }
+    {
+        let id = &object.id;
+        check_version(old, expected)?;
+        self.check_case(id, Some(old), Some(object), self.home_of(id), skip)?;
+        Ok(())
+    }
+
+    /// Finds what stands against a DELETE.
+    pub(crate) fn check_delete(&self, old: &Object, id: &Id, skip: bool) -> Result<(), Denial>
+        requires there { object_at self.now.state.objects id.now ≡ Some old.now }
+        ensures refusal { option_map (refusal_by id.now) (fault_in result) ≡ refusal_of self.now.state (ask_of.Delete id.now skip) }
+        ensures fits { OnOk result (self.now.state.last < greatest_version) }
+    {
+        self.check_case(id, Some(old), None, self.home_of(id), skip)?;
+        self.check_growth(id, Some(old), None)
+    }
+
+    /// Finds that bytes rise over their limit where `new` stands in the place of `old`, or that no version is left.
+    pub(crate) fn check_growth(
+        &self,
+        id: &Id,
+        old: Option<&Object>,
+        new: Option<&Object>,
+    ) -> Result<(), Denial>
+        requires there { object_at self.now.state.objects id.now ≡ option_copied old }
+        requires served { IfSome (option_copied new) (λ x. IsServed x × (x.id ≡ id.now)) }
+        ensures refusal { option_map (refusal_by id.now) (fault_in result) ≡ first (growth_refusals self.now.state (objects_with self.now.state id.now (option_copied new.entry))) }
+        ensures fits { OnOk result (self.now.state.last < greatest_version) }
+    {
+        check_growth(self.counts, old, new, self.store.version())
+    }
+
+    /// Finds that the namespace of an object isn't there, or that the object is.
+    fn check_place(&self, id: &Id) -> Result<(), Denial>
+        ensures refusal { option_map (refusal_by id.now) (fault_in result) ≡ first (place_refusals self.now.state id.now) }
+        ensures free { OnOk result (object_at self.now.state.objects id.now ≡ None) }
+    {
+        if self.lacks_namespace(id) {
+            return Err(Denial::NoNamespace);
+        }
+        if self.store.get(id).is_some() {
+            return Err(Denial::Exists);
+        }
+        Ok(())
+    }
+
+    /// Whether the namespace that an object lies in isn't there.
+    fn lacks_namespace(&self, id: &Id) -> bool
+        ensures { result ≡ lacks_namespace self.now.state id.now }
+    {
+        !id.kind.is_in_cluster() && self.forest.node(&id.ns).is_none()
+    }
+
+    /// Finds the first rule that a write or a removal breaks.
+    fn check_case(
+        &self,
+        id: &Id,
+        old: Option<&Object>,
+        new: Option<&Object>,
+        home: Option<&Object>,
+        skip: bool,
+    ) -> Result<(), Denial>
+        requires there { object_at self.now.state.objects id.now ≡ option_copied old }
+        requires home { IsHomeOf self.now.state id.now (option_copied home) }
+        ensures fault { fault_in result ≡ first (rules (case_at self.now.state id.now (option_copied old.entry) (option_copied new.entry) skip)) }
+        ensures valid { IsValid self.now.state }
+    {
+        check_rules(&Case {
+            id,
+            old,
+            new,
+            home,
+            forest: &self.forest,
+            config: &self.config,
+            skip,
+        })
+    }
+}
+
+/// Finds that an object is expected to have another version.
+fn check_version(old: &Object, expected: Option<u64>) -> Result<(), Denial>
+    ensures { option_map (refusal_by old.now.id) (fault_in result) ≡ other_version expected (Some old.now) }
+{
+    match expected {
+        Some(version) if old.version != version => Err(Denial::OtherVersion(old.version)),
+        _ => Ok(()),
+    }
+}

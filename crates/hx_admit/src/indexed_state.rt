@@ -1,0 +1,112 @@
+// A state with its indexes.
+ghost use Rattle.std.specs.Prelude.{◌≡◌, ◌≤◌, [], OnOk, OnErr, IfOk};
+ghost use Rattle.hx_model.specs.Limits.{greatest_version};
+ghost use Rattle.hx_model.specs.State.{opening_state, state_after};
+ghost use Rattle.hx_model.specs.Writes.{MayWriteAll};
+
+use crate::limits::LimitCounts;
+use hx_forest::Forest;
+use hx_model::RunConfig;
+use hx_object::NoMemory;
+use hx_store::{Change, Store};
+use std::alloc::Global;
+use std::marker::Model;
+
+/// The objects of a state, with their tree and their running numbers.
+///
+/// Writes are staged first, which makes room for all that they change. They are made later without taking memory, or given up.
+/// Reviews are in review.rt, what stands against a write in checks.rt, and what writes change beside the objects in plan.rt.
+#[derive(Drop)]
+pub struct IndexedState {
+    pub(crate) store: Store,
+    pub(crate) forest: Forest,
+    pub(crate) counts: LimitCounts,
+    /// The numbers once the staged writes are made.
+    pub(crate) next: LimitCounts,
+    pub(crate) config: RunConfig,
+}
+
+impl Model for IndexedState {
+    ghost use Rattle.hx_admit.specs.StateView.{StateView, state_view_code, state_in, IsIndexed};
+
+    ghost Value = { StateView };
+
+    ghost coded = { state_view_code };
+
+    ghost view = { λ s. record { state = state_in s.config s.store.objects s.store.version; staged = s.store.staged } };
+
+    ghost invariant = { λ s. IsIndexed s.config s.store s.counts s.next s.forest };
+}
+
+impl IndexedState {
+    /// A state without objects. It takes no memory.
+    pub fn new(alloc: Global, version: u64, config: RunConfig) -> IndexedState
+        requires { version ≤ greatest_version }
+        ensures state { result.state ≡ opening_state config version }
+        ensures staged { result.staged ≡ [] }
+    {
+        IndexedState {
+            store: Store::new(alloc, version),
+            forest: Forest::new(alloc),
+            counts: LimitCounts::none(),
+            next: LimitCounts::none(),
+            config,
+        }
+    }
+
+    /// The version of the last write.
+    pub fn version(&self) -> u64
+        ensures { result ≡ self.now.state.last }
+    {
+        self.store.version()
+    }
+
+    /// What the state takes its memory from.
+    pub fn allocator(&self) -> Global {
+        self.store.allocator()
+    }
+
+    /// The writes that are staged.
+    pub fn staged(&self) -> &[Change]
+        ensures { result.now ≡ self.now.staged }
+    {
+        self.store.staged()
+    }
+
+    /// Makes ready the writes of one version, and makes room for all that they change. What was staged before is given up.
+    pub fn stage(&mut self, writes: Vec<Change>) -> Result<(), NoMemory>
+        requires { MayWriteAll self.old.state writes.items }
+        ensures state { self.new.state ≡ self.old.state }
+        ensures staged { OnOk result (self.new.staged ≡ writes.items) }
+        ensures none { OnErr result (self.new.staged ≡ []) }
+    {
+        self.discard();
+        let plan = self.plan(writes.as_slice())?;
+        self.forest.stage(plan.tree)?;
+        self.next = plan.counts;
+        self.store.stage(writes)
+    }
+
+    /// Makes the staged writes, all with the next version. It takes no memory.
+    pub fn apply(&mut self)
+        ensures state { self.new.state ≡ state_after self.old.state self.old.staged }
+        ensures staged { self.new.staged ≡ [] }
+    {
+        if self.store.staged().is_empty() {
+            return;
+        }
+        let version = self.store.version() + 1;
+        self.store.apply(version);
+        self.forest.apply();
+        self.counts = self.next;
+    }
+
+    /// Gives up the staged writes.
+    pub fn discard(&mut self)
+        ensures state { self.new.state ≡ self.old.state }
+        ensures staged { self.new.staged ≡ [] }
+    {
+        self.store.discard();
+        self.forest.discard();
+    }
+}

@@ -1,0 +1,154 @@
+// The limits of a store, and what a store has of what is limited.
+ghost use Rattle.std.specs.Prelude.{◌≡◌, ◌≤◌, ◌+◌, [], IfSome, IfOk, option_copied};
+ghost use Rattle.hx_object.specs.Sizes.{size_of, greatest_size};
+ghost use Rattle.hx_model.specs.First.{first};
+ghost use Rattle.hx_model.specs.Limits.{part_of, namespace_one, counted_one, counted_size, counts, is_copy};
+ghost use Rattle.hx_admit.specs.Counting.{Counts, IsPart, counts_of};
+ghost use Rattle.hx_admit.specs.Limiting.{count_denials, growth_denials, rises_over};
+ghost use Rattle.hx_admit.specs.Refusing.{fault_in};
+
+use hx_model::{Denial, Rule};
+use hx_object::well_known::INHERITED_FROM;
+use hx_object::{NoMemory, Object};
+
+const MOST_NAMES: u64 = 4_096;
+
+const MOST_OBJECTS: u64 = 65_536;
+
+const MOST_BYTES: u64 = 268_435_456;
+
+/// The greatest version of a write.
+pub const GREATEST_VERSION: u64 = i64::MAX as u64;
+
+/// What a store has of what is limited, as running numbers. They may be over the limits, which are refusals of requests alone.
+#[derive(Clone, Copy, Debug, PartialEq, Eq)]
+pub struct LimitCounts {
+    /// The names of namespaces and anchors.
+    pub names: u64,
+    /// The objects that count: all but namespaces, HierarchyConfigurations and copies.
+    pub objects: u64,
+    /// The sum of the sizes of the objects that count.
+    pub bytes: u64,
+}
+
+impl LimitCounts {
+    /// The numbers of no objects.
+    pub fn none() -> LimitCounts
+        ensures { result ≡ counts_of [] }
+    {
+        LimitCounts {
+            names: 0,
+            objects: 0,
+            bytes: 0,
+        }
+    }
+
+    /// The numbers once `new` stands in the place of `old`, where either may be none. More objects than a number can count find no memory.
+    pub fn after(self, old: Option<&Object>, new: Option<&Object>) -> Result<LimitCounts, NoMemory>
+        requires small { IfSome (option_copied old) (λ x. size_of x ≤ greatest_size) × IfSome (option_copied new) (λ x. size_of x ≤ greatest_size) }
+        requires counted { IsPart (option_copied old) self }
+        ensures { IfOk result (Counts (option_copied old.entry) (option_copied new.entry) self) }
+    {
+        Ok(LimitCounts {
+            names: add(self.names, names_of(new))? - names_of(old),
+            objects: add(self.objects, objects_of(new))? - objects_of(old),
+            bytes: add(self.bytes, bytes_of(new))? - bytes_of(old),
+        })
+    }
+}
+
+fn add(count: u64, more: u64) -> Result<u64, NoMemory>
+    ensures { IfOk result (λ sum. sum ≡ count + more) }
+{
+    count.checked_add(more).ok_or(NoMemory)
+}
+
+/// Finds the first limit that a name or an object passes, where a request brings one.
+pub(crate) fn check_counts(
+    brings_name: bool,
+    brings_object: bool,
+    counts: LimitCounts,
+) -> Result<(), Denial>
+    ensures { fault_in result ≡ first (count_denials brings_name brings_object counts) }
+{
+    if brings_name && counts.names >= MOST_NAMES {
+        return Err(Denial::Broken(Rule::L1));
+    }
+    if brings_object && counts.objects >= MOST_OBJECTS {
+        return Err(Denial::Broken(Rule::L2));
+    }
+    Ok(())
+}
+
+/// Finds that the bytes rise over their limit where `new` stands in the place of `old`, or that no version is left after `last`.
+pub(crate) fn check_growth(
+    counts: LimitCounts,
+    old: Option<&Object>,
+    new: Option<&Object>,
+    last: u64,
+) -> Result<(), Denial>
+    requires small { IfSome (option_copied old) (λ x. size_of x ≤ greatest_size) × IfSome (option_copied new) (λ x. size_of x ≤ greatest_size) }
+    requires counted { IsPart (option_copied old) counts }
+    ensures { fault_in result ≡ first (growth_denials counts (option_copied old.entry) (option_copied new.entry) last) }
+{
+    if rises_over(counts.bytes, bytes_of(old), bytes_of(new)) {
+        return Err(Denial::Broken(Rule::L3));
+    }
+    if last >= GREATEST_VERSION {
+        return Err(Denial::Broken(Rule::L4));
+    }
+    Ok(())
+}
+
+/// Whether bytes rise over their limit where some come in the place of others.
+fn rises_over(bytes: u64, old: u64, new: u64) -> bool
+    requires part { old ≤ bytes }
+    requires small { new ≤ greatest_size }
+    ensures { result ≡ rises_over bytes old new }
+{
+    old < new && bytes - old > MOST_BYTES - new
+}
+
+fn names_of(object: Option<&Object>) -> u64
+    ensures { result ≡ part_of namespace_one (option_copied object.entry) }
+{
+    match object {
+        Some(object) if object.id.kind.is_namespace() => 1,
+        _ => 0,
+    }
+}
+
+fn objects_of(object: Option<&Object>) -> u64
+    ensures { result ≡ part_of counted_one (option_copied object.entry) }
+{
+    match object {
+        Some(object) if counts(object) => 1,
+        _ => 0,
+    }
+}
+
+fn bytes_of(object: Option<&Object>) -> u64
+    requires { IfSome (option_copied object) (λ x. size_of x ≤ greatest_size) }
+    ensures { result ≡ part_of counted_size (option_copied object.entry) }
+{
+    match object {
+        Some(object) if counts(object) => object.size() as u64,
+        _ => 0,
+    }
+}
+
+/// Whether an object counts against the limits.
+#[tactic(auto, unfolding(hx_model::specs::Limits::counts))]
+pub fn counts(object: &Object) -> bool
+    ensures { result ≡ counts object.now }
+{
+    !object.id.kind.is_namespace() && !object.id.kind.is_hierarchy() && !is_copy(object)
+}
+
+/// Whether an object is a copy, as reconcilers write them.
+#[tactic(auto, unfolding(hx_model::specs::Limits::is_copy))]
+fn is_copy(object: &Object) -> bool
+    ensures { result ≡ is_copy object.now }
+{
+    object.id.kind.can_be_copied() && object.labels.get(INHERITED_FROM).is_some()
+}

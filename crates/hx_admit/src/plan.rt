@@ -1,0 +1,156 @@
+// What writes change beside the objects.
+ghost use Rattle.std.specs.Prelude.{◌≡◌, IfOk, option_copied};
+ghost use Rattle.hx_model.specs.State.{object_at};
+ghost use Rattle.hx_model.specs.Tree.{node_in};
+ghost use Rattle.hx_store.specs.Changes.{id_of};
+ghost use Rattle.hx_admit.specs.Inside.{IsHomeOf};
+ghost use Rattle.hx_admit.specs.Planning.{IsPlan, planting, moving, tree_change};
+ghost use Rattle.hx_model.specs.Writes.{MayWriteAll};
+
+use crate::indexed_state::IndexedState;
+use crate::limits::LimitCounts;
+use crate::tree::{is_terminating, parent_by};
+use hx_forest::Change as TreeChange;
+use hx_model::Node;
+use hx_object::well_known::HIERARCHY;
+use hx_object::{Id, Kind, NoMemory, Object, Shared, Text};
+use hx_store::Change;
+
+/// What writes change beside the objects.
+#[derive(Drop)]
+pub(crate) struct Plan {
+    /// The numbers once the writes are made.
+    pub(crate) counts: LimitCounts,
+    /// The changes of the tree, in the order of the writes.
+    pub(crate) tree: Vec<TreeChange>,
+}
+
+impl IndexedState {
+    /// Finds what writes change. Each write is looked at by itself, since none touches what another looks at.
+    pub(crate) fn plan(&self, writes: &[Change]) -> Result<Plan, NoMemory>
+        requires { MayWriteAll self.now.state writes.now }
+        ensures plan { IfOk result (λ plan. IsPlan self.now.state writes.now plan.counts plan.tree.items) }
+    {
+        let mut counts = self.counts;
+        let mut tree = Vec::new(self.store.allocator());
+        for write in writes {
+            let old = object_in(self.store.get(write.id()));
+            counts = counts.after(old, object_in(write.object()))?;
+            if let Some(change) = self.tree_change(write, old)? {
+                tree.push(change)?;
+            }
+        }
+        Ok(Plan { counts, tree })
+    }
+
+    /// What a write changes of the tree.
+    fn tree_change(
+        &self,
+        write: &Change,
+        old: Option<&Object>,
+    ) -> Result<Option<TreeChange>, NoMemory>
+        requires { object_at self.now.state.objects (id_of write.now) ≡ option_copied old }
+        ensures { IfOk result (λ change. change ≡ tree_change self.now.state write.now) }
+    {
+        let id = write.id();
+        let new = object_in(write.object());
+        if id.kind.is_namespace() {
+            return self.planting(old, new);
+        }
+        if id.kind.is_hierarchy() {
+            return moving(id, new, self.home_of(id));
+        }
+        Ok(None)
+    }
+
+    /// The change by a namespace.
+    fn planting(
+        &self,
+        old: Option<&Object>,
+        new: Option<&Object>,
+    ) -> Result<Option<TreeChange>, NoMemory>
+        ensures { IfOk result (λ change. change ≡ planting self.now.state (option_copied old.entry) (option_copied new.entry)) }
+    {
+        match (old, new) {
+            (None, None) => Ok(None),
+            (None, Some(new)) => Ok(Some(TreeChange::Add {
+                name: new.id.name.clone()?,
+                node: self.node_of(new)?,
+            })),
+            (Some(old), Some(new)) if is_terminating(new) && !is_terminating(old) => {
+                Ok(Some(TreeChange::SetTerminating {
+                    name: new.id.name.clone()?,
+                }))
+            }
+            (Some(_), Some(_)) => Ok(None),
+            (Some(old), None) => Ok(Some(TreeChange::Remove {
+                name: old.id.name.clone()?,
+            })),
+        }
+    }
+
+    /// The node of a namespace.
+    fn node_of(&self, namespace: &Object) -> Result<Node, NoMemory>
+        ensures { IfOk result (λ node. node ≡ node_in self.now.state.config.excluded self.now.state.objects namespace.now) }
+    {
+        let name = &namespace.id.name;
+        let hierarchy = self
+            .store
+            .find(Kind::HierarchyConfiguration, name.as_str(), HIERARCHY);
+        let parent = parent_by(namespace, object_in(hierarchy));
+        Ok(Node {
+            parent: clone_of(parent)?,
+            terminating: is_terminating(namespace),
+            excluded: self.config.excludes(name),
+        })
+    }
+
+    /// The namespace of a HierarchyConfiguration. The rules look at no other object's.
+    pub(crate) fn home_of(&self, id: &Id) -> Option<&Object>
+        ensures { IsHomeOf self.now.state id.now (option_copied result) }
+    {
+        if !id.kind.is_hierarchy() {
+            return None;
+        }
+        object_in(self.store.find(Kind::Namespace, "", id.ns.as_str()))
+    }
+}
+
+/// The change by a HierarchyConfiguration, where its namespace is there.
+fn moving(
+    id: &Id,
+    new: Option<&Object>,
+    home: Option<&Object>,
+) -> Result<Option<TreeChange>, NoMemory>
+    ensures { IfOk result (λ change. change ≡ moving id.now (option_copied new.entry) (option_copied home.entry)) }
+{
+    if id.name.as_str() != HIERARCHY {
+        return Ok(None);
+    }
+    match home {
+        Some(home) => Ok(Some(TreeChange::SetParent {
+            name: id.ns.clone()?,
+            parent: clone_of(parent_by(home, new))?,
+        })),
+        None => Ok(None),
+    }
+}
+
+/// The object that is found.
+fn object_in(found: Option<&Shared>) -> Option<&Object>
+    ensures { option_copied result ≡ option_copied found.entry }
+{
+    match found {
+        Some(shared) => Some(shared.object()),
+        None => None,
+    }
+}
+
+fn clone_of(name: Option<&Text>) -> Result<Option<Text>, NoMemory>
+    ensures { IfOk result (λ copy. copy ≡ option_copied name.entry) }
+{
+    match name {
+        Some(name) => Ok(Some(name.clone()?)),
+        None => Ok(None),
+    }
+}

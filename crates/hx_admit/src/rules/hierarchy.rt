@@ -1,0 +1,165 @@
+// The rules on HierarchyConfigurations.
+ghost use Rattle.std.specs.Prelude.{◌≡◌, false, is_some, option_copied};
+ghost use Rattle.hx_model.specs.First.{first};
+ghost use Rattle.hx_model.specs.Forest.{is_live, halt_of};
+ghost use Rattle.hx_model.specs.Cases.{any_of};
+ghost use Rattle.hx_model.specs.RulesHierarchy.{hierarchy_rules, tree_rules, new_parent, parent_after, changes_parent, lacks_parent, closes_cycle, contradicts, moves_halted, meets_excluded, grows_too_deep, is_ancestor, is_kept_out};
+ghost use Rattle.hx_admit.specs.Refusing.{fault_in};
+ghost use Rattle.hx_admit.specs.Ruling.{case_of, IsAtHome};
+
+use super::check_rule;
+use crate::case::{Case, is_same_name};
+use crate::tree::{annotated_parent, given_parent, parent_by};
+use hx_forest::{Forest, Halt};
+use hx_model::{Denial, Rule};
+use hx_object::Text;
+use hx_object::well_known::HIERARCHY;
+
+/// No namespace is moved to a greater depth. A root is at depth 0.
+const GREATEST_DEPTH: usize = 64;
+
+pub fn check_rules(case: &Case) -> Result<(), Denial>
+    requires { IsAtHome (case_of case.now) }
+    ensures { fault_in result ≡ first (hierarchy_rules (case_of case.now)) }
+{
+    let is_named = case.id.name.as_str() == HIERARCHY;
+    check_rule(Rule::H7, case.is_write() && !is_named)?;
+    if case.skip {
+        return Ok(());
+    }
+    check_tree(case)
+}
+
+/// The rules on the tree, which admission may skip.
+fn check_tree(case: &Case) -> Result<(), Denial>
+    requires { IsAtHome (case_of case.now) }
+    ensures { fault_in result ≡ first (tree_rules (case_of case.now)) }
+{
+    check_rule(Rule::H1, lacks_parent(case))?;
+    check_rule(Rule::H2, closes_cycle(case))?;
+    check_rule(Rule::H3, contradicts(case))?;
+    check_rule(Rule::H4, moves_halted(case))?;
+    check_rule(Rule::H6, case.is_write() && meets_excluded(case))?;
+    check_rule(Rule::H8, case.is_write() && grows_too_deep(case))
+}
+
+/// A parent that the given object names, and the one that is there doesn't.
+fn new_parent<'a>(case: &Case<'a>) -> Option<&'a Text>
+    ensures { option_copied result ≡ new_parent (case_of case.now) }
+{
+    let parent = given_parent(case.new)?;
+    if is_same_name(Some(parent), given_parent(case.old)) {
+        None
+    } else {
+        Some(parent)
+    }
+}
+
+/// The parent that the namespace has once the write is made.
+fn parent_after<'a>(case: &Case<'a>) -> Option<&'a Text>
+    ensures { option_copied result ≡ parent_after (case_of case.now) }
+{
+    if case.id.name.as_str() != HIERARCHY {
+        return case.forest.parent(&case.id.ns);
+    }
+    parent_by(case.home?, case.new)
+}
+
+fn changes_parent(case: &Case) -> bool
+    ensures { result ≡ changes_parent (case_of case.now) }
+{
+    !is_same_name(case.forest.parent(&case.id.ns), parent_after(case))
+}
+
+/// Whether a new parent isn't there, or is on its way out.
+fn lacks_parent(case: &Case) -> bool
+    ensures { result ≡ lacks_parent (case_of case.now) }
+{
+    match new_parent(case) {
+        Some(parent) => !is_live(case.forest, parent),
+        None => false,
+    }
+}
+
+/// Whether a namespace is there, and isn't on its way out.
+fn is_live(forest: &Forest, name: &Text) -> bool
+    ensures { result ≡ is_live forest.now.nodes name.now }
+{
+    match forest.node(name) {
+        Some(node) => !node.terminating,
+        None => false,
+    }
+}
+
+/// Whether the namespace is in the chain of a new parent.
+fn closes_cycle(case: &Case) -> bool
+    ensures { result ≡ closes_cycle (case_of case.now) }
+{
+    match new_parent(case) {
+        Some(parent) => case.forest.in_chain(parent, &case.id.ns),
+        None => false,
+    }
+}
+
+/// Whether the annotation of a subnamespace names another parent.
+fn contradicts(case: &Case) -> bool
+    ensures { result ≡ contradicts (case_of case.now) }
+{
+    match (given_parent(case.new), annotated_parent(case.home)) {
+        (Some(named), Some(annotated)) => named.as_str() != annotated.as_str(),
+        _ => false,
+    }
+}
+
+/// Whether the parent changes where an ancestor is halted, or to one that is.
+fn moves_halted(case: &Case) -> bool
+    ensures { result ≡ moves_halted (case_of case.now) }
+{
+    changes_parent(case)
+        && (is_below_halted(case.forest, &case.id.ns) || is_halted(case.forest, parent_after(case)))
+}
+
+/// Whether an ancestor is halted, and the namespace by that alone.
+fn is_below_halted(forest: &Forest, ns: &Text) -> bool
+    ensures { result ≡ any_of is_ancestor (halt_of forest.now.nodes ns.now) }
+{
+    matches!(forest.halt(ns), Some(Halt::Ancestor))
+}
+
+/// Whether there is such a parent, and it is halted.
+fn is_halted(forest: &Forest, parent: Option<&Text>) -> bool
+    ensures { result ≡ any_of (λ p. is_some (halt_of forest.now.nodes p)) (option_copied parent.entry) }
+{
+    match parent {
+        Some(parent) => forest.halt(parent).is_some(),
+        None => false,
+    }
+}
+
+/// Whether the namespace or a new parent is excluded.
+fn meets_excluded(case: &Case) -> bool
+    ensures { result ≡ meets_excluded (case_of case.now) }
+{
+    case.config.excludes(&case.id.ns) || excludes_parent(case)
+}
+
+fn excludes_parent(case: &Case) -> bool
+    ensures { result ≡ any_of (is_kept_out (case_of case.now)) (new_parent (case_of case.now)) }
+{
+    match new_parent(case) {
+        Some(parent) => case.config.excludes(parent),
+        None => false,
+    }
+}
+
+/// Whether the parent changes, and a namespace below would be too deep.
+fn grows_too_deep(case: &Case) -> bool
+    requires at_home { IsAtHome (case_of case.now) }
+    requires open { closes_cycle (case_of case.now) ≡ false }
+    ensures { result ≡ grows_too_deep (case_of case.now) }
+{
+    changes_parent(case)
+        && case
+            .forest
+            .reaches_deeper(&case.id.ns, parent_after(case), GREATEST_DEPTH)
+}
