@@ -1,95 +1,95 @@
--- The entry that a ready write makes, by how the keeper took it.
---     standing           what a cluster is seen as
---     passes_entry       an answer of success is a request's own entry
---     sound_landed       the fields are sound after the batch landed
---     enters_landed      the batch landed
---     enters_lost        the keeper refused it
-use Rattle.std.proofs.Common.{◌≡◌, ◌≤◌, ◌+◌, ℕ, Bool, true, false, List, [], ◌∷◌, None, Some, Option, refl, sym, ap, subst, ◌∙◌, inl, inr, ◌⊎◌, is_some}
-use Rattle.std.specs.Prelude.{option_map, IfSome}
-use Rattle.hx_object.specs.declared.object.Id.{Id}
-use Rattle.hx_object.specs.declared.object.Object.{Object}
+-- What a commit leaves, by how the keeper took the batch.
+--     held_prepared      what a keeper holds before its batch
+--     landed             the batch landed
+--     failed             the keeper failed
+--     unchanged          no memory was left
+--     sound_landed, sound_failed     the fields are sound afterwards
+--     sound_committed    they are, however the commit ended
+use Rattle.std.proofs.Common.{◌≡◌, ◌≤◌, true, false, List, [], None, Some, IfSome, Option, refl, sym, ap, subst, ◌∙◌, inl, inr, ◌⊎◌, true≢false, Ok, Err}
+use Rattle.std.specs.Prelude.{OnOk, IsErrOf}
+use Rattle.std.specs.declared.result.Result.{Result}
 use Rattle.hx_ports.specs.Causes.{Rose}
-use Rattle.hx_ports.specs.Keeping.{Kept, Lands, with_batch}
+use Rattle.hx_ports.specs.Keeping.{Kept, Lands}
+use Rattle.hx_ports.specs.Views.{KeeperView}
 use Rattle.hx_ports.specs.declared.keeper.Batch.{Batch}
 use Rattle.hx_ports.specs.declared.keeper.KeepFault.{KeepFault}
-use Rattle.hx_ports.specs.declared.keeper.KeepFault.TheVariants.{Fault, NoMemory}
-use Rattle.hx_model.specs.Answers.{success, shown, Changes}
-use Rattle.hx_model.specs.Machine.{Request, request_entry}
-use Rattle.hx_model.specs.State.{State, state_after, row_of}
+use Rattle.hx_ports.specs.declared.keeper.KeepFault.TheVariants.{Fault, NoMemory as KeepNoMemory}
+use Rattle.hx_model.specs.Machine.{World, broken_at}
+use Rattle.hx_model.specs.State.{State, state_after}
 use Rattle.hx_model.specs.Valid.{IsValid}
-use Rattle.hx_model.specs.declared.ask.Ask.{Ask}
-use Rattle.hx_model.specs.declared.ask.Ask.TheVariants.{Get, List as ListOf, Create, Replace, Delete}
-use Rattle.hx_model.specs.declared.ask.Answer.{Answer}
-use Rattle.hx_model.specs.declared.ask.Answer.TheVariants.{Refused as Refusing}
+use Rattle.hx_model.specs.Writes.{MayWriteAll}
 use Rattle.hx_model.specs.declared.key.Write.{Write}
-use Rattle.hx_model.specs.declared.refusal.Refusal.TheVariants.{StoreFailed, NoMemory as NoRoom}
-use Rattle.hx_model.proofs.Replying.{answer-passed}
-use Rattle.hx_admit.specs.Reviewing.{Passes}
-use Rattle.hx_core.specs.Batches.{batch_of}
-use Rattle.hx_core.specs.Inside.{IsSound}
-use Rattle.hx_core.specs.Standing.{Standing, Makes, kept_of}
-use Rattle.hx_core.proofs.Making.{makes_nothing, makes_write, makes_fault}
-use Rattle.hx_core.proofs.Storing.{OneWrite, landed_held}
+use Rattle.hx_model.proofs.Writes.{valid_after}
+use Rattle.hx_core.specs.Committing.{HasLanded, HasFailed, Holds, IsPrepared, holding}
+use Rattle.hx_core.specs.Inside.{IsSound, view_of}
+use Rattle.hx_core.specs.Refinement.{ClusterView, kept_of}
+use Rattle.hx_core.specs.declared.commit.CommitFault.{CommitFault}
+use Rattle.hx_core.specs.declared.commit.CommitFault.TheVariants.{KeeperFault, NoMemory}
+use Rattle.hx_core.specs.declared.commit.Landed.{Landed}
+use Rattle.hx_core.proofs.Making.{stands_landed, stands_failed}
+use Rattle.hx_core.proofs.Storing.{landed_held}
 
--- what a cluster is seen as
-abbrev pub standing : State → Option Kept → Bool → ℕ → Standing
-standing s kept broken faults = record { state = s; kept = kept; broken = broken; faults = faults }
+-- the keeper took the batch
+pub landed : (s t : State) (ws : List Write) (batch : Batch) (k k' : KeeperView) → IsValid s → Holds s k → IsPrepared s ws batch → t ≡ state_after s ws
+    → Lands batch k.kept k'.kept → k.broken ≡ false → k'.broken ≡ false → k'.place ≡ k.place → k'.faults ≡ k.faults → HasLanded (view_of s k) ws (view_of t k')
+landed s t ws batch k k' valid held ready moves lands whole whole' place faults =
+    let kept : k'.kept ≡ (holding t k).kept = landed_held s ws batch k.kept k'.kept valid ready (held whole) lands ∙ ap (λ u. (holding u k).kept) (sym moves) in
+    let broken : k'.broken ≡ k.broken = whole' ∙ sym whole in
+    record { state = moves; keeper = λ i. record { place = place i; kept = kept i; broken = broken i; faults = faults i }; whole = whole }
 
--- a success is a request's own entry
-shown_entry : (ask : Ask) (found : Option Object) (fresh : Bool) (id : Id) → request_entry ask (shown found fresh id) ≡ Request ask (shown found fresh id)
-shown_entry ask None fresh id = refl
-shown_entry ask (Some x) fresh id = refl
+-- the keeper failed
+pub failed : (s t : State) (ws : List Write) (batch : Batch) (k k' : KeeperView) → IsValid s → Holds s k → IsPrepared s ws batch → t ≡ s
+    → (k'.kept ≡ k.kept) ⊎ (Lands batch k.kept k'.kept × (k.broken ≡ false)) → k'.broken ≡ true → k'.place ≡ k.place → k.faults ≤ k'.faults → Rose k.faults k'.faults → HasFailed (view_of s k) ws (view_of t k')
+failed s t ws batch k k' valid held ready same torn breaks place later rose =
+    record { state = same; place = place; broken = breaks; kept = elim torn [ inl e ↦ inl e | inr (lands, whole) ↦ inr (whole, landed_held s ws batch k.kept k'.kept valid ready (held whole) lands) ]; later = later; rose = rose }
 
-success_entry : (s t : State) (ask : Ask) → request_entry ask (success s t ask) ≡ Request ask (success s t ask)
-success_entry s t (Get id) = shown_entry (Get id) (row_of s.rows id) false id
-success_entry s t (ListOf kind ns) = refl
-success_entry s t (Create x skip) = shown_entry (Create x skip) (row_of t.rows x.id) true x.id
-success_entry s t (Replace x expected skip) = shown_entry (Replace x expected skip) (row_of t.rows x.id) false x.id
-success_entry s t (Delete id skip) = refl
+-- no memory was left
+pub unchanged : (s t : State) (k k' : KeeperView) → t ≡ s → k'.kept ≡ k.kept → k'.broken ≡ k.broken → k'.place ≡ k.place → k'.faults ≡ k.faults → view_of t k' ≡ view_of s k
+unchanged s t k k' same kept broken place faults = λ i. record { state = same i; keeper = record { place = place i; kept = kept i; broken = broken i; faults = faults i } }
 
-pub passes_entry : (s : State) (ask : Ask) (writes : List Write) (answer : Answer) → Passes s ask writes answer → request_entry ask answer ≡ Request ask answer
-passes_entry s ask writes answer passes = subst (λ a. request_entry ask a ≡ Request ask a) passes.says (success_entry s (state_after s writes) ask)
+-- ---- the fields afterwards
 
-still_told : (o : Option Kept) (f : Kept → Kept) → is_some (option_map f o) ≡ is_some o
-still_told None f = refl
-still_told (Some h) f = refl
+pub sound_same : (s t : State) (k k' : KeeperView) (staged staged' : List Write) → IsSound s k staged → staged' ≡ [] → view_of t k' ≡ view_of s k → IsSound t k' staged'
+sound_same s t k k' staged staged' sound none same =
+    subst (λ (c : ClusterView). IsSound c.state c.keeper staged') (sym same) (record { valid = sound.valid; held = sound.held; world = sound.world; none = none })
 
--- ---- the batch landed
+holds_landed : (t : State) (kept : Option Kept) → IfSome (holding t (record { place = None; kept = kept; broken = false; faults = 0 })).kept (λ held. held ≡ kept_of t)
+holds_landed t None = tt
+holds_landed t (Some h) = refl
 
-pub sound_landed : (s s' : State) (writes : List Write) (batch : Batch) (kept kept' : Option Kept) (broken broken' : Bool) → IsSound kept broken s → IsValid (state_after s writes) → OneWrite s writes → broken ≡ false → batch ≡ batch_of writes (s.last + 1) → Lands batch kept kept'
-    → s' ≡ state_after s writes → IsSound kept' broken' s'
-sound_landed s s' writes batch kept kept' broken broken' sound after one whole batched lands moves =
-    subst (IsSound kept' broken') (sym moves) (record { valid = after; held = λ _. landed_held s writes batch kept kept' sound.valid after one batched (sound.held whole) lands })
+pub sound_landed : (s t : State) (ws : List Write) (k k' : KeeperView) (staged staged' : List Write) → IsSound s k staged → MayWriteAll s ws → staged' ≡ [] → HasLanded (view_of s k) ws (view_of t k') → IsSound t k' staged'
+sound_landed s t ws k k' staged staged' sound may none done =
+    let next : World = record sound.world.0 { state = state_after sound.world.0.state ws } in
+    record {
+      valid = subst IsValid (sym done.state) (valid_after s ws sound.valid may);
+      held = λ _. subst (λ (v : KeeperView). IfSome v.kept (λ held. held ≡ kept_of t)) (sym done.keeper) (holds_landed t k.kept);
+      world = (next, stands_landed (view_of s k) (view_of t k') ws sound.world.0 next done sound.world.1 refl);
+      none = none;
+    }
 
-pub enters_landed : (s s' : State) (writes : List Write) (batch : Batch) (answer : Answer) (kept kept' : Option Kept) (broken broken' : Bool) (faults faults' : ℕ) (ask : Ask)
-    → IsSound kept broken s → IsValid (state_after s writes) → OneWrite s writes → broken ≡ false → broken' ≡ false → batch ≡ batch_of writes (s.last + 1) → Lands batch kept kept' → s' ≡ state_after s writes → faults ≤ faults'
-    → Passes s ask writes answer → Makes (standing s kept broken faults) (request_entry ask answer ∷ []) (standing s' kept' broken' faults')
-enters_landed s s' writes batch answer kept kept' broken broken' faults faults' ask sound after one whole whole' batched lands moves later passes =
-    let held = landed_held s writes batch kept kept' sound.valid after one batched (sound.held whole) lands in
-    makes_write (standing s kept broken faults) (standing s' kept' broken' faults') ask answer (passes_entry s ask writes answer passes)
-    (answer-passed s ask writes passes.passes passes.changes ∙ (λ i. (passes.says i, sym moves i))) whole whole'
-    (subst (λ t. IfSome kept' (λ held. held ≡ kept_of t)) (sym moves) held) later (ap is_some lands ∙ still_told kept (with_batch batch))
+pub sound_failed : (s t : State) (ws : List Write) (k k' : KeeperView) (staged staged' : List Write) → IsSound s k staged → staged' ≡ [] → HasFailed (view_of s k) ws (view_of t k') → IsSound t k' staged'
+sound_failed s t ws k k' staged staged' sound none lost =
+    let next : World = broken_at sound.world.0 (state_after sound.world.0.state ws) in
+    record {
+      valid = subst IsValid (sym lost.state) sound.valid;
+      held = λ whole. absurd (true≢false (sym lost.broken ∙ whole));
+      world = (next, stands_failed (view_of s k) (view_of t k') ws sound.world.0 next lost sound.world.1 refl);
+      none = none;
+    }
 
--- ---- the keeper refused the batch
+-- ---- the answers of a commit
 
-no_writes : (s : State) (writes : List Write) → OneWrite s writes → writes ≡ [] → ⊥
-no_writes s writes one none = let h : one.write ∷ [] ≡ [] = sym one.is ∙ none in cc
+-- a fault of the commit is one of the keeper
+pub fault_of_keeper : (fault : KeepFault) (r : CommitFault) → (fault ≡ KeepNoMemory → r ≡ NoMemory) → r ≡ KeeperFault → fault ≡ Fault
+fault_of_keeper Fault r memory e = refl
+fault_of_keeper KeepNoMemory r memory e = let h : r ≡ NoMemory = memory refl in cc
 
-pub enters_lost : (s s' : State) (writes : List Write) (batch : Batch) (answer : Answer) (fault : KeepFault) (lost : Answer) (kept kept' : Option Kept) (broken broken' : Bool) (faults faults' : ℕ) (ask : Ask)
-    → IsSound kept broken s → IsValid (state_after s writes) → OneWrite s writes → batch ≡ batch_of writes (s.last + 1) → s' ≡ s
-    → (fault ≡ Fault → (broken' ≡ true) × ((kept' ≡ kept) ⊎ (Lands batch kept kept' × (broken ≡ false))) × (lost ≡ Refusing StoreFailed) × Rose faults faults')
-    → (fault ≡ NoMemory → (kept' ≡ kept) × (broken' ≡ broken) × (lost ≡ Refusing NoRoom)) → faults ≤ faults'
-    → Passes s ask writes answer → Makes (standing s kept broken faults) (request_entry ask lost ∷ []) (standing s' kept' broken' faults')
-enters_lost s s' writes batch answer Fault lost kept kept' broken broken' faults faults' ask sound after one batched same failed memory later passes =
-    let facts = failed refl in
-    let changing : Changes s ask = (passes.passes, λ none. no_writes s writes one (sym passes.changes ∙ none)) in
-    makes_fault (standing s kept broken faults) (standing s' kept' broken' faults') ask lost facts.2 changing same facts.0
-    (elim facts.1 [ inl e ↦ inl e | inr lands ↦ inr (lands.1, subst (λ ws. IfSome kept' (λ held. held ≡ kept_of (state_after s ws))) (sym passes.changes) (landed_held s writes batch kept kept' sound.valid after one batched (sound.held lands.1) lands.0)) ])
-    facts.3 later (told facts.1)
-  where
-    told : (kept' ≡ kept) ⊎ (Lands batch kept kept' × (broken ≡ false)) → is_some kept' ≡ is_some kept
-    told (inl e) = ap is_some e
-    told (inr (lands, whole)) = ap is_some lands ∙ still_told kept (with_batch batch)
-enters_lost s s' writes batch answer NoMemory lost kept kept' broken broken' faults faults' ask sound after one batched same failed memory later passes =
-    let facts = memory refl in
-    makes_nothing (standing s kept broken faults) (standing s' kept' broken' faults') ask lost facts.2 same facts.0 facts.1 later
+-- the fields are sound, however the commit ended
+pub sound_committed : (s r t : State) (ws prepared : List Write) (k k' : KeeperView) (staged staged' : List Write) (result : Result Landed CommitFault) → IsSound s k staged → MayWriteAll s ws → r ≡ s → prepared ≡ ws → staged' ≡ []
+    → OnOk result (HasLanded (view_of r k) prepared (view_of t k')) → (IsErrOf result NoMemory → view_of t k' ≡ view_of r k) → (IsErrOf result KeeperFault → HasFailed (view_of r k) prepared (view_of t k')) → IsSound t k' staged'
+sound_committed s r t ws prepared k k' staged staged' (Ok l) sound may same all none done memory fault =
+    sound_landed s t ws k k' staged staged' sound may none (subst (λ us. HasLanded (view_of s k) us (view_of t k')) all (subst (λ u. HasLanded (view_of u k) prepared (view_of t k')) same done))
+sound_committed s r t ws prepared k k' staged staged' (Err NoMemory) sound may same all none done memory fault =
+    sound_same s t k k' staged staged' sound none (memory refl ∙ ap (λ u. view_of u k) same)
+sound_committed s r t ws prepared k k' staged staged' (Err KeeperFault) sound may same all none done memory fault =
+    sound_failed s t ws k k' staged staged' sound none (subst (λ us. HasFailed (view_of s k) us (view_of t k')) all (subst (λ u. HasFailed (view_of u k) prepared (view_of t k')) same (fault refl)))

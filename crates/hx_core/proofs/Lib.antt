@@ -1,7 +1,8 @@
-pub mod Making
 pub mod Keys
-pub mod Batches
+pub mod Batching
 pub mod Storing
+pub mod Making
 pub mod Committing
 pub mod Starting
 pub mod Refusing
+pub mod Asking

@@ -1,136 +1,126 @@
 -- The entries that calls make.
---     Makes-none, Makes-then     no entries;  some after others
---     makes_nothing              want of memory
---     makes_read                 an answer of the machine that changes nothing
---     makes_write                one that was committed
---     makes_fault                a commit that failed
-use Rattle.std.proofs.Common.{◌≡◌, ◌≤◌, ℕ, Bool, true, false, [], ◌∷◌, ◌++◌, None, Some, is_some, IfSome, refl, sym, ap, subst, ◌∙◌, inl, inr, arith, true≢false}
-use Rattle.std.specs.Prelude.{◌⊎◌, ◌||◌, if◌then◌else◌, IsSomeAnd}
+--     enters_still               an entry that leaves its world
+--     enters_landed              one whose writes landed
+--     enters_failed              one whose writes were lost to a fault of the keeper
+-- An entry is a request's, or any other whose worlds are told.
+use Rattle.std.proofs.Common.{◌≡◌, Bool, true, false, List, [], ◌∷◌, None, Some, is_some, IfSome, refl, sym, ap, subst, ◌∙◌, inl, inr, arith, true≢false}
+use Rattle.std.specs.Prelude.{◌⊎◌, ◌||◌, if◌then◌else◌, IsSomeAnd, option_map}
 use Rattle.std.specs.declared.option.Option.{Option}
-use Rattle.hx_ports.specs.Causes.{Rose}
 use Rattle.hx_ports.specs.Keeping.{Kept}
-use Rattle.hx_model.specs.declared.ask.Ask.{Ask}
-use Rattle.hx_model.specs.declared.ask.Answer.{Answer}
-use Rattle.hx_model.specs.declared.ask.Answer.TheVariants.{Refused as Refusing}
-use Rattle.hx_model.specs.declared.refusal.Refusal.TheVariants.{StoreFailed, NoMemory as NoRoom}
+use Rattle.hx_ports.specs.Views.{KeeperView}
+use Rattle.hx_model.specs.Machine.{World, Entry, IsLegal, world_after, broken_at, is_lost_to_fault}
 use Rattle.hx_model.specs.State.{State, state_after}
-use Rattle.hx_model.specs.Answers.{answer_to, writes_of, Changes}
-use Rattle.hx_model.specs.Machine.{World, Entry, Request, LostRequest, NoMemory, KeeperFault, History, IsLegal, world_after, broken_at, replay, loses_to_fault, is_lost_to_fault, request_entry}
-use Rattle.hx_model.proofs.Histories.{IsHistory-append, replay-append, loses_to_fault-append}
-use Rattle.hx_core.specs.Standing.{Standing, StandsFor, Makes, IsKeptOf, kept_of}
+use Rattle.hx_model.specs.declared.key.Write.{Write}
+use Rattle.hx_core.specs.Committing.{HasLanded, HasFailed}
+use Rattle.hx_core.specs.Refinement.{ClusterView, Represents, HasWorld, Simulates, IsKeptOf, kept_of}
 
--- ---- one after the other
-
-pub Makes-none : (c : Standing) → Makes c [] c
-Makes-none c = record { steps = λ w stands. (tt, stands); later = omega arith; cause = λ e. absurd (true≢false (sym e)); tells = refl }
-
-rose_before : (a b c : ℕ) → a ≤ b → Rose b c → Rose a c
-rose_before a b c le rose = omega arith
-
-rose_after : (a b c : ℕ) → b ≤ c → Rose a b → Rose a c
-rose_after a b c le rose = omega arith
+-- ---- one entry
 
 either_lost : (x y : Bool) → (x || y) ≡ true → (x ≡ true) ⊎ (y ≡ true)
 either_lost true y e = inl refl
 either_lost false y e = inr e
 
-pub Makes-then : (a b c : Standing) (h k : History) → Makes a h b → Makes b k c → Makes a (h ++ k) c
-Makes-then a b c h k p q = record {
-  steps = λ w stands.
-      let first = p.steps w stands in
-      let second = q.steps (replay w h) first.1 in
-      (IsHistory-append w h k first.0 second.0, subst (StandsFor c) (sym (replay-append w h k)) second.1);
-  later = omega (arith, p.later, q.later);
-  cause = λ e. elim (either_lost (loses_to_fault h) (loses_to_fault k) (sym (loses_to_fault-append h k) ∙ e)) [
-    | inl left ↦ rose_after a.faults b.faults c.faults q.later (p.cause left)
-    | inr right ↦ rose_before a.faults b.faults c.faults p.later (q.cause right)
-  ];
-  tells = q.tells ∙ p.tells;
-}
+neither_lost : (x y : Bool) → (x || y) ≡ false → (x ≡ false) × (y ≡ false)
+neither_lost true y e = absurd (true≢false e)
+neither_lost false y e = (refl, e)
 
--- ---- one entry
+-- what an entry does in a world
+abbrev pub Enters : ClusterView → Entry → ClusterView → Type 0
+Enters old e new = (w : World) → Represents old w → IsLegal w e × Represents new (world_after w e)
 
-makes_one : (old new : Standing) (e : Entry) → ((w : World) → StandsFor old w → IsLegal w e × StandsFor new (world_after w e))
-    → old.faults ≤ new.faults → (is_lost_to_fault e ≡ true → Rose old.faults new.faults) → is_some new.kept ≡ is_some old.kept → Makes old (e ∷ []) new
-makes_one old new e steps later cause tells = record {
+-- an entry that isn't lost to a fault, and a keeper that counts none
+makes_whole : (old new : ClusterView) (e : Entry) → HasWorld old → Enters old e new → is_lost_to_fault e ≡ false → new.keeper.faults ≡ old.keeper.faults → is_some new.keeper.kept ≡ is_some old.keeper.kept → new.keeper.place ≡ old.keeper.place
+    → Simulates old (e ∷ []) new
+makes_whole old new e stood steps whole same tells place = record {
+  stood = stood;
   steps = λ w stands. let step = steps w stands in ((step.0, tt), step.1);
-  later = later;
-  cause = λ lost. elim (either_lost (is_lost_to_fault e) false lost) [ inl is ↦ cause is | inr is ↦ absurd (true≢false (sym is)) ];
+  later = omega (arith, same);
+  cause = λ lost. elim (either_lost (is_lost_to_fault e) false lost) [ inl is ↦ absurd (true≢false (sym is ∙ whole)) | inr is ↦ absurd (true≢false (sym is)) ];
+  still = λ _. same;
   tells = tells;
+  place = place;
 }
 
--- nothing was done for want of memory
-pub makes_nothing : (old new : Standing) (ask : Ask) (answer : Answer) → answer ≡ Refusing NoRoom → new.state ≡ old.state → new.kept ≡ old.kept → new.broken ≡ old.broken → old.faults ≤ new.faults
-    → Makes old (request_entry ask answer ∷ []) new
-makes_nothing old new ask answer is state kept broken later =
-    subst (λ a. Makes old (request_entry ask a ∷ []) new) (sym is)
-    (makes_one old new (LostRequest ask NoMemory)
-    (λ w stands. (tt, record { state = stands.state ∙ sym state; hands = stands.hands; broken = stands.broken ∙ sym broken; kept = subst (λ k. IfSome k (IsKeptOf w)) (sym kept) stands.kept }))
-    later (λ e. absurd (true≢false (sym e))) (ap is_some kept))
+-- ---- worlds
 
-not_lost : (ask : Ask) (answer : Answer) (e : Entry) → e ≡ Request ask answer → is_lost_to_fault e ≡ true → ⊥
-not_lost ask answer e is lost = true≢false (sym lost ∙ ap is_lost_to_fault is)
+-- a cluster stands for a world of the same state, brokenness and content
+stands_same : (old new : ClusterView) (w v : World) → new ≡ old → v ≡ w → Represents old w → Represents new v
+stands_same old new w v same is stands = subst (Represents new) (sym is) (subst (λ c. Represents c w) (sym same) stands)
 
--- an answer that leaves the state
-pub makes_read : (c : Standing) (ask : Ask) (answer : Answer) → request_entry ask answer ≡ Request ask answer → answer_to c.state ask ≡ (answer, c.state) → (Changes c.state ask → ⊥)
-    → Makes c (request_entry ask answer ∷ []) c
-makes_read c ask answer entry says quiet =
-    makes_one c c (request_entry ask answer) (λ w stands.
-    let says_here : answer_to w.state ask ≡ (answer, c.state) = ap (λ s. answer_to s ask) stands.state ∙ says in
-    let same : (answer_to w.state ask).1 ≡ w.state = ap (λ p. p.1) says_here ∙ sym stands.state in
-    let world : ◌≡◌ {A = World} (record w { state = (answer_to w.state ask).1 }) w = λ i. record w { state = same i } in
-    subst (λ e. IsLegal w e × StandsFor c (world_after w e)) (sym entry)
-    ((sym (ap (λ p. p.0) says_here), λ changes. absurd (quiet (subst (λ s. Changes s ask) stands.state changes))), subst (StandsFor c) (sym world) stands))
-    (omega arith) (λ lost. absurd (not_lost ask answer _ entry lost)) refl
-
--- an answer whose write was committed
-pub makes_write : (old new : Standing) (ask : Ask) (answer : Answer) → request_entry ask answer ≡ Request ask answer → answer_to old.state ask ≡ (answer, new.state)
-    → old.broken ≡ false → new.broken ≡ false → IfSome new.kept (λ held. held ≡ kept_of new.state) → old.faults ≤ new.faults → is_some new.kept ≡ is_some old.kept
-    → Makes old (request_entry ask answer ∷ []) new
-makes_write old new ask answer entry says whole whole' held later tells =
-    makes_one old new (request_entry ask answer) (λ w stands.
-    let says_here : answer_to w.state ask ≡ (answer, new.state) = ap (λ s. answer_to s ask) stands.state ∙ says in
-    let moves : (answer_to w.state ask).1 ≡ new.state = ap (λ p. p.1) says_here in
-    subst (λ e. IsLegal w e × StandsFor new (world_after w e)) (sym entry) (
-      (sym (ap (λ p. p.0) says_here), λ changes. stands.broken ∙ whole),
-      record { state = moves; hands = stands.hands; broken = stands.broken ∙ whole ∙ sym whole'; kept = holds new.kept (record w { state = (answer_to w.state ask).1 }) moves held },
-    ))
-    later (λ lost. absurd (not_lost ask answer _ entry lost)) tells
-  where
-    holds : (kept : Option Kept) (w : World) → w.state ≡ new.state → IfSome kept (λ held. held ≡ kept_of new.state) → IfSome kept (IsKeptOf w)
-    holds None w is p = tt
-    holds (Some h) w is p = inl (p ∙ ap kept_of (sym is))
-
--- what the keeper holds after a fault: what it held or, where it wasn't broken, that with the write
-abbrev pub IsTorn : Standing → Option Kept → Ask → Type 0
-IsTorn old kept' ask = (kept' ≡ old.kept) ⊎ ((old.broken ≡ false) × IfSome kept' (λ held. held ≡ kept_of (state_after old.state (writes_of old.state ask))))
+-- what is held of a state is what the keeper may hold in a world of it
+holds_state : (s : State) (w : World) (kept : Option Kept) → w.state ≡ s → IfSome (option_map (λ _. kept_of s) kept) (IsKeptOf w)
+holds_state s w None is = tt
+holds_state s w (Some h) is = inl (ap kept_of (sym is))
 
 still_kept : (kept : Option Kept) (w : World) (torn : State) → IfSome kept (IsKeptOf w) → IfSome kept (IsKeptOf (broken_at w torn))
 still_kept None w torn p = tt
 still_kept (Some h) w torn (inl is) = inl is
 still_kept (Some h) w torn (inr (broken, is)) = inr (refl, subst (λ b. IsSomeAnd (if b then w.torn else Some torn) (λ s. h ≡ kept_of s)) (sym broken) is)
 
-maybe_written : (kept : Option Kept) (w : World) (torn : State) → w.broken ≡ false → IfSome kept (λ held. held ≡ kept_of torn) → IfSome kept (IsKeptOf (broken_at w torn))
-maybe_written None w torn whole p = tt
-maybe_written (Some h) w torn whole p = inr (refl, subst (λ b. IsSomeAnd (if b then w.torn else Some torn) (λ s. h ≡ kept_of s)) (sym whole) p)
+maybe_written : (kept : Option Kept) (w : World) (torn s : State) → w.broken ≡ false → torn ≡ s → IfSome (option_map (λ _. kept_of s) kept) (IsKeptOf (broken_at w torn))
+maybe_written None w torn s whole is = tt
+maybe_written (Some h) w torn s whole is = inr (refl, subst (λ b. IsSomeAnd (if b then w.torn else Some torn) (λ t. kept_of s ≡ kept_of t)) (sym whole) (ap kept_of (sym is)))
 
--- a commit failed
-pub makes_fault : (old new : Standing) (ask : Ask) (answer : Answer) → answer ≡ Refusing StoreFailed → Changes old.state ask → new.state ≡ old.state → new.broken ≡ true → IsTorn old new.kept ask
-    → Rose old.faults new.faults → old.faults ≤ new.faults → is_some new.kept ≡ is_some old.kept → Makes old (request_entry ask answer ∷ []) new
-makes_fault old new ask answer is changes same breaks torn rose later tells =
-    subst (λ a. Makes old (request_entry ask a ∷ []) new) (sym is)
-    (makes_one old new (LostRequest ask KeeperFault) (λ w stands.
-    let here = sym stands.state in
-    let torn_state = state_after w.state (writes_of w.state ask) in (
-      subst (λ s. Changes s ask) here changes,
-      record {
-        state = stands.state ∙ sym same;
-        hands = stands.hands;
-        broken = sym breaks;
-        kept = elim torn [
-          | inl e ↦ subst (λ k. IfSome k (IsKeptOf (broken_at w torn_state))) (sym e) (still_kept old.kept w torn_state stands.kept)
-          | inr (whole, held) ↦ maybe_written new.kept w torn_state (stands.broken ∙ whole) (subst (λ s. IfSome new.kept (λ h. h ≡ kept_of (state_after s (writes_of s ask)))) here held)
-        ];
-      },
-    ))
-    later (λ _. rose) tells)
+-- the cluster that made the writes stands for the world of the state after them
+pub stands_landed : (old new : ClusterView) (ws : List Write) (w v : World) → HasLanded old ws new → Represents old w → v ≡ record w { state = state_after w.state ws } → Represents new v
+stands_landed old new ws w v landed stands is =
+    let next : World = record w { state = state_after w.state ws } in
+    let state : next.state ≡ new.state = ap (λ s. state_after s ws) stands.state ∙ sym landed.state in
+    subst (Represents new) (sym is) (record {
+      state = state;
+      hands = stands.hands;
+      broken = stands.broken ∙ sym (ap (λ (k : KeeperView). k.broken) landed.keeper);
+      kept = subst (λ (k : KeeperView). IfSome k.kept (IsKeptOf next)) (sym landed.keeper) (holds_state new.state next old.keeper.kept state);
+    })
+
+-- the cluster whose keeper failed stands for the world that broke at them
+pub stands_failed : (old new : ClusterView) (ws : List Write) (w v : World) → HasFailed old ws new → Represents old w → v ≡ broken_at w (state_after w.state ws) → Represents new v
+stands_failed old new ws w v failed stands is =
+    let torn : State = state_after w.state ws in
+    subst (Represents new) (sym is) (record {
+      state = stands.state ∙ sym failed.state;
+      hands = stands.hands;
+      broken = sym failed.broken;
+      kept = elim failed.kept [
+        | inl same ↦ subst (λ k. IfSome k (IsKeptOf (broken_at w torn))) (sym same) (still_kept old.keeper.kept w torn stands.kept)
+        | inr (whole, held) ↦ subst (λ k. IfSome k (IsKeptOf (broken_at w torn))) (sym held) (maybe_written old.keeper.kept w torn (state_after old.state ws) (stands.broken ∙ whole) (ap (λ s. state_after s ws) stands.state))
+      ];
+    })
+
+-- ---- the entries
+
+-- an entry that leaves its world
+pub enters_still : (old new : ClusterView) (e : Entry) → HasWorld old → new ≡ old → is_lost_to_fault e ≡ false → ((w : World) → Represents old w → IsLegal w e × (world_after w e ≡ w)) → Simulates old (e ∷ []) new
+enters_still old new e stood same whole stays =
+    makes_whole old new e stood (λ w stands. let here = stays w stands in (here.0, stands_same old new w (world_after w e) same here.1 stands)) whole
+    (ap (λ (c : ClusterView). c.keeper.faults) same) (ap (λ (c : ClusterView). is_some c.keeper.kept) same) (ap (λ (c : ClusterView). c.keeper.place) same)
+
+still_told : {A B : Type 0} (o : Option A) (f : A → B) → is_some (option_map f o) ≡ is_some o
+still_told None f = refl
+still_told (Some a) f = refl
+
+-- an entry whose writes landed
+pub enters_landed : (old new : ClusterView) (ws : List Write) (e : Entry) → HasWorld old → HasLanded old ws new → is_lost_to_fault e ≡ false
+    → ((w : World) → Represents old w → IsLegal w e × (world_after w e ≡ record w { state = state_after w.state ws })) → Simulates old (e ∷ []) new
+enters_landed old new ws e stood landed whole lands =
+    makes_whole old new e stood (λ w stands. let here = lands w stands in (here.0, stands_landed old new ws w (world_after w e) landed stands here.1)) whole
+    (ap (λ (k : KeeperView). k.faults) landed.keeper) (ap (λ (k : KeeperView). is_some k.kept) landed.keeper ∙ still_told old.keeper.kept (λ _. kept_of new.state)) (ap (λ (k : KeeperView). k.place) landed.keeper)
+
+failed_tells : (old new : ClusterView) (ws : List Write) → HasFailed old ws new → is_some new.keeper.kept ≡ is_some old.keeper.kept
+failed_tells old new ws failed = elim failed.kept [
+  | inl same ↦ ap is_some same
+  | inr (whole, held) ↦ ap is_some held ∙ still_told old.keeper.kept (λ _. kept_of (state_after old.state ws))
+]
+
+-- an entry whose writes were lost to a fault of the keeper
+pub enters_failed : (old new : ClusterView) (ws : List Write) (e : Entry) → HasWorld old → HasFailed old ws new → is_lost_to_fault e ≡ true
+    → ((w : World) → Represents old w → IsLegal w e × (world_after w e ≡ broken_at w (state_after w.state ws))) → Simulates old (e ∷ []) new
+enters_failed old new ws e stood failed lost fails = record {
+  stood = stood;
+  steps = λ w stands. let here = fails w stands in ((here.0, tt), stands_failed old new ws w (world_after w e) failed stands here.1);
+  later = failed.later;
+  cause = λ _. failed.rose;
+  still = λ none. absurd (true≢false (sym lost ∙ (neither_lost (is_lost_to_fault e) false none).0));
+  tells = failed_tells old new ws failed;
+  place = failed.place;
+}

@@ -1,4 +1,5 @@
-pub mod Standing
+pub mod Rows
+pub mod Refinement
+pub mod Committing
 pub mod Starting
-pub mod Batches
 pub mod Inside

@@ -1,10 +1,14 @@
--- On which keepers a cluster starts.
-use Rattle.std.specs.Prelude.{◌≡◌, ◌≤◌, ℕ, Bool, true, false, not, ◌||◌, ◌==◌, nat_lt, Option}
+-- On which keepers a cluster starts, and what an unsuccessful start leaves.
+--     IsDamaged, IsUndamaged     what is held can't be that of a cluster;  or can
+--     IfDamaged                  a fact for a damaged row
+--     IsUntouched                a keeper was asked, and holds what it held
+use Rattle.std.specs.Prelude.{◌≡◌, ◌≤◌, ℕ, Bool, true, false, not, ◌||◌, ◌==◌, nat_lt}
 use Rattle.hx_ports.specs.Keeping.{Kept, meta_of, greatest_version}
+use Rattle.hx_ports.specs.Views.{KeeperView, HoldsOn}
 use Rattle.hx_ports.specs.declared.keeper.Meta.{Meta}
 use Rattle.hx_core.specs.declared.cluster.StartFault.{StartFault}
 use Rattle.hx_core.specs.declared.cluster.StartFault.TheVariants.{KeeperFault, Damaged, NoMemory}
-use Rattle.hx_core.specs.Standing.{current_schema}
+use Rattle.hx_core.specs.Rows.{current_schema}
 
 -- Nothing is loaded yet, so that a keeper is damaged where it is of another schema, has a version past the greatest, or has rows
 abbrev pub is_damaged : Meta → Bool
@@ -24,8 +28,7 @@ IfDamaged KeeperFault P = Unit {0}
 IfDamaged (Damaged row) P = P row
 IfDamaged NoMemory P = Unit {0}
 
--- a keeper was asked, and holds what it held
-pub record IsUntouched (kept kept' : Option Kept) (broken broken' : Bool) (faults faults' : ℕ) : Type 0 where
-  pub same : kept' ≡ kept
-  pub whole : broken' ≡ broken
-  pub later : faults ≤ faults'
+-- a keeper was asked: it shows what it showed, but for a count that may have risen
+pub record IsUntouched (old new : KeeperView) : Type 0 where
+  pub same : HoldsOn old new
+  pub later : old.faults ≤ new.faults

@@ -1,17 +1,25 @@
 // The cluster.
-ghost use Rattle.std.specs.Prelude.{◌≡◌, ◌≢◌, [], ◌∷◌, IfOk, IfErr, IfSome};
+ghost use Rattle.std.specs.Prelude.{◌≡◌, ◌≢◌, [], ◌∷◌, IfOk, IfErr, IfSome, IsSome, OnOk, IsErrOf};
 ghost use Rattle.hx_ports.specs.Causes.{Rose};
-ghost use Rattle.hx_model.specs.Machine.{opening_world, request_entry};
+ghost use Rattle.hx_model.specs.Answers.{Mutates};
+ghost use Rattle.hx_model.specs.Bodies.{answer_text};
+ghost use Rattle.hx_model.specs.Machine.{opening_world};
+ghost use Rattle.hx_model.specs.Requests.{request_entry};
 ghost use Rattle.hx_model.specs.Serving.{IsServedAsk, IsLegalAnswer};
 ghost use Rattle.hx_model.specs.State.{opening_state};
-ghost use Rattle.hx_admit.specs.Reviewing.{IsReady, Passes};
-ghost use Rattle.hx_core.specs.Standing.{StandsFor, Makes};
+ghost use Rattle.hx_model.specs.Writes.{MayWriteAll};
+ghost use Rattle.hx_core.specs.Committing.{HasLanded, HasFailed};
+ghost use Rattle.hx_core.specs.Refinement.{Represents, HasWorld, Simulates};
+ghost use Rattle.hx_core.specs.Rows.{batch_of, IsOfTexts};
 ghost use Rattle.hx_core.specs.Starting.{IsDamaged, IfDamaged, IsUndamaged, IsUntouched};
 
-use crate::batch::prepare;
-use hx_admit::{Books, GREATEST_VERSION, Reviewed, Terms};
-use hx_model::{Answer, Ask, Refusal};
+use crate::commit::{CommitFault, Landed, commit, prepare};
+use crate::rows::{SCHEMA, first_text};
+use hx_admit::{GREATEST_VERSION, IndexedState, Reviewed};
+use hx_model::{Answer, Ask, Refusal, RunConfig};
+use hx_object::Text;
 use hx_ports::{KeepFault, Keeper};
+use hx_store::Change;
 use std::alloc::Global;
 use std::marker::Model;
 
@@ -20,24 +28,29 @@ use std::marker::Model;
 /// The keeper holds the rows of the cluster's state until a commit fails. From then on every write is refused, and reads go on.
 pub struct Cluster<K: Keeper> {
     keeper: K,
-    books: Books,
+    state: IndexedState,
 }
 
 impl<K: Keeper> Model for Cluster<K> {
-    ghost use Rattle.hx_core.specs.Standing.{Standing, standing_code};
-    ghost use Rattle.hx_core.specs.Inside.{IsSound};
+    ghost use Rattle.hx_core.specs.Refinement.{ClusterView, cluster_view_code};
+    ghost use Rattle.hx_core.specs.Inside.{IsSound, view_of};
 
-    ghost Value = { Standing };
+    ghost Value = { ClusterView };
 
-    ghost coded = { standing_code };
+    ghost coded = { cluster_view_code };
 
-    ghost view = { λ c. record { state = c.books.state; kept = K.kept c.keeper; broken = K.broken c.keeper; faults = K.keeper_faults c.keeper } };
+    ghost view = { λ c. view_of c.state.state (K.shown c.keeper) };
 
-    ghost invariant = { λ c. IsSound (K.kept c.keeper) (K.broken c.keeper) c.books.state };
+    ghost invariant = { λ c. IsSound c.state.state (K.shown c.keeper) c.state.staged };
 }
 
-/// The schema of the stored rows.
-const SCHEMA: u64 = 2;
+/// What a request is answered.
+#[derive(Drop)]
+pub struct Response {
+    pub answer: Answer,
+    /// The text of the answer, where the request's write made it. Else it is yet to be made.
+    pub text: Option<Text>,
+}
 
 /// Why a cluster didn't start.
 #[derive(Clone, Copy, Debug, PartialEq, Eq)]
@@ -56,16 +69,22 @@ pub struct Unstarted<K> {
 }
 
 impl<K: Keeper> Cluster<K> {
-    /// Starts on a keeper without rows, under terms that are fixed for the run. The keeper has been attached.
-    pub fn start(alloc: Global, mut keeper: K, terms: Terms) -> Result<Cluster<K>, Unstarted<K>>
-        ensures opens { IfOk result (λ c. StandsFor c (opening_world (K.broken keeper) (opening_state terms.excluded terms.may_skip c.state.last))) }
-        ensures version { IfOk result (λ c. IfSome (K.kept keeper) (λ held. c.state.last ≡ held.version)) }
-        ensures started { IfOk result (λ c. IsUntouched (K.kept keeper) c.kept (K.broken keeper) c.broken (K.keeper_faults keeper) c.faults) }
-        ensures undamaged { IfOk result (λ c. IfSome (K.kept keeper) IsUndamaged) }
+    /// Starts on a keeper that has its place and no rows, under a configuration that is fixed for the run.
+    pub fn start(
+        alloc: Global,
+        mut keeper: K,
+        config: RunConfig,
+    ) -> Result<Cluster<K>, Unstarted<K>>
+        requires { IsSome (K.shown keeper).place }
+        ensures opens { IfOk result (λ c. Represents c (opening_world c.keeper.broken (opening_state config c.state.last))) }
+        ensures version { IfOk result (λ c. IfSome c.keeper.kept (λ held. c.state.last ≡ held.version)) }
+        ensures keeper { IfOk result (λ c. c.keeper ≡ K.shown keeper) }
+        ensures undamaged { IfOk result (λ c. IfSome c.keeper.kept IsUndamaged) }
 
-        ensures unstarted { IfErr result (λ u. IsUntouched (K.kept keeper) (K.kept u.keeper) (K.broken keeper) (K.broken u.keeper) (K.keeper_faults keeper) (K.keeper_faults u.keeper)) }
-        ensures failed { IfErr result (λ u. u.fault ≡ StartFault.KeeperFault → Rose (K.keeper_faults keeper) (K.keeper_faults u.keeper)) }
-        ensures damaged { IfErr result (λ u. IfDamaged u.fault (λ row. (row ≡ 0) × IfSome (K.kept keeper) IsDamaged)) }
+        ensures unstarted { IfErr result (λ u. IsUntouched (K.shown keeper) (K.shown u.keeper)) }
+        ensures failed { IfErr result (λ u. u.fault ≡ StartFault.KeeperFault → Rose (K.shown keeper).faults (K.shown u.keeper).faults) }
+        ensures still { IfErr result (λ u. u.fault ≢ StartFault.KeeperFault → K.shown u.keeper ≡ K.shown keeper) }
+        ensures damaged { IfErr result (λ u. IfDamaged u.fault (λ row. (row ≡ 0) × IfSome (K.shown keeper).kept IsDamaged)) }
     {
         match keeper.meta() {
             Ok(meta) => {
@@ -75,8 +94,8 @@ impl<K: Keeper> Cluster<K> {
                         keeper,
                     });
                 }
-                let books = Books::new(alloc, meta.version, terms);
-                Ok(Cluster { keeper, books })
+                let state = IndexedState::new(alloc, meta.version, config);
+                Ok(Cluster { keeper, state })
             }
             Err(KeepFault::Fault) => Err(Unstarted {
                 fault: StartFault::KeeperFault,
@@ -89,19 +108,29 @@ impl<K: Keeper> Cluster<K> {
         }
     }
 
-    /// Answers one ask. All that the answer needs is made before the keeper is asked.
-    pub fn request(&mut self, ask: &Ask) -> Answer
-        requires { IsServedAsk ask.now }
-        ensures makes { Makes self.old (request_entry ask.now result ∷ []) self.new }
-        ensures legal { IsLegalAnswer result }
+    /// Answers one ask. All that a write needs is made before the keeper is asked.
+    pub fn request(&mut self, ask: Ask) -> Response
+        requires { IsServedAsk ask }
+        ensures simulates { Simulates self.old (request_entry ask result.answer ∷ []) self.new }
+        ensures legal { IsLegalAnswer result.answer }
+        ensures text { IfSome result.text (λ text. text ≡ answer_text result.answer) }
+        ensures idle { (Mutates self.old.state ask → ⊥) → self.new.keeper ≡ self.old.keeper }
     {
-        match self.books.review(ask) {
-            Err(refusal) => Answer::Refused(refusal),
-            Ok(reviewed) => {
-                if reviewed.changes.writes.is_empty() {
-                    reviewed.answer
-                } else {
-                    self.commit(reviewed)
+        match self.state.review(ask) {
+            Err(refusal) => refused(refusal),
+            Ok(Reviewed { writes, answer }) => {
+                if writes.is_empty() {
+                    return Response { answer, text: None };
+                }
+                match self.write(writes) {
+                    Ok(landed) => Response {
+                        answer,
+                        text: first_text(landed.batch),
+                    },
+                    Err(fault) => {
+                        drop(answer);
+                        refused(lost(fault))
+                    }
                 }
             }
         }
@@ -109,46 +138,55 @@ impl<K: Keeper> Cluster<K> {
 
     /// Ends the cluster, and gives its keeper back.
     pub fn close(self) -> K
-        ensures kept { K.kept result ≡ self.kept }
-        ensures broken { K.broken result ≡ self.broken }
-        ensures faults { K.keeper_faults result ≡ self.faults }
+        ensures { K.shown result ≡ self.keeper }
     {
-        let Cluster { keeper, books } = self;
-        drop(books);
+        let Cluster { keeper, state } = self;
+        drop(state);
         keeper
     }
 
-    /// Asks the keeper to take changes, and then makes them.
-    fn commit(&mut self, reviewed: Reviewed) -> Answer
-        requires ready { IsReady self.old.state reviewed.changes.writes.items reviewed.changes.tally reviewed.changes.tree }
-        requires legal { IsLegalAnswer reviewed.answer }
-        requires some { reviewed.changes.writes.items ≢ [] }
-        ensures makes { (ask : Ask) → Passes self.old.state ask reviewed.changes.writes.items reviewed.answer → Makes self.old (request_entry ask result ∷ []) self.new }
-        ensures legal { IsLegalAnswer result }
+    /// A theorem, not to be called for what it does: there is a world that the cluster stands for.
+    pub fn law_of_worlds(&self)
+        ensures { HasWorld self.now }
     {
-        let Ok(batch) = prepare(&mut self.books, &reviewed.changes) else {
-            return Answer::Refused(Refusal::NoMemory);
+        let _ = &self.keeper;
+    }
+
+    /// Prepares writes, and commits them.
+    fn write(&mut self, writes: Vec<Change>) -> Result<Landed, CommitFault>
+        requires may { MayWriteAll self.old.state writes.items }
+        requires some { writes.items ≢ [] }
+        ensures landed { OnOk result (HasLanded self.old writes.items self.new) }
+        ensures memory { IsErrOf result CommitFault.NoMemory → self.new ≡ self.old }
+        ensures fault { IsErrOf result CommitFault.KeeperFault → HasFailed self.old writes.items self.new }
+        ensures batch { IfOk result (λ landed. landed.batch ≡ batch_of writes.items self.new.state.last) }
+        ensures texts { IfOk result (λ landed. IsOfTexts landed.batch) }
+    {
+        let Ok(prepared) = prepare(&mut self.state, writes) else {
+            return Err(CommitFault::NoMemory);
         };
-        match self.keeper.commit(&batch) {
-            Ok(()) => {
-                self.books.apply(reviewed.changes);
-                reviewed.answer
-            }
-            Err(fault) => {
-                drop(reviewed);
-                lost(fault)
-            }
-        }
+        commit(&mut self.keeper, &mut self.state, prepared)
     }
 }
 
-/// The answer after a commit that the keeper refused.
-fn lost(fault: KeepFault) -> Answer
-    ensures fault { fault ≡ KeepFault.Fault → result ≡ Answer.Refused Refusal.StoreFailed }
-    ensures memory { fault ≡ KeepFault.NoMemory → result ≡ Answer.Refused Refusal.NoMemory }
+/// The refusal of a request whose writes were lost.
+fn lost(fault: CommitFault) -> Refusal
+    ensures keeper { fault ≡ CommitFault.KeeperFault → result ≡ Refusal.StoreFailed }
+    ensures memory { fault ≡ CommitFault.NoMemory → result ≡ Refusal.NoMemory }
 {
     match fault {
-        KeepFault::Fault => Answer::Refused(Refusal::StoreFailed),
-        KeepFault::NoMemory => Answer::Refused(Refusal::NoMemory),
+        CommitFault::KeeperFault => Refusal::StoreFailed,
+        CommitFault::NoMemory => Refusal::NoMemory,
+    }
+}
+
+/// A refusal, as a response.
+fn refused(refusal: Refusal) -> Response
+    ensures answer { result.answer ≡ Answer.Refused refusal }
+    ensures text { result.text ≡ None }
+{
+    Response {
+        answer: Answer::Refused(refusal),
+        text: None,
     }
 }

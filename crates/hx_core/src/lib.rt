@@ -1,10 +1,12 @@
 //! The cluster: objects in memory over a keeper of their rows.
 //!
 //! Each call makes one entry of the machine that `hx_model` defines: what it answers, and what is stored afterwards, is what the machine says.
+//! Requests choose writes, and each write goes one way: it is prepared, put to the keeper, and then made.
 #![tactic(auto)]
 
-mod batch;
 mod cluster;
-mod key;
+mod commit;
+mod rows;
 
-pub use cluster::{Cluster, StartFault, Unstarted};
+pub use cluster::{Cluster, Response, StartFault, Unstarted};
+pub use rows::SCHEMA;

@@ -16,7 +16,7 @@ use Rattle.hx_model.specs.Texts.{key_text}
 use Rattle.hx_model.specs.declared.key.Write.{Write}
 use Rattle.hx_model.specs.declared.key.Write.TheVariants.{Put, Cut}
 use Rattle.hx_store.specs.Changes.{id_of, object_of}
-use Rattle.hx_core.specs.Batches.{row_of, rows_put, keys_cut, batch_of, IsRowOfTexts, IsOfTexts}
+use Rattle.hx_core.specs.Rows.{row_of, rows_put, keys_cut, batch_of, IsRowOfTexts, IsOfTexts}
 
 -- the rows and the keys of the first writes, which are texts
 pub record Batched (writes : List Write) (index : ℕ) (puts : List Row) (cuts : List (List ℕ)) : Type 0 where

@@ -1,5 +1,5 @@
-use Rattle.hx_core.proofs.Batches.{Batched}
-use Rattle.hx_core.proofs.batch.batch_of.Given as goal
+use Rattle.hx_core.proofs.Batching.{Batched}
+use Rattle.hx_core.proofs.rows.batch_of.Given as goal
 
 -- what is made so far is of the first writes
 abbrev pub invariant-loop-change : goal.invariant-loop-change

@@ -1,7 +1,7 @@
 use Rattle.std.proofs.Common.{ap, ◌∙◌}
 use Rattle.std.specs.Fmt.{styled_decimal}
 use Rattle.hx_core.proofs.Keys.{key_laid}
-use Rattle.hx_core.proofs.key.key_of.Goals as goal
+use Rattle.hx_core.proofs.rows.key_of.Goals as goal
 
 pub returns : goal.returns
 returns c =

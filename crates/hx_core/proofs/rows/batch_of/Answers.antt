@@ -1,16 +1,16 @@
-use Rattle.std.proofs.Common.{ap, ◌∙◌}
+use Rattle.std.proofs.Common.{ap, ◌∙◌, Some}
 use Rattle.hx_model.specs.Texts.{key_text}
-use Rattle.hx_core.proofs.Batches.{batched_none, batched_put, batched_cut, batch_whole, batch_texts}
-use Rattle.hx_core.proofs.batch.batch_of.Goals as goal
-use Rattle.hx_core.proofs.batch.batch_of.Goals.{in-Some+in_ok-row_of-in-Some+in_ok-push-in-Some, in-None+in_ok-key_of-in-None+in_ok-push-in-None}
+use Rattle.hx_core.proofs.Batching.{batched_none, batched_put, batched_cut, batch_whole, batch_texts}
+use Rattle.hx_core.proofs.rows.batch_of.Goals as goal
+use Rattle.hx_core.proofs.rows.batch_of.Goals.{in-Some+in_ok-row_of-in-Some+in_ok-push-in-Some, in-None+in_ok-key_of-in-None+in_ok-push-in-None}
 
 pub loop-change-init : goal.loop-change-init
 loop-change-init c = batched_none c.args.writes.now c.new-puts.result.items c.new-cuts.result.items c.new-puts.ensures.items c.new-cuts.ensures.items
 
 pub loop-change-preserved : goal.loop-change-preserved
 loop-change-preserved c = elim c.match-object.branch [
-  | in-Some+in_ok-row_of-in-Some+in_ok-push-in-Some w ↦ rw (w.puts-is, w.cuts-is) (batched_put c.args.writes.now c.loop-change.change-index c.loop-change.puts.items w.push.new.self.items c.loop-change.cuts.items c.change-item.result w.in-Some.object.now w.in_ok-row_of-in-Some.field-0 c.loop-change.invariant c.loop-change-test.true c.change-item.is
-      w.in-Some.ensures w.in_ok-row_of-in-Some.ensures.row w.in_ok-row_of-in-Some.ensures.texts w.in_ok-push-in-Some.ensures.items)
+  | in-Some+in_ok-row_of-in-Some+in_ok-push-in-Some w ↦ rw (w.puts-is, w.cuts-is) (batched_put c.args.writes.now c.loop-change.change-index c.loop-change.puts.items w.push.new.self.items c.loop-change.cuts.items c.change-item.result w.object-in-Some.result.now w.in_ok-row_of-in-Some.field-0 c.loop-change.invariant c.loop-change-test.true c.change-item.is
+      (ap Some w.object-in-Some.ensures ∙ w.in-Some.ensures) w.in_ok-row_of-in-Some.ensures.row w.in_ok-row_of-in-Some.ensures.texts w.in_ok-push-in-Some.ensures.items)
   | in-None+in_ok-key_of-in-None+in_ok-push-in-None w ↦ rw (w.puts-is, w.cuts-is) (batched_cut c.args.writes.now c.loop-change.change-index c.loop-change.puts.items c.loop-change.cuts.items w.push-in-None.new.self.items c.change-item.result w.into_bytes.result c.loop-change.invariant c.loop-change-test.true c.change-item.is
       w.in-None.ensures (w.into_bytes.ensures.value ∙ w.in_ok-key_of-in-None.ensures ∙ ap key_text w.id.ensures) w.into_bytes.ensures.utf8 w.in_ok-push-in-None.ensures.items)
 ]

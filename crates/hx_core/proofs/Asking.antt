@@ -1,0 +1,145 @@
+-- The entries of requests, by what was done for them.
+--     passes_entry       an answer of success is a request's own entry
+--     asks_refused       an ask that is refused, or for which no memory was left
+--     asks_passed        an answer without writes
+--     asks_landed        an answer whose writes landed
+--     asks_lost          an ask whose writes were lost
+--     text_written       the first body that is written is the text of the answer
+--     idle_written       an ask that makes a write would change something
+use Rattle.std.proofs.Common.{◌≡◌, ◌≢◌, ◌+◌, ℕ, Bool, true, false, List, [], ◌∷◌, None, Some, Option, refl, sym, ap, subst, ◌∙◌, inl, inr, cond}
+use Rattle.std.specs.Prelude.{◌⊎◌, IfSome}
+use Rattle.hx_object.specs.declared.object.Id.{Id}
+use Rattle.hx_object.specs.declared.object.Object.{Object}
+use Rattle.hx_object.specs.Json.{object_text}
+use Rattle.hx_ports.specs.declared.keeper.Batch.{Batch}
+use Rattle.hx_model.specs.Answers.{refusal_of, answer_to, writes_of, success, answer_found, replacing, replaced_by, same_object, Mutates}
+use Rattle.hx_model.specs.Bodies.{answer_text}
+use Rattle.hx_model.specs.Machine.{Request, LostRequest, NoMemory, KeeperFault, broken_at}
+use Rattle.hx_model.specs.Requests.{request_entry}
+use Rattle.hx_model.specs.State.{State, state_after, object_at, put, with_version}
+use Rattle.hx_model.specs.declared.ask.Ask.{Ask}
+use Rattle.hx_model.specs.declared.ask.Ask.TheVariants.{Get, List as ListOf, Create, Replace, Delete}
+use Rattle.hx_model.specs.declared.ask.Answer.{Answer}
+use Rattle.hx_model.specs.declared.ask.Answer.TheVariants.{Refused as Refusing}
+use Rattle.hx_model.specs.declared.key.Write.{Write}
+use Rattle.hx_model.specs.declared.key.Write.TheVariants.{Put}
+use Rattle.hx_model.specs.declared.refusal.Refusal.{Refusal}
+use Rattle.hx_model.specs.declared.refusal.Refusal.TheVariants.{StoreFailed, NoMemory as NoRoom}
+use Rattle.hx_model.proofs.Objects.{object_at-put_itself}
+use Rattle.hx_model.proofs.Replying.{answer-refused, answer-passed, changes-refused, changes-read}
+use Rattle.hx_admit.specs.Reviewing.{Passes}
+use Rattle.hx_core.specs.Committing.{HasLanded, HasFailed}
+use Rattle.hx_core.specs.Refinement.{ClusterView, HasWorld, Simulates}
+use Rattle.hx_core.specs.declared.commit.CommitFault.{CommitFault}
+use Rattle.hx_core.specs.declared.commit.CommitFault.TheVariants.{KeeperFault as CommitKeeperFault, NoMemory as CommitNoMemory}
+use Rattle.hx_core.specs.Rows.{rows_put, batch_of, first_body}
+use Rattle.hx_core.proofs.Making.{enters_still, enters_landed, enters_failed}
+use Rattle.hx_core.proofs.Refusing.{refusal_entry}
+
+-- ---- a success is a request's own entry
+
+shown_entry : (ask : Ask) (found : Option Object) (fresh : Bool) (id : Id) → request_entry ask (answer_found found fresh id) ≡ Request ask (answer_found found fresh id)
+shown_entry ask None fresh id = refl
+shown_entry ask (Some x) fresh id = refl
+
+success_entry : (s t : State) (ask : Ask) → request_entry ask (success s t ask) ≡ Request ask (success s t ask)
+success_entry s t (Get id) = shown_entry (Get id) (object_at s.objects id) false id
+success_entry s t (ListOf kind ns) = refl
+success_entry s t (Create x skip) = shown_entry (Create x skip) (object_at t.objects x.id) true x.id
+success_entry s t (Replace x expected skip) = shown_entry (Replace x expected skip) (object_at t.objects x.id) false x.id
+success_entry s t (Delete id skip) = refl
+
+pub passes_entry : (s : State) (ask : Ask) (ws : List Write) (answer : Answer) → Passes s ask ws answer → request_entry ask answer ≡ Request ask answer
+passes_entry s ask ws answer passes = subst (λ a. request_entry ask a ≡ Request ask a) passes.says (success_entry s (state_after s ws) ask)
+
+-- ---- entries
+
+-- an answer of the machine that leaves the state
+answers_still : (c : ClusterView) (ask : Ask) (answer : Answer) → HasWorld c → request_entry ask answer ≡ Request ask answer → answer_to c.state ask ≡ (answer, c.state) → (Mutates c.state ask → ⊥) → Simulates c (request_entry ask answer ∷ []) c
+answers_still c ask answer stood own says quiet =
+    subst (λ e. Simulates c (e ∷ []) c) (sym own) (enters_still c c (Request ask answer) stood refl refl (λ w stands.
+    let here : answer_to w.state ask ≡ (answer, w.state) = subst (λ s. answer_to s ask ≡ (answer, s)) (sym stands.state) says in
+    ((sym (ap (λ p. p.0) here), λ changes. absurd (quiet (subst (λ s. Mutates s ask) stands.state changes))), λ i. record w { state = (here i).1 })))
+
+asks_nothing : (c : ClusterView) (ask : Ask) → HasWorld c → Simulates c (LostRequest ask NoMemory ∷ []) c
+asks_nothing c ask stood = enters_still c c (LostRequest ask NoMemory) stood refl refl (λ w stands. (tt, refl))
+
+-- an ask that is refused, or for which no memory was left
+pub asks_refused : (c : ClusterView) (ask : Ask) (refusal : Refusal) → HasWorld c → (refusal ≡ NoRoom) ⊎ (refusal_of c.state ask ≡ Some refusal) → Simulates c (request_entry ask (Refusing refusal) ∷ []) c
+asks_refused c ask refusal stood (inl e) = subst (λ r. Simulates c (request_entry ask (Refusing r) ∷ []) c) (sym e) (asks_nothing c ask stood)
+asks_refused c ask refusal stood (inr e) =
+    answers_still c ask (Refusing refusal) stood (refusal_entry c.state ask refusal e) (answer-refused c.state ask refusal e) (changes-refused c.state ask refusal e)
+
+-- what the machine says of an ask that passes
+passes_says : (s : State) (ask : Ask) (ws : List Write) (answer : Answer) → Passes s ask ws answer → answer_to s ask ≡ (answer, state_after s ws)
+passes_says s ask ws answer passes = answer-passed s ask ws passes.passes passes.changes ∙ ap (λ a. (a, state_after s ws)) passes.says
+
+-- an answer without writes
+pub asks_passed : (c : ClusterView) (ask : Ask) (ws : List Write) (answer : Answer) → HasWorld c → Passes c.state ask ws answer → ws ≡ [] → Simulates c (request_entry ask answer ∷ []) c
+asks_passed c ask ws answer stood passes none =
+    answers_still c ask answer stood (passes_entry c.state ask ws answer passes) (passes_says c.state ask ws answer passes ∙ ap (λ vs. (answer, state_after c.state vs)) none) (changes-read c.state ask (passes.changes ∙ none))
+
+-- an answer whose writes landed
+pub asks_landed : (old new : ClusterView) (ask : Ask) (ws : List Write) (answer : Answer) → HasWorld old → Passes old.state ask ws answer → HasLanded old ws new → Simulates old (request_entry ask answer ∷ []) new
+asks_landed old new ask ws answer stood passes landed =
+    subst (λ e. Simulates old (e ∷ []) new) (sym (passes_entry old.state ask ws answer passes)) (enters_landed old new ws (Request ask answer) stood landed refl (λ w stands.
+    let here : answer_to w.state ask ≡ (answer, state_after w.state ws) = subst (λ s. answer_to s ask ≡ (answer, state_after s ws)) (sym stands.state) (passes_says old.state ask ws answer passes) in
+    ((sym (ap (λ p. p.0) here), λ changes. stands.broken ∙ landed.whole), λ i. record w { state = (here i).1 })))
+
+-- an ask that makes writes would change something
+changing : (s : State) (ask : Ask) (ws : List Write) (answer : Answer) → Passes s ask ws answer → ws ≢ [] → Mutates s ask
+changing s ask ws answer passes some = (passes.passes, λ none. some (sym passes.changes ∙ none))
+
+-- an ask whose writes were lost to a fault of the keeper
+asks_failed : (old new : ClusterView) (ask : Ask) (ws : List Write) (answer : Answer) → HasWorld old → Passes old.state ask ws answer → ws ≢ [] → HasFailed old ws new → Simulates old (request_entry ask (Refusing StoreFailed) ∷ []) new
+asks_failed old new ask ws answer stood passes some failed =
+    enters_failed old new ws (LostRequest ask KeeperFault) stood failed refl (λ w stands. (
+      subst (λ s. Mutates s ask) (sym stands.state) (changing old.state ask ws answer passes some),
+      ap (λ vs. broken_at w (state_after w.state vs)) (subst (λ s. writes_of s ask ≡ ws) (sym stands.state) passes.changes),
+    ))
+
+-- an ask whose writes were lost
+pub asks_lost : (old new : ClusterView) (ask : Ask) (ws : List Write) (answer : Answer) (fault : CommitFault) (refusal : Refusal) → HasWorld old → Passes old.state ask ws answer → ws ≢ []
+    → (fault ≡ CommitNoMemory → new ≡ old) → (fault ≡ CommitKeeperFault → HasFailed old ws new) → (fault ≡ CommitKeeperFault → refusal ≡ StoreFailed) → (fault ≡ CommitNoMemory → refusal ≡ NoRoom)
+    → Simulates old (request_entry ask (Refusing refusal) ∷ []) new
+asks_lost old new ask ws answer CommitKeeperFault refusal stood passes some memory failed store room =
+    subst (λ r. Simulates old (request_entry ask (Refusing r) ∷ []) new) (sym (store refl)) (asks_failed old new ask ws answer stood passes some (failed refl))
+asks_lost old new ask ws answer CommitNoMemory refusal stood passes some memory failed store room =
+    subst (λ r. Simulates old (request_entry ask (Refusing r) ∷ []) new) (sym (room refl)) (subst (λ c. Simulates old (LostRequest ask NoMemory ∷ []) c) (sym (memory refl)) (asks_nothing old ask stood))
+
+-- an ask that makes writes isn't idle
+pub idle_written : (A : Type 0) (s : State) (ask : Ask) (ws : List Write) (answer : Answer) → Passes s ask ws answer → ws ≢ [] → (Mutates s ask → ⊥) → A
+idle_written A s ask ws answer passes some idle = absurd (idle (changing s ask ws answer passes some))
+
+-- ---- texts
+
+-- an object that is put is found, and its text is that of the answer
+put_says : (s : State) (x : Object) (fresh : Bool) (id : Id) (text : List ℕ) → x.id ≡ id → Some (object_text x) ≡ Some text → text ≡ answer_text (answer_found (object_at (put x s.objects) id) fresh id)
+put_says s x fresh id text is e =
+    let same : object_text x ≡ text = cc in
+    let found : object_at (put x s.objects) id ≡ Some x = subst (λ i. object_at (put x s.objects) i ≡ Some x) is (object_at-put_itself x s.objects) in
+    sym same ∙ sym (ap (λ o. answer_text (answer_found o fresh id)) found)
+
+replaced_says : (s : State) (x : Object) (expected : Option ℕ) (skip : Bool) (found : Option Object) (text : List ℕ) → first_body (rows_put (replacing found x (s.last + 1))) ≡ Some text
+    → text ≡ answer_text (success s (state_after s (replacing found x (s.last + 1))) (Replace x expected skip))
+replaced_says s x expected skip None text e = absurd (let h : Some text ≡ None = sym e in cc)
+replaced_says s x expected skip (Some old) text e = by (same_object (replaced_by old x) old) e
+  where
+    by : (b : Bool) → first_body (rows_put (cond b [] (Put (with_version (replaced_by old x) (s.last + 1)) ∷ []))) ≡ Some text
+        → text ≡ answer_text (success s (state_after s (cond b [] (Put (with_version (replaced_by old x) (s.last + 1)) ∷ []))) (Replace x expected skip))
+    by true e = absurd (let h : Some text ≡ None = sym e in cc)
+    by false e = put_says s (with_version (replaced_by old x) (s.last + 1)) false x.id text refl e
+
+first_says : (s : State) (ask : Ask) (text : List ℕ) → first_body (rows_put (writes_of s ask)) ≡ Some text → text ≡ answer_text (success s (state_after s (writes_of s ask)) ask)
+first_says s (Get id) text e = absurd (let h : Some text ≡ None = sym e in cc)
+first_says s (ListOf kind ns) text e = absurd (let h : Some text ≡ None = sym e in cc)
+first_says s (Create x skip) text e = put_says s (with_version x (s.last + 1)) true x.id text refl e
+first_says s (Replace x expected skip) text e = replaced_says s x expected skip (object_at s.objects x.id) text e
+first_says s (Delete id skip) text e = absurd (let h : Some text ≡ None = sym e in cc)
+
+-- the first body that is written is the text of the answer
+pub text_written : (s : State) (ask : Ask) (ws : List Write) (answer : Answer) (batch : Batch) (version : ℕ) (text : Option (List ℕ)) → Passes s ask ws answer → batch ≡ batch_of ws version → text ≡ first_body batch.puts → IfSome text (λ t. t ≡ answer_text answer)
+text_written s ask ws answer batch version None passes is first = tt
+text_written s ask ws answer batch version (Some text) passes is first =
+    let body : first_body (rows_put (writes_of s ask)) ≡ Some text = ap (λ vs. first_body (rows_put vs)) passes.changes ∙ sym (first ∙ ap (λ (b : Batch). first_body b.puts) is) in
+    first_says s ask text body ∙ ap (λ vs. answer_text (success s (state_after s vs) ask)) passes.changes ∙ ap answer_text passes.says
