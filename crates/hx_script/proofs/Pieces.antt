@@ -1,16 +1,16 @@
 -- The lines of a script piece by piece.
-use Rattle.std.proofs.Common.{◌≡◌, ℕ, suc, ◌+◌, ◌-◌, ◌≤◌, List, [], ◌∷◌, ◌++◌, take, drop, length, None, Some, refl, sym, ap, subst, ◌∙◌, append_assoc, append-nil, arith, length-append, length-take}
+use Rattle.std.proofs.Common.{◌≡◌, ℕ, suc, ◌+◌, ◌-◌, ◌≤◌, ◌<◌, List, [], ◌∷◌, ◌++◌, take, drop, length, None, Some, refl, sym, ap, subst, ◌∙◌, append_assoc, append-nil, arith, length-append, length-take}
 use Rattle.std.specs.Prelude.{◌==◌, IfSome}
 use Rattle.std.specs.declared.option.Option.{Option}
 use Rattle.std.specs.List.{slice_split}
-use Rattle.std.specs.Io.KnownBytes.{Consumes, IsAtEnd}
+use Rattle.std.specs.Io.KnownBytes.{Consumes, IsAtEnd, Keeps}
 use Rattle.std.proofs.lemmas.List.{take-append-drop, take_more}
 use Rattle.std.proofs.Math.Seq.{drop-cons, take-add}
 use Rattle.std.proofs.lemmas.List.Elements.{All-from_recursion}
 use Rattle.std.proofs.lemmas.List.Splits.{slice_split_at, slice_split_none}
-use Rattle.hx_core.specs.Standing.{Standing}
+use Rattle.hx_core.specs.Refinement.{ClusterView}
 use Rattle.hx_script.specs.Lines.{Line, script_lines, asking, lines_of_parts}
-use Rattle.hx_script.specs.Running.{Does, Cuts, HasNoEnd, IsWaiting, EndsAt, most_kept, Feeds, CutsPiece, ReadsOn, HasRead}
+use Rattle.hx_script.specs.Running.{Does, Cuts, OfScript, HasNoEnd, IsWaiting, EndsAt, most_kept, most_bytes, Feeds, CutsPiece, ReadsOn}
 use Rattle.hx_script.proofs.Kept.{asking-cons, script_lines-kept, HasNoEnd-append, IsWaiting-keep}
 use Rattle.hx_script.proofs.Running.{Ran-none, Does-then, Does-cuts, Cuts-none, Cuts-more}
 
@@ -27,14 +27,14 @@ script_lines-last part none = ap lines_of_parts (slice_split_none (λ byte. byte
 
 -- ---- a piece
 
-pub Feeds-none : (waiting : List ℕ) (c : Standing) (x : Option (List ℕ)) → Feeds waiting [] waiting c c x x
+pub Feeds-none : (waiting : List ℕ) (c : ClusterView) (x : Option (List ℕ)) → Feeds waiting [] waiting c c x x
 Feeds-none waiting c x = record { lines = []; splits = λ rest. refl; does = Ran-none [] c x }
 
 behind : (old piece more rest : List ℕ) → old ++ ((piece ++ more) ++ rest) ≡ old ++ (piece ++ (more ++ rest))
 behind old piece more rest = ap (λ l. old ++ l) (append_assoc piece more rest)
 
 -- a stretch waits
-Feeds-keep : (old piece now stretch : List ℕ) (a b : Standing) (x y : Option (List ℕ)) → Feeds old piece now a b x y → HasNoEnd now → HasNoEnd stretch → Feeds old (piece ++ stretch) (take most_kept (now ++ stretch)) a b x y
+Feeds-keep : (old piece now stretch : List ℕ) (a b : ClusterView) (x y : Option (List ℕ)) → Feeds old piece now a b x y → HasNoEnd now → HasNoEnd stretch → Feeds old (piece ++ stretch) (take most_kept (now ++ stretch)) a b x y
 Feeds-keep old piece now stretch a b x y p none more =
     record {
       lines = p.lines;
@@ -43,7 +43,7 @@ Feeds-keep old piece now stretch a b x y p none more =
     }
 
 -- a line ends
-Feeds-end : (old piece now : List ℕ) (a b c : Standing) (x y z : Option (List ℕ)) → Feeds old piece now a b x y → HasNoEnd now → Does (asking now) b c y z → Feeds old (piece ++ 10 ∷ []) [] a c x z
+Feeds-end : (old piece now : List ℕ) (a b c : ClusterView) (x y z : Option (List ℕ)) → Feeds old piece now a b x y → HasNoEnd now → Does (asking now) b c y z → Feeds old (piece ++ 10 ∷ []) [] a c x z
 Feeds-end old piece now a b c x y z p none more =
     record {
       lines = p.lines ++ asking now;
@@ -52,14 +52,14 @@ Feeds-end old piece now a b c x y z p none more =
     }
 
 -- the run was cut short in the line that a piece ends
-Cuts-feed : (old piece front tail now : List ℕ) (a b c : Standing) (x y z : Option (List ℕ)) → Feeds old front now a b x y → HasNoEnd now → piece ≡ front ++ 10 ∷ tail → Cuts (asking now) b c y z → CutsPiece old piece a c x z
+Cuts-feed : (old piece front tail now : List ℕ) (a b c : ClusterView) (x y z : Option (List ℕ)) → Feeds old front now a b x y → HasNoEnd now → piece ≡ front ++ 10 ∷ tail → Cuts (asking now) b c y z → CutsPiece old piece a c x z
 Cuts-feed old piece front tail now a b c x y z p none is cuts rest =
     let lines : script_lines (old ++ (piece ++ rest)) ≡ p.lines ++ (asking now ++ script_lines (tail ++ rest)) =
     ap (λ l. script_lines (old ++ (l ++ rest))) is ∙ ap (λ l. script_lines (old ++ l)) (append_assoc front (10 ∷ tail) rest) ∙ p.splits (10 ∷ (tail ++ rest)) ∙ ap (λ l. p.lines ++ l) (script_lines-end now (tail ++ rest) none) in
     subst (λ ls. Cuts ls a c x z) (sym lines) (Does-cuts p.lines (asking now ++ script_lines (tail ++ rest)) a b c x y z p.does (Cuts-more (asking now) (script_lines (tail ++ rest)) b c y z cuts))
 
 -- nothing more of a piece was taken
-Cuts-stop : (old piece front tail now : List ℕ) (a b : Standing) (x y : Option (List ℕ)) → Feeds old front now a b x y → piece ≡ front ++ tail → CutsPiece old piece a b x y
+Cuts-stop : (old piece front tail now : List ℕ) (a b : ClusterView) (x y : Option (List ℕ)) → Feeds old front now a b x y → piece ≡ front ++ tail → CutsPiece old piece a b x y
 Cuts-stop old piece front tail now a b x y p is rest =
     let lines : script_lines (old ++ (piece ++ rest)) ≡ p.lines ++ script_lines (now ++ (tail ++ rest)) =
     ap (λ l. script_lines (old ++ (l ++ rest))) is ∙ ap (λ l. script_lines (old ++ l)) (append_assoc front tail rest) ∙ p.splits (tail ++ rest) in
@@ -83,81 +83,161 @@ taken piece at end p =
     take-add at (end + 1) piece ∙ ap (λ l. take at piece ++ l) (take_more (drop at piece) end 0 p.within ∙ ap (λ b. take end (drop at piece) ++ b ∷ []) p.is) ∙ sym (append_assoc (take at piece) (take end (drop at piece)) (10 ∷ []))
 
 -- a line ends behind the place
-pub Feeds-line : (old piece now : List ℕ) (at end : ℕ) (a b c : Standing) (x y z : Option (List ℕ)) → Feeds old (take at piece) now a b x y → IsWaiting now → EndsAt (drop at piece) end
+pub Feeds-line : (old piece now : List ℕ) (at end : ℕ) (a b c : ClusterView) (x y z : Option (List ℕ)) → Feeds old (take at piece) now a b x y → IsWaiting now → EndsAt (drop at piece) end
     → Does (asking (take most_kept (now ++ take end (drop at piece)))) b c y z → Feeds old (take (at + (end + 1)) piece) [] a c x z
 Feeds-line old piece now at end a b c x y z p waits ends more =
     subst (λ l. Feeds old l [] a c x z) (sym (taken piece at end ends))
     (Feeds-end old (take at piece ++ take end (drop at piece)) (take most_kept (now ++ take end (drop at piece))) a b c x y z (Feeds-keep old (take at piece) now (take end (drop at piece)) a b x y p waits.no_end ends.before) (IsWaiting-keep now (take end (drop at piece)) waits.no_end ends.before).no_end more)
 
 -- the rest of a piece waits
-pub Feeds-rest : (old piece now : List ℕ) (at : ℕ) (a b : Standing) (x y : Option (List ℕ)) → Feeds old (take at piece) now a b x y → IsWaiting now → HasNoEnd (drop at piece) → Feeds old piece (take most_kept (now ++ drop at piece)) a b x y
+pub Feeds-rest : (old piece now : List ℕ) (at : ℕ) (a b : ClusterView) (x y : Option (List ℕ)) → Feeds old (take at piece) now a b x y → IsWaiting now → HasNoEnd (drop at piece) → Feeds old piece (take most_kept (now ++ drop at piece)) a b x y
 Feeds-rest old piece now at a b x y p waits none =
     subst (λ l. Feeds old l (take most_kept (now ++ drop at piece)) a b x y) (take-append-drop at piece) (Feeds-keep old (take at piece) now (drop at piece) a b x y p waits.no_end none)
 
 -- the run was cut short in the line that ends behind the place
-pub Cuts-line : (old piece now : List ℕ) (at end : ℕ) (a b c : Standing) (x y z : Option (List ℕ)) → Feeds old (take at piece) now a b x y → IsWaiting now → EndsAt (drop at piece) end
+pub Cuts-line : (old piece now : List ℕ) (at end : ℕ) (a b c : ClusterView) (x y z : Option (List ℕ)) → Feeds old (take at piece) now a b x y → IsWaiting now → EndsAt (drop at piece) end
     → Cuts (asking (take most_kept (now ++ take end (drop at piece)))) b c y z → CutsPiece old piece a c x z
 Cuts-line old piece now at end a b c x y z p waits ends cuts =
     Cuts-feed old piece (take at piece ++ take end (drop at piece)) (drop (suc end) (drop at piece)) (take most_kept (now ++ take end (drop at piece))) a b c x y z
     (Feeds-keep old (take at piece) now (take end (drop at piece)) a b x y p waits.no_end ends.before) (IsWaiting-keep now (take end (drop at piece)) waits.no_end ends.before).no_end (split_at piece at end ends) cuts
 
 -- nothing behind the place was taken
-pub Cuts-rest : (old piece now : List ℕ) (at : ℕ) (a b : Standing) (x y : Option (List ℕ)) → Feeds old (take at piece) now a b x y → CutsPiece old piece a b x y
+pub Cuts-rest : (old piece now : List ℕ) (at : ℕ) (a b : ClusterView) (x y : Option (List ℕ)) → Feeds old (take at piece) now a b x y → CutsPiece old piece a b x y
 Cuts-rest old piece now at a b x y p = Cuts-stop old piece (take at piece) (drop at piece) now a b x y p (sym (take-append-drop at piece))
 
 -- ---- the whole script
 
+-- a piece was taken behind what was
+Feeds-then : (old piece now more new : List ℕ) (a b c : ClusterView) (x y z : Option (List ℕ)) → Feeds old piece now a b x y → Feeds now more new b c y z → Feeds old (piece ++ more) new a c x z
+Feeds-then old piece now more new a b c x y z p q =
+    record {
+      lines = p.lines ++ q.lines;
+      splits = λ rest. ap script_lines (behind old piece more rest) ∙ p.splits (more ++ rest) ∙ ap (λ l. p.lines ++ l) (q.splits rest) ∙ sym (append_assoc p.lines q.lines (script_lines (new ++ rest)));
+      does = Does-then p.lines q.lines a b c x y z p.does q.does;
+    }
+
+-- the run was cut short in the piece behind what was taken
+Cuts-then : (old piece now more : List ℕ) (a b c : ClusterView) (x y z : Option (List ℕ)) → Feeds old piece now a b x y → CutsPiece now more b c y z → CutsPiece old (piece ++ more) a c x z
+Cuts-then old piece now more a b c x y z p q rest =
+    subst (λ ls. Cuts ls a c x z) (sym (ap script_lines (behind old piece more rest) ∙ p.splits (more ++ rest)))
+    (Does-cuts p.lines (script_lines (now ++ (more ++ rest))) a b c x y z p.does (q rest))
+
+-- bytes that were read, one piece after the other
+Consumes-then : (s l l' : Option (List ℕ)) (bs cs : List ℕ) → Consumes s l bs → Consumes l l' cs → Consumes s l' (bs ++ cs)
+Consumes-then None l l' bs cs p q = tt
+Consumes-then (Some xs) None l' bs cs p q = absurd p
+Consumes-then (Some xs) (Some ys) None bs cs p q = absurd q
+Consumes-then (Some xs) (Some ys) (Some zs) bs cs p q = p ∙ ap (λ l. bs ++ l) q ∙ sym (append_assoc bs cs zs)
+
+-- what is left, where it is told
+abbrev left_of : Option (List ℕ) → List ℕ
+left_of None = []
+left_of (Some rest) = rest
+
+-- what was read with what is left is what was told
+told_whole : (s l : Option (List ℕ)) (bs : List ℕ) → Consumes s l bs → IfSome s (λ told. bs ++ left_of l ≡ told)
+told_whole None l bs read = tt
+told_whole (Some xs) None bs read = absurd read
+told_whole (Some xs) (Some ys) bs read = sym read
+
+-- where nothing is left, what was read is what was told
+told_end : (s l : Option (List ℕ)) (bs : List ℕ) → Consumes s l bs → IsAtEnd l → IfSome s (λ told. bs ≡ told)
+told_end None l bs read end = tt
+told_end (Some xs) None bs read end = absurd read
+told_end (Some xs) (Some ys) bs read end = sym (read ∙ ap (λ l. bs ++ l) end ∙ append-nil bs)
+
+-- what is told and was not read
+told_none : (s : Option (List ℕ)) → IfSome s (λ told. left_of s ≡ told)
+told_none None = tt
+told_none (Some xs) = refl
+
 -- nothing was read
-pub Cuts-unread : (s : Option (List ℕ)) (c : Standing) (x : Option (List ℕ)) → IfSome s (λ script. Cuts (script_lines script) c c x x)
-Cuts-unread None c x = tt
-Cuts-unread (Some script) c x = Cuts-none (script_lines script) c x
+pub Cuts-unread : (s : Option (List ℕ)) (c : ClusterView) (x : Option (List ℕ)) → OfScript s (λ script. Cuts (script_lines script) c c x x)
+Cuts-unread s c x = (left_of s, told_none s, Cuts-none (script_lines (left_of s)) c x)
 
-pub ReadsOn-start : (s : Option (List ℕ)) (c : Standing) (x : Option (List ℕ)) → ReadsOn s s [] c c x x
-ReadsOn-start None c x = tt
-ReadsOn-start (Some script) c x = ([], refl, Ran-none [] c x)
+Consumes-none : (s : Option (List ℕ)) → Consumes s s []
+Consumes-none None = tt
+Consumes-none (Some xs) = refl
 
-pub ReadsOn-feed : (s l l' : Option (List ℕ)) (piece waiting waiting' : List ℕ) (a b c : Standing) (x y z : Option (List ℕ)) → ReadsOn s l waiting a b x y → Consumes l l' piece → Feeds waiting piece waiting' b c y z → ReadsOn s l' waiting' a c x z
-ReadsOn-feed None l l' piece waiting waiting' a b c x y z on read feeds = tt
-ReadsOn-feed (Some script) None l' piece waiting waiting' a b c x y z on read feeds = absurd on
-ReadsOn-feed (Some script) (Some xs) None piece waiting waiting' a b c x y z on read feeds = absurd read
-ReadsOn-feed (Some script) (Some xs) (Some rest) piece waiting waiting' a b c x y z (lines, is, does) read p =
-    (lines ++ p.lines, is ∙ ap (λ l. lines ++ script_lines (waiting ++ l)) read ∙ ap (λ l. lines ++ l) (p.splits rest) ∙ sym (append_assoc lines p.lines (script_lines (waiting' ++ rest))), Does-then lines p.lines a b c x y z does p.does)
+pub ReadsOn-start : (s : Option (List ℕ)) (c : ClusterView) (x : Option (List ℕ)) → ReadsOn s s 0 [] c c x x
+ReadsOn-start s c x = record { bytes = []; read = Consumes-none s; many = refl; feeds = Feeds-none [] c x }
 
--- nothing is left to read
-last_lines : (script : List ℕ) (lines : List Line) (waiting xs ys : List ℕ) → script_lines script ≡ lines ++ script_lines (waiting ++ xs) → xs ≡ ys → ys ≡ [] → HasNoEnd waiting → script_lines script ≡ lines ++ asking waiting
-last_lines script lines waiting xs ys is read end none = is ∙ ap (λ l. lines ++ script_lines (waiting ++ l)) (read ∙ end) ∙ ap (λ l. lines ++ script_lines l) (append-nil waiting) ∙ ap (λ l. lines ++ l) (script_lines-last waiting none)
+-- the next piece was read and taken
+pub ReadsOn-feed : (s l l' : Option (List ℕ)) (into waiting waiting' : List ℕ) (total n : ℕ) (a b c : ClusterView) (x y z : Option (List ℕ)) → ReadsOn s l total waiting a b x y → n ≤ length into → Consumes l l' (take n into)
+    → Feeds waiting (take n into) waiting' b c y z → ReadsOn s l' (total + n) waiting' a c x z
+ReadsOn-feed s l l' into waiting waiting' total n a b c x y z on within read feeds =
+    let piece = take n into in
+    record {
+      bytes = on.bytes ++ piece;
+      read = Consumes-then s l l' on.bytes piece on.read read;
+      many = omega (arith, on.many, length-append on.bytes piece, length-take n into);
+      feeds = Feeds-then [] on.bytes waiting piece waiting' a b c x y z on.feeds feeds;
+    }
 
-pub ReadsOn-end : (s l l' : Option (List ℕ)) (waiting : List ℕ) (a b c : Standing) (x y z : Option (List ℕ)) → ReadsOn s l waiting a b x y → Consumes l l' [] → IsAtEnd l' → HasNoEnd waiting → Does (asking waiting) b c y z
-    → IfSome s (λ script. Does (script_lines script) a c x z)
-ReadsOn-end None l l' waiting a b c x y z on read end none last = tt
-ReadsOn-end (Some script) None l' waiting a b c x y z on read end none last = absurd on
-ReadsOn-end (Some script) (Some xs) None waiting a b c x y z on read end none last = absurd read
-ReadsOn-end (Some script) (Some xs) (Some ys) waiting a b c x y z (lines, is, does) read end none last =
-    subst (λ ls. Does ls a c x z) (sym (last_lines script lines waiting xs ys is read end none)) (Does-then lines (asking waiting) a b c x y z does last)
+-- the lines of all that was read, once nothing is left
+lines_read : (bytes waiting : List ℕ) (lines : List Line) → ((rest : List ℕ) → script_lines (bytes ++ rest) ≡ lines ++ script_lines (waiting ++ rest)) → HasNoEnd waiting → script_lines bytes ≡ lines ++ asking waiting
+lines_read bytes waiting lines splits none =
+    ap script_lines (sym (append-nil bytes)) ∙ splits [] ∙ ap (λ l. lines ++ script_lines l) (append-nil waiting) ∙ ap (λ l. lines ++ l) (script_lines-last waiting none)
 
-pub ReadsOn-cut_last : (s l l' : Option (List ℕ)) (waiting : List ℕ) (a b c : Standing) (x y z : Option (List ℕ)) → ReadsOn s l waiting a b x y → Consumes l l' [] → IsAtEnd l' → HasNoEnd waiting → Cuts (asking waiting) b c y z
-    → IfSome s (λ script. Cuts (script_lines script) a c x z)
-ReadsOn-cut_last None l l' waiting a b c x y z on read end none last = tt
-ReadsOn-cut_last (Some script) None l' waiting a b c x y z on read end none last = absurd on
-ReadsOn-cut_last (Some script) (Some xs) None waiting a b c x y z on read end none last = absurd read
-ReadsOn-cut_last (Some script) (Some xs) (Some ys) waiting a b c x y z (lines, is, does) read end none last =
-    subst (λ ls. Cuts ls a c x z) (sym (last_lines script lines waiting xs ys is read end none)) (Does-cuts lines (asking waiting) a b c x y z does last)
+-- nothing more was read
+ReadsOn-none : (s l l' : Option (List ℕ)) (bytes : List ℕ) → Consumes s l bytes → Consumes l l' [] → Consumes s l' bytes
+ReadsOn-none s l l' bytes on read = subst (Consumes s l') (append-nil bytes) (Consumes-then s l l' bytes [] on read)
 
-pub ReadsOn-cut : (s l l' : Option (List ℕ)) (piece waiting : List ℕ) (a b c : Standing) (x y z : Option (List ℕ)) → ReadsOn s l waiting a b x y → Consumes l l' piece → CutsPiece waiting piece b c y z → IfSome s (λ script. Cuts (script_lines script) a c x z)
-ReadsOn-cut None l l' piece waiting a b c x y z on read cuts = tt
-ReadsOn-cut (Some script) None l' piece waiting a b c x y z on read cuts = absurd on
-ReadsOn-cut (Some script) (Some xs) None piece waiting a b c x y z on read cuts = absurd read
-ReadsOn-cut (Some script) (Some xs) (Some rest) piece waiting a b c x y z (lines, is, does) read cuts =
-    subst (λ ls. Cuts ls a c x z) (sym (is ∙ ap (λ l. lines ++ script_lines (waiting ++ l)) read)) (Does-cuts lines (script_lines (waiting ++ (piece ++ rest))) a b c x y z does (cuts rest))
+pub ReadsOn-end : (s l l' : Option (List ℕ)) (waiting : List ℕ) (total : ℕ) (a b c : ClusterView) (x y z : Option (List ℕ)) → ReadsOn s l total waiting a b x y → Consumes l l' [] → IsAtEnd l' → total ≤ most_bytes → HasNoEnd waiting → Does (asking waiting) b c y z
+    → OfScript s (λ script. (length script ≤ most_bytes) × Does (script_lines script) a c x z)
+ReadsOn-end s l l' waiting total a b c x y z on read end few none last = (
+  on.bytes,
+  told_end s l' on.bytes (ReadsOn-none s l l' on.bytes on.read read) end,
+  (omega (arith, on.many, few), subst (λ ls. Does ls a c x z) (sym (lines_read on.bytes waiting on.feeds.lines on.feeds.splits none)) (Does-then on.feeds.lines (asking waiting) a b c x y z on.feeds.does last)),
+)
 
--- ---- how many bytes were read
+pub ReadsOn-cut_last : (s l l' : Option (List ℕ)) (waiting : List ℕ) (total : ℕ) (a b c : ClusterView) (x y z : Option (List ℕ)) → ReadsOn s l total waiting a b x y → Consumes l l' [] → IsAtEnd l' → HasNoEnd waiting → Cuts (asking waiting) b c y z
+    → OfScript s (λ script. Cuts (script_lines script) a c x z)
+ReadsOn-cut_last s l l' waiting total a b c x y z on read end none last = (
+  on.bytes,
+  told_end s l' on.bytes (ReadsOn-none s l l' on.bytes on.read read) end,
+  subst (λ ls. Cuts ls a c x z) (sym (lines_read on.bytes waiting on.feeds.lines on.feeds.splits none)) (Does-cuts on.feeds.lines (asking waiting) a b c x y z on.feeds.does last),
+)
 
-pub HasRead-start : (s : Option (List ℕ)) → HasRead s s 0
-HasRead-start None = tt
-HasRead-start (Some script) = omega arith
+-- the run was cut short in the next piece
+pub ReadsOn-cut : (s l l' : Option (List ℕ)) (piece waiting : List ℕ) (total : ℕ) (a b c : ClusterView) (x y z : Option (List ℕ)) → ReadsOn s l total waiting a b x y → Consumes l l' piece → CutsPiece waiting piece b c y z
+    → OfScript s (λ script. Cuts (script_lines script) a c x z)
+ReadsOn-cut s l l' piece waiting total a b c x y z on read cuts = (
+  (on.bytes ++ piece) ++ left_of l',
+  told_whole s l' (on.bytes ++ piece) (Consumes-then s l l' on.bytes piece on.read read),
+  Cuts-then [] on.bytes waiting piece a b c x y z on.feeds cuts (left_of l'),
+)
 
-pub HasRead-more : (s l l' : Option (List ℕ)) (bytes : List ℕ) (total n : ℕ) → HasRead s l total → n ≤ length bytes → Consumes l l' (take n bytes) → HasRead s l' (total + n)
-HasRead-more None l l' bytes total n p within read = tt
-HasRead-more (Some script) None l' bytes total n p within read = absurd p
-HasRead-more (Some script) (Some xs) None bytes total n p within read = absurd read
-HasRead-more (Some script) (Some xs) (Some rest) bytes total n p within read = omega (arith, ap length read, length-append (take n bytes) rest, length-take n bytes)
+-- the next piece was not read, or was not taken
+Cuts-front : (bytes waiting rest : List ℕ) (a b : ClusterView) (x y : Option (List ℕ)) → Feeds [] bytes waiting a b x y → Cuts (script_lines (bytes ++ rest)) a b x y
+Cuts-front bytes waiting rest a b x y p = subst (λ ls. Cuts ls a b x y) (sym (p.splits rest)) (Does-cuts p.lines (script_lines (waiting ++ rest)) a b b x y y p.does (Cuts-none (script_lines (waiting ++ rest)) b y))
+
+Keeps-consumes : (s l l' : Option (List ℕ)) (bs : List ℕ) → Consumes s l bs → Keeps l l' → Consumes s l' bs
+Keeps-consumes None l l' bs p q = tt
+Keeps-consumes (Some xs) None l' bs p q = absurd p
+Keeps-consumes (Some xs) (Some ys) None bs p q = absurd q
+Keeps-consumes (Some xs) (Some ys) (Some zs) bs p q = p ∙ ap (λ l. bs ++ l) (sym q)
+
+pub ReadsOn-fault : (s l l' : Option (List ℕ)) (waiting : List ℕ) (total : ℕ) (a b : ClusterView) (x y : Option (List ℕ)) → ReadsOn s l total waiting a b x y → Keeps l l' → OfScript s (λ script. Cuts (script_lines script) a b x y)
+ReadsOn-fault s l l' waiting total a b x y on kept = (
+  on.bytes ++ left_of l',
+  told_whole s l' on.bytes (Keeps-consumes s l l' on.bytes on.read kept),
+  Cuts-front on.bytes waiting (left_of l') a b x y on.feeds,
+)
+
+-- with the next piece the script is too long
+pub ReadsOn-long : (s l l' : Option (List ℕ)) (into waiting : List ℕ) (total n : ℕ) (a b : ClusterView) (x y : Option (List ℕ)) → ReadsOn s l total waiting a b x y → n ≤ length into → Consumes l l' (take n into) → most_bytes < total + n
+    → OfScript s (λ script. (most_bytes < length script) × Cuts (script_lines script) a b x y)
+ReadsOn-long s l l' into waiting total n a b x y on within read long =
+    let piece = take n into in (
+      (on.bytes ++ piece) ++ left_of l',
+      told_whole s l' (on.bytes ++ piece) (Consumes-then s l l' on.bytes piece on.read read),
+      (
+        omega (arith, on.many, long, length-append (on.bytes ++ piece) (left_of l'), length-append on.bytes piece, length-take n into),
+        subst (λ bs. Cuts (script_lines bs) a b x y) (sym (append_assoc on.bytes piece (left_of l'))) (Cuts-front on.bytes waiting (piece ++ left_of l') a b x y on.feeds),
+      ),
+    )
+
+-- a script with more to say of it
+pub OfScript-weaker : (s : Option (List ℕ)) (P Q : List ℕ → Type 0) → ((script : List ℕ) → P script → Q script) → OfScript s P → OfScript s Q
+OfScript-weaker s P Q f (script, told, p) = (script, told, f script p)

@@ -1,22 +1,18 @@
--- What is UTF-8.
-use Rattle.std.proofs.Common.{◌≡◌, ℕ, Bool, true, false, cond, ◌&&◌, List, refl}
+-- What a line asks, by whether it is UTF-8.
+use Rattle.std.proofs.Common.{◌≡◌, ℕ, Bool, true, false, cond, List, Err, refl, sym, ap}
 use Rattle.std.specs.Str.{is_utf8, IsUtf8}
-use Rattle.std.proofs.lemmas.Str.{IsUtf8-from_is_utf8}
+use Rattle.std.proofs.lemmas.Str.{IsUtf8-from_is_utf8, is_utf8-from_IsUtf8}
+use Rattle.hx_model.specs.declared.refusal.Refusal.TheVariants.{BadLine}
+use Rattle.hx_script.specs.Forms.{reading_of_bytes, reading_of_text}
 
-decided : (text : List ℕ) (b : Bool) → is_utf8 text ≡ b → ¬ IsUtf8 text → b ≡ false
-decided text true e not = absurd (not (IsUtf8-from_is_utf8 text e))
-decided text false e not = refl
+decided : (bytes : List ℕ) (b : Bool) → is_utf8 bytes ≡ b → ¬ IsUtf8 bytes → b ≡ false
+decided bytes true e not = absurd (not (IsUtf8-from_is_utf8 bytes e))
+decided bytes false e not = refl
 
--- a text that isn't UTF-8 fails the test
-pub is_utf8-false : (text : List ℕ) → ¬ IsUtf8 text → is_utf8 text ≡ false
-is_utf8-false text not = decided text (is_utf8 text) refl not
+pub reading-utf8 : (bytes : List ℕ) → IsUtf8 bytes → reading_of_text bytes ≡ reading_of_bytes bytes
+unfolding reading_of_bytes
+reading-utf8 bytes is = ap (λ b. cond b (reading_of_text bytes) (Err BadLine)) (sym (is_utf8-from_IsUtf8 bytes is))
 
-pub cond_both : {A : Type 0} (a b : Bool) (x y : A) → a ≡ true → b ≡ true → x ≡ cond (a && b) x y
-cond_both true true x y p q = refl
-cond_both true false x y p q = absurd (cc q)
-cond_both false b x y p q = absurd (cc p)
-
-pub cond_not : {A : Type 0} (a b : Bool) (x y : A) → b ≡ false → y ≡ cond (a && b) x y
-cond_not true true x y p = absurd (cc p)
-cond_not true false x y p = refl
-cond_not false b x y p = refl
+pub reading-other : (bytes : List ℕ) → ¬ IsUtf8 bytes → reading_of_bytes bytes ≡ Err BadLine
+unfolding reading_of_bytes
+reading-other bytes not = ap (λ b. cond b (reading_of_text bytes) (Err BadLine)) (decided bytes (is_utf8 bytes) refl not)

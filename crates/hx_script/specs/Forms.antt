@@ -1,10 +1,11 @@
 -- What a line asks.
 --     request_of      what a target and a body ask
 --     reading_of      what a line asks, or the refusal that it fixes
--- A request is `GET TARGET`, `DELETE TARGET`, `POST TARGET BODY` or `PUT TARGET BODY`, joined by single spaces. The body is the rest of the line, and where it is empty the space before it may be absent.
-use Rattle.std.specs.Prelude.{ℕ, Bool, true, false, ◌&&◌, ◌==◌, List, [], ◌∷◌, codes, Option, Some, None, Err, if◌then◌else◌}
+-- A line is UTF-8. A request is `GET TARGET`, `DELETE TARGET`, `POST TARGET BODY` or `PUT TARGET BODY`, joined by single spaces. The body is the rest of the line, and where it is empty the space before it may be absent.
+use Rattle.std.specs.Prelude.{ℕ, Bool, true, false, ◌==◌, List, [], ◌∷◌, codes, Option, Some, None, Err, if◌then◌else◌}
 use Rattle.std.specs.declared.result.Result.{Result}
 use Rattle.std.specs.Str.{bytes_eq, is_utf8}
+use Rattle.hx_object.specs.Names.{slash}
 use Rattle.hx_model.specs.declared.ask.Ask.{Ask}
 use Rattle.hx_model.specs.declared.refusal.Refusal.{Refusal}
 use Rattle.hx_model.specs.declared.refusal.Refusal.TheVariants.{BadLine, TooLong, NotServed}
@@ -24,13 +25,9 @@ method_of word =
     if bytes_eq word (codes "DELETE") then Some Delete else None)))
 
 -- a target begins with `/`
-abbrev pub begins_with_slash : List ℕ → Bool
-begins_with_slash [] = false
-begins_with_slash (byte ∷ target) = byte == 47
-
--- a target is UTF-8 and begins with `/`
 abbrev pub is_target : List ℕ → Bool
-is_target target = begins_with_slash target && is_utf8 target
+is_target [] = false
+is_target (byte ∷ target) = byte == slash
 
 -- the methods that have a body
 abbrev pub takes_body : Method → Bool
@@ -66,11 +63,15 @@ abbrev pub reading_by : Option Method → List ℕ → Result Ask Refusal
 reading_by None text = Err (refusal_of text)
 reading_by (Some method) text = request_in method (rest_of text)
 
--- what the text of a line asks, or the refusal that it fixes
+-- what a text asks, or the refusal that it fixes
 unfoldable pub reading_of_text : List ℕ → Result Ask Refusal
 reading_of_text text = reading_by (method_of (word_of text)) text
 
+-- what the bytes of a line ask. Bytes that aren't UTF-8 are in no form, wherever in the line they stand
+unfoldable pub reading_of_bytes : List ℕ → Result Ask Refusal
+reading_of_bytes bytes = if is_utf8 bytes then reading_of_text bytes else Err BadLine
+
 -- what a line asks, or the refusal that it fixes
 abbrev pub reading_of : Line → Result Ask Refusal
-reading_of (Short text) = reading_of_text text
+reading_of (Short bytes) = reading_of_bytes bytes
 reading_of Long = Err TooLong

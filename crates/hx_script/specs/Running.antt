@@ -5,45 +5,47 @@
 --     Serves, CutsAnswer           a request was made, and its answer written;  a front of it
 --     IsWaiting                    what is kept of a line that hasn't ended
 --     Feeds, CutsPiece             a piece of the script was taken;  it was being taken
+--     OfScript told P              there is a script with P: the one that the source tells, where it tells
 --     ReadsOn                      what was read of the script was answered, but for what waits
---     WriteCause                   when a write may fail
-use Rattle.std.specs.Prelude.{◌≡◌, ◌≢◌, ◌≤◌, ◌<◌, ◌+◌, ◌^◌, ℕ, false, List, [], ◌∷◌, ◌++◌, ◌⊎◌, ◌==◌, Some, None, length, take, slice_index, OnErr}
+--     IsCalm, WriteCause           no write failed or stalled;  when a write may fail
+use Rattle.std.specs.Prelude.{◌≡◌, ◌≢◌, ◌≤◌, ◌<◌, ◌+◌, ◌^◌, ℕ, false, List, [], ◌∷◌, ◌++◌, ◌⊎◌, ◌==◌, IfSome, length, take, slice_index, OnOk, OnErr}
 use Rattle.std.specs.declared.option.Option.{Option}
 use Rattle.std.specs.declared.result.Result.{Result}
 use Rattle.std.specs.List.{AllByRecursion}
-use Rattle.std.specs.Io.KnownBytes.{Appends}
+use Rattle.std.specs.Io.KnownBytes.{Appends, Consumes}
 use Rattle.hx_ports.specs.Causes.{Rose}
+use Rattle.hx_ports.specs.Views.{SinkView}
 use Rattle.hx_model.specs.declared.ask.Ask.{Ask}
 use Rattle.hx_model.specs.declared.ask.Answer.{Answer}
 use Rattle.hx_model.specs.declared.ask.Answer.TheVariants.{Refused}
 use Rattle.hx_model.specs.declared.refusal.Refusal.TheVariants.{StoreFailed}
-use Rattle.hx_model.specs.Machine.{request_entry}
-use Rattle.hx_core.specs.Standing.{Standing, Makes}
+use Rattle.hx_model.specs.Requests.{request_entry}
+use Rattle.hx_core.specs.Refinement.{ClusterView, HasWorld, Simulates}
 use Rattle.hx_script.specs.Lines.{Line, most_line_bytes, script_lines}
 use Rattle.hx_script.specs.Replies.{answer_line}
-use Rattle.hx_script.specs.Turns.{Turn, IsTurn, lines_of, entries_of, answer_lines, turn_line, no_memory_line}
+use Rattle.hx_script.specs.Exchanges.{Exchange, IsExchange, lines_of, entries_of, answer_lines, exchange_line, no_memory_line}
 
--- what is lacking of the turns' lines is an end of the last one
-abbrev pub LacksLast : List Turn → List ℕ → Type 0
-LacksLast turns lacking = (lacking ≡ []) ⊎ ((before : List Turn) × (last : Turn) × (front : List ℕ) × (turns ≡ before ++ last ∷ []) × (turn_line last ≡ front ++ lacking))
+-- what is lacking of the exchanges' lines is an end of the last one
+abbrev pub LacksLast : List Exchange → List ℕ → Type 0
+LacksLast exchanges lacking = (lacking ≡ []) ⊎ ((before : List Exchange) × (last : Exchange) × (front : List ℕ) × (exchanges ≡ before ++ last ∷ []) × (exchange_line last ≡ front ++ lacking))
 
--- All lines but the rest were answered by turns, whose entries the cluster made. What was written are their lines, but for what is lacking of the last one.
-pub record Ran (lines rest : List Line) (lacking : List ℕ) (old new : Standing) (before after : Option (List ℕ)) : Type 0 where
-  pub turns : List Turn
+-- All lines but the rest were answered by exchanges, whose entries the cluster made if it stood for a world. What was written are their lines, but for what is lacking of the last one.
+pub record Ran (lines rest : List Line) (lacking : List ℕ) (old new : ClusterView) (before after : Option (List ℕ)) : Type 0 where
+  pub exchanges : List Exchange
   pub text : List ℕ
-  pub each : AllByRecursion IsTurn turns
-  pub split : lines ≡ lines_of turns ++ rest
-  pub makes : Makes old (entries_of turns) new
-  pub says : answer_lines turns ≡ text ++ lacking
-  pub lacks : LacksLast turns lacking
+  pub each : AllByRecursion IsExchange exchanges
+  pub split : lines ≡ lines_of exchanges ++ rest
+  pub simulates : HasWorld old → Simulates old (entries_of exchanges) new
+  pub says : answer_lines exchanges ≡ text ++ lacking
+  pub lacks : LacksLast exchanges lacking
   pub wrote : Appends before after text
 
 -- all lines were answered
-abbrev pub Does : List Line → Standing → Standing → Option (List ℕ) → Option (List ℕ) → Type 0
+abbrev pub Does : List Line → ClusterView → ClusterView → Option (List ℕ) → Option (List ℕ) → Type 0
 Does lines old new before after = Ran lines [] [] old new before after
 
 -- some first lines were answered, the last of them perhaps not whole
-pub record Cuts (lines : List Line) (old new : Standing) (before after : Option (List ℕ)) : Type 0 where
+pub record Cuts (lines : List Line) (old new : ClusterView) (before after : Option (List ℕ)) : Type 0 where
   pub rest : List Line
   pub lacking : List ℕ
   pub ran : Ran lines rest lacking old new before after
@@ -72,15 +74,15 @@ pub record SaysFront (answer : Answer) (before after : Option (List ℕ)) : Type
   pub wrote : WritesFront text before after
 
 -- a request was made, and its answer written
-pub record Serves (ask : Ask) (old new : Standing) (before after : Option (List ℕ)) : Type 0 where
+pub record Serves (ask : Ask) (old new : ClusterView) (before after : Option (List ℕ)) : Type 0 where
   pub answer : Answer
-  pub makes : Makes old (request_entry ask answer ∷ []) new
+  pub simulates : Simulates old (request_entry ask answer ∷ []) new
   pub says : SaysTo answer before after
 
 -- a request was made, and a front of its answer written
-pub record CutsAnswer (ask : Ask) (old new : Standing) (before after : Option (List ℕ)) : Type 0 where
+pub record CutsAnswer (ask : Ask) (old new : ClusterView) (before after : Option (List ℕ)) : Type 0 where
   pub answer : Answer
-  pub makes : Makes old (request_entry ask answer ∷ []) new
+  pub simulates : Simulates old (request_entry ask answer ∷ []) new
   pub says : SaysFront answer before after
 
 -- no line ends in it
@@ -111,29 +113,34 @@ abbrev pub Splits : List ℕ → List ℕ → List Line → List ℕ → Type 0
 Splits old piece lines new = (rest : List ℕ) → script_lines (old ++ (piece ++ rest)) ≡ lines ++ script_lines (new ++ rest)
 
 -- a piece was taken: the lines that it ends were answered, and the rest waits
-pub record Feeds (waiting piece waiting' : List ℕ) (old new : Standing) (before after : Option (List ℕ)) : Type 0 where
+pub record Feeds (waiting piece waiting' : List ℕ) (old new : ClusterView) (before after : Option (List ℕ)) : Type 0 where
   pub lines : List Line
   pub splits : Splits waiting piece lines waiting'
   pub does : Does lines old new before after
 
 -- whatever follows the piece, the run was cut short in it
-abbrev pub CutsPiece : List ℕ → List ℕ → Standing → Standing → Option (List ℕ) → Option (List ℕ) → Type 0
+abbrev pub CutsPiece : List ℕ → List ℕ → ClusterView → ClusterView → Option (List ℕ) → Option (List ℕ) → Type 0
 CutsPiece waiting piece old new before after = (rest : List ℕ) → Cuts (script_lines (waiting ++ (piece ++ rest))) old new before after
 
--- what was read of the script was answered, but for what waits
-abbrev pub ReadsOn : Option (List ℕ) → Option (List ℕ) → List ℕ → Standing → Standing → Option (List ℕ) → Option (List ℕ) → Type 0
-ReadsOn None left waiting old new before after = Unit {0}
-ReadsOn (Some script) None waiting old new before after = ⊥
-ReadsOn (Some script) (Some rest) waiting old new before after = (lines : List Line) × (script_lines script ≡ lines ++ script_lines (waiting ++ rest)) × Does lines old new before after
+-- There is a script with this property. Where the source tells its bytes, it is these.
+abbrev pub OfScript : Option (List ℕ) → (List ℕ → Type 0) → Type 0
+OfScript told P = (script : List ℕ) × IfSome told (λ bytes. script ≡ bytes) × P script
 
--- so many bytes of the script were read
-abbrev pub HasRead : Option (List ℕ) → Option (List ℕ) → ℕ → Type 0
-HasRead None left total = Unit {0}
-HasRead (Some script) None total = ⊥
-HasRead (Some script) (Some rest) total = length script ≡ total + length rest
+-- so many bytes were read, and what they ask was answered, but for what waits
+pub record ReadsOn (told left : Option (List ℕ)) (total : ℕ) (waiting : List ℕ) (old new : ClusterView) (before after : Option (List ℕ)) : Type 0 where
+  pub bytes : List ℕ
+  pub read : Consumes told left bytes
+  pub many : length bytes ≡ total
+  pub feeds : Feeds [] bytes waiting old new before after
 
--- the sink's counts never fall, and one of them rose where the call failed
-pub record WriteCause {T E : Type 0} (faults faults' stalls stalls' : ℕ) (result : Result T E) : Type 0 where
-  pub later : faults ≤ faults'
-  pub longer : stalls ≤ stalls'
-  pub failed : OnErr result (Rose faults faults' ⊎ Rose stalls stalls')
+-- no write failed or stalled
+pub record IsCalm (old new : SinkView) : Type 0 where
+  pub faults : new.faults ≡ old.faults
+  pub stalls : new.stalls ≡ old.stalls
+
+-- the sink's counts never fall; one of them rose where the call failed, and both stayed where it didn't
+pub record WriteCause {T E : Type 0} (old new : SinkView) (result : Result T E) : Type 0 where
+  pub later : old.faults ≤ new.faults
+  pub longer : old.stalls ≤ new.stalls
+  pub failed : OnErr result (Rose old.faults new.faults ⊎ Rose old.stalls new.stalls)
+  pub still : OnOk result (IsCalm old new)

@@ -33,9 +33,9 @@ abbrev pub has_no_leading_zero : List ℕ → Bool
 has_no_leading_zero digits = not (slice_index digits 0 == 48) || nat_eq (length digits) 1
 
 -- 1 to 10 digits without a leading zero
-unfoldable pub is_decimal : List ℕ → Bool
-is_decimal text = has_length 1 10 text && (list_all is_digit text && has_no_leading_zero text)
+unfoldable pub is_short_decimal : List ℕ → Bool
+is_short_decimal text = has_length 1 10 text && (list_all is_digit text && has_no_leading_zero text)
 
 -- a number in decimal that lies within the bounds
 unfoldable pub is_number : ℕ → ℕ → List ℕ → Bool
-is_number least most text = is_decimal text && (nat_le least (digits_value 10 text) && nat_le (digits_value 10 text) most)
+is_number least most text = is_short_decimal text && (nat_le least (digits_value 10 text) && nat_le (digits_value 10 text) most)

@@ -1,12 +1,13 @@
 -- The lines for reconcilers.
 --     is_key              a key of a reconciler's work: what it looks after, and where
 --     is_worker_line      whether a line is in one of their forms: `take W`, `take W KEY`, `finish W`, `drop W`, `settle N` or `check`
-use Rattle.std.specs.Prelude.{ℕ, Bool, true, false, ◌&&◌, ◌||◌, List, [], ◌∷◌, codes, find, Option, Some, None, if◌then◌else◌}
+use Rattle.std.specs.Prelude.{ℕ, Bool, true, false, ◌&&◌, ◌||◌, List, codes, Option, Some, None, option_and_then, if◌then◌else◌}
 use Rattle.std.specs.Str.{bytes_eq}
-use Rattle.hx_object.specs.Kinds.{plural_of}
+use Rattle.hx_object.specs.Kinds.{can_be_copied, kind_of_plural}
 use Rattle.hx_object.specs.Names.{is_dns_label, is_name_of}
 use Rattle.hx_object.specs.declared.kind.Kind.{Kind}
-use Rattle.hx_object.specs.declared.kind.Kind.TheVariants.{Namespace, SubnamespaceAnchor, HierarchicalResourceQuota, Role, RoleBinding, ConfigMap, Secret, NetworkPolicy, LimitRange}
+use Rattle.hx_object.specs.declared.kind.Kind.TheVariants.{Namespace, SubnamespaceAnchor, HierarchicalResourceQuota}
+use Rattle.hx_model.specs.First.{so}
 use Rattle.hx_script.specs.Words.{word_of, rest_of, is_number}
 
 -- ---- keys
@@ -20,13 +21,9 @@ is_rest_name kind (Some name) = is_name_of kind name
 abbrev pub is_place : Kind → List ℕ → Bool
 is_place kind text = is_dns_label (word_of text) && is_rest_name kind (rest_of text)
 
--- the kinds that are copied
-abbrev pub copied_kinds : List Kind
-copied_kinds = Role ∷ RoleBinding ∷ ConfigMap ∷ Secret ∷ NetworkPolicy ∷ LimitRange ∷ []
-
 -- the copied kind of a plural
 abbrev pub copied_kind : List ℕ → Option Kind
-copied_kind plural = find (λ kind. bytes_eq plural (plural_of kind)) copied_kinds
+copied_kind plural = option_and_then (λ kind. so (can_be_copied kind) kind) (kind_of_plural plural)
 
 -- a copied kind and the name of one of its objects
 abbrev pub is_kind_name : Option Kind → Option (List ℕ) → Bool

@@ -3,11 +3,9 @@
 //! Each line that isn't empty and doesn't begin with `#` has one line of answer: the HTTP status, a space and the body.
 #![tactic(auto)]
 
+mod answer_line;
 mod line;
-mod reply;
 mod script;
-#[cfg(test)]
-mod tests;
 mod words;
 mod worker;
 

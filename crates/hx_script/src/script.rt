@@ -3,16 +3,17 @@ ghost use Rattle.std.specs.Prelude.{◌≡◌, ◌≢◌, ◌≤◌, ◌<◌, �
 ghost use Rattle.std.specs.Io.KnownBytes.{Appends, IsAtEnd};
 ghost use Rattle.std.specs.Str.Lines.{strip_carriage_return};
 ghost use Rattle.hx_ports.specs.Causes.{Rose};
+ghost use Rattle.hx_model.specs.Bodies.{answer_text};
 ghost use Rattle.hx_model.specs.Serving.{IsServedAsk, IsLegalAnswer};
 ghost use Rattle.hx_script.specs.Lines.{line_of_text, asking, is_asking, script_lines};
-ghost use Rattle.hx_script.specs.Running.{Does, Cuts, HasNoEnd, IsWaiting, EndsAt, most_kept, most_bytes, Feeds, CutsPiece, WritesFront, WriteCause, SaysTo, SaysFront, Serves, CutsAnswer};
+ghost use Rattle.hx_script.specs.Running.{Does, Cuts, OfScript, HasNoEnd, IsWaiting, EndsAt, most_kept, most_bytes, Feeds, CutsPiece, WritesFront, IsCalm, WriteCause, SaysTo, SaysFront, Serves, CutsAnswer};
 
+use crate::answer_line::{answer_line, fixed_line, no_memory};
 use crate::line::read_line;
-use crate::reply::{answer_line, fixed_line, no_memory};
 use hx_api::Routes;
-use hx_core::Cluster;
+use hx_core::{Cluster, Response};
 use hx_model::{Answer, Ask, Refusal};
-use hx_object::NoMemory;
+use hx_object::{NoMemory, Text};
 use hx_ports::{Keeper, Sink, Source};
 use memchr::memchr;
 use std::alloc::Global;
@@ -75,9 +76,9 @@ impl Stop {
 
 /// Writes all bytes.
 fn write_all<W: Sink>(sink: &mut W, bytes: &[u8]) -> Result<(), Unwritten>
-    ensures whole { OnOk result (Appends (W.written sink.old) (W.written sink.new) bytes.now) }
-    ensures cut { OnErr result (WritesFront bytes.now (W.written sink.old) (W.written sink.new)) }
-    ensures cause { WriteCause (W.write_faults sink.old) (W.write_faults sink.new) (W.stalls sink.old) (W.stalls sink.new) result }
+    ensures whole { OnOk result (Appends (W.shown sink.old).written (W.shown sink.new).written bytes.now) }
+    ensures cut { OnErr result (WritesFront bytes.now (W.shown sink.old).written (W.shown sink.new).written) }
+    ensures cause { WriteCause (W.shown sink.old) (W.shown sink.new) result }
 {
     let mut at = 0;
     while at < bytes.len() {
@@ -90,19 +91,25 @@ fn write_all<W: Sink>(sink: &mut W, bytes: &[u8]) -> Result<(), Unwritten>
     Ok(())
 }
 
-/// Writes the line of an answer or, where its text finds no memory, the one for want of memory.
-fn say<W: Sink>(alloc: Global, sink: &mut W, answer: &Answer) -> Result<(), Unwritten>
-    requires { IsLegalAnswer answer.now }
-    ensures says { OnOk result (SaysTo answer.now (W.written sink.old) (W.written sink.new)) }
-    ensures cut { OnErr result (SaysFront answer.now (W.written sink.old) (W.written sink.new)) }
-    ensures cause { WriteCause (W.write_faults sink.old) (W.write_faults sink.new) (W.stalls sink.old) (W.stalls sink.new) result }
+/// Writes the line of an answer or, where its text finds no memory, the one for want of memory. A text that was made already isn't made again.
+fn say<W: Sink>(
+    alloc: Global,
+    sink: &mut W,
+    answer: &Answer,
+    text: Option<Text>,
+) -> Result<(), Unwritten>
+    requires legal { IsLegalAnswer answer.now }
+    requires text { IfSome text (λ text. text ≡ answer_text answer.now) }
+    ensures says { OnOk result (SaysTo answer.now (W.shown sink.old).written (W.shown sink.new).written) }
+    ensures cut { OnErr result (SaysFront answer.now (W.shown sink.old).written (W.shown sink.new).written) }
+    ensures cause { WriteCause (W.shown sink.old) (W.shown sink.new) result }
 {
     if let Answer::Refused(refusal) = answer {
         if let Some(line) = fixed_line(refusal) {
             return write_all(sink, line.as_bytes());
         }
     }
-    match answer_line(alloc, answer) {
+    match answer_line(alloc, answer, text) {
         Ok(text) => write_all(sink, text.as_str().as_bytes()),
         Err(_) => write_all(sink, no_memory().as_bytes()),
     }
@@ -113,15 +120,15 @@ fn serve<W: Sink, K: Keeper>(
     alloc: Global,
     cluster: &mut Cluster<K>,
     sink: &mut W,
-    ask: &Ask,
+    ask: Ask,
 ) -> Result<(), Unwritten>
-    requires { IsServedAsk ask.now }
-    ensures serves { OnOk result (Serves ask.now cluster.old cluster.new (W.written sink.old) (W.written sink.new)) }
-    ensures cut { OnErr result (CutsAnswer ask.now cluster.old cluster.new (W.written sink.old) (W.written sink.new)) }
-    ensures cause { WriteCause (W.write_faults sink.old) (W.write_faults sink.new) (W.stalls sink.old) (W.stalls sink.new) result }
+    requires { IsServedAsk ask }
+    ensures serves { OnOk result (Serves ask cluster.old cluster.new (W.shown sink.old).written (W.shown sink.new).written) }
+    ensures cut { OnErr result (CutsAnswer ask cluster.old cluster.new (W.shown sink.old).written (W.shown sink.new).written) }
+    ensures cause { WriteCause (W.shown sink.old) (W.shown sink.new) result }
 {
-    let answer = cluster.request(ask);
-    let said = say(alloc, sink, &answer);
+    let Response { answer, text } = cluster.request(ask);
+    let said = say(alloc, sink, &answer, text);
     drop(answer);
     said
 }
@@ -134,22 +141,18 @@ fn answer_one<W: Sink, K: Keeper>(
     sink: &mut W,
     text: &[u8],
 ) -> Result<(), Unwritten>
-    ensures does { OnOk result (Does (line_of_text text.now ∷ []) cluster.old cluster.new (W.written sink.old) (W.written sink.new)) }
-    ensures cut { OnErr result (Cuts (line_of_text text.now ∷ []) cluster.old cluster.new (W.written sink.old) (W.written sink.new)) }
-    ensures cause { WriteCause (W.write_faults sink.old) (W.write_faults sink.new) (W.stalls sink.old) (W.stalls sink.new) result }
+    ensures does { OnOk result (Does (line_of_text text.now ∷ []) cluster.old cluster.new (W.shown sink.old).written (W.shown sink.new).written) }
+    ensures cut { OnErr result (Cuts (line_of_text text.now ∷ []) cluster.old cluster.new (W.shown sink.old).written (W.shown sink.new).written) }
+    ensures cause { WriteCause (W.shown sink.old) (W.shown sink.new) result }
 {
     match read_line(alloc, routes, text) {
         Err(refusal) => {
             let answer = Answer::Refused(refusal);
-            let said = say(alloc, sink, &answer);
+            let said = say(alloc, sink, &answer, None);
             drop(answer);
             said
         }
-        Ok(ask) => {
-            let served = serve(alloc, cluster, sink, &ask);
-            drop(ask);
-            served
-        }
+        Ok(ask) => serve(alloc, cluster, sink, ask),
     }
 }
 
@@ -182,9 +185,9 @@ fn answer_part<W: Sink, K: Keeper>(
     sink: &mut W,
     part: &[u8],
 ) -> Result<(), Unwritten>
-    ensures does { OnOk result (Does (asking part.now) cluster.old cluster.new (W.written sink.old) (W.written sink.new)) }
-    ensures cut { OnErr result (Cuts (asking part.now) cluster.old cluster.new (W.written sink.old) (W.written sink.new)) }
-    ensures cause { WriteCause (W.write_faults sink.old) (W.write_faults sink.new) (W.stalls sink.old) (W.stalls sink.new) result }
+    ensures does { OnOk result (Does (asking part.now) cluster.old cluster.new (W.shown sink.old).written (W.shown sink.new).written) }
+    ensures cut { OnErr result (Cuts (asking part.now) cluster.old cluster.new (W.shown sink.old).written (W.shown sink.new).written) }
+    ensures cause { WriteCause (W.shown sink.old) (W.shown sink.new) result }
 {
     let text = without_return(part);
     if !is_asking(text) {
@@ -226,10 +229,11 @@ fn feed<W: Sink, K: Keeper>(
 ) -> Result<(), Stop>
     requires { IsWaiting waiting.old.items }
     ensures waits { OnOk result (IsWaiting waiting.new.items) }
-    ensures feeds { OnOk result (Feeds waiting.old.items piece.now waiting.new.items cluster.old cluster.new (W.written sink.old) (W.written sink.new)) }
-    ensures cut { OnErr result (CutsPiece waiting.old.items piece.now cluster.old cluster.new (W.written sink.old) (W.written sink.new)) }
-    ensures later { (W.write_faults sink.old ≤ W.write_faults sink.new) × (W.stalls sink.old ≤ W.stalls sink.new) }
-    ensures cause { IsErrOf result Stop.WriteFault → Rose (W.write_faults sink.old) (W.write_faults sink.new) ⊎ Rose (W.stalls sink.old) (W.stalls sink.new) }
+    ensures feeds { OnOk result (Feeds waiting.old.items piece.now waiting.new.items cluster.old cluster.new (W.shown sink.old).written (W.shown sink.new).written) }
+    ensures cut { OnErr result (CutsPiece waiting.old.items piece.now cluster.old cluster.new (W.shown sink.old).written (W.shown sink.new).written) }
+    ensures later { ((W.shown sink.old).faults ≤ (W.shown sink.new).faults) × ((W.shown sink.old).stalls ≤ (W.shown sink.new).stalls) }
+    ensures still { OnOk result (IsCalm (W.shown sink.old) (W.shown sink.new)) }
+    ensures cause { IsErrOf result Stop.WriteFault → Rose (W.shown sink.old).faults (W.shown sink.new).faults ⊎ Rose (W.shown sink.old).stalls (W.shown sink.new).stalls }
 {
     let mut at = 0;
     while let Some(end) = first_end(&piece[at..]) {
@@ -252,14 +256,13 @@ pub fn run_script<S: Source, W: Sink, K: Keeper>(
     sink: &mut W,
     cluster: &mut Cluster<K>,
 ) -> RunEnd
-    ensures done { result ≡ RunEnd.Done → IfSome (S.left source.old) (λ script. Does (script_lines script) cluster.old cluster.new (W.written sink.old) (W.written sink.new)) }
-    ensures cut { result ≢ RunEnd.Done → IfSome (S.left source.old) (λ script. Cuts (script_lines script) cluster.old cluster.new (W.written sink.old) (W.written sink.new)) }
-
-    ensures whole { result ≡ RunEnd.Done → IfSome (S.left source.old) (λ script. length script ≤ most_bytes) }
-    ensures end { result ≡ RunEnd.Done → IsAtEnd (S.left source.new) }
-    ensures too_long { result ≡ RunEnd.TooLong → IfSome (S.left source.old) (λ script. most_bytes < length script) }
-    ensures read_fault { result ≡ RunEnd.ReadFault → Rose (S.read_faults source.old) (S.read_faults source.new) }
-    ensures write_fault { result ≡ RunEnd.WriteFault → Rose (W.write_faults sink.old) (W.write_faults sink.new) ⊎ Rose (W.stalls sink.old) (W.stalls sink.new) }
+    ensures done { result ≡ RunEnd.Done → OfScript (S.shown source.old).left (λ script. (length script ≤ most_bytes) × Does (script_lines script) cluster.old cluster.new (W.shown sink.old).written (W.shown sink.new).written) }
+    ensures cut { result ≢ RunEnd.Done → OfScript (S.shown source.old).left (λ script. Cuts (script_lines script) cluster.old cluster.new (W.shown sink.old).written (W.shown sink.new).written) }
+    ensures too_long { result ≡ RunEnd.TooLong → OfScript (S.shown source.old).left (λ script. (most_bytes < length script) × Cuts (script_lines script) cluster.old cluster.new (W.shown sink.old).written (W.shown sink.new).written) }
+    ensures calm { result ≡ RunEnd.Done → ((S.shown source.new).faults ≡ (S.shown source.old).faults) × IsCalm (W.shown sink.old) (W.shown sink.new) }
+    ensures end { result ≡ RunEnd.Done → IsAtEnd (S.shown source.new).left }
+    ensures read_fault { result ≡ RunEnd.ReadFault → Rose (S.shown source.old).faults (S.shown source.new).faults }
+    ensures write_fault { result ≡ RunEnd.WriteFault → Rose (W.shown sink.old).faults (W.shown sink.new).faults ⊎ Rose (W.shown sink.old).stalls (W.shown sink.new).stalls }
 {
     let Ok(routes) = Routes::new(alloc) else {
         return RunEnd::NoMemory;

@@ -1,54 +1,49 @@
 // Words that are joined by single spaces.
-ghost use Rattle.std.specs.Prelude.{◌≡◌, ◌≤◌, ◌<◌, ◌&&◌, true, IfSome, length, nat_le, option_copied};
+ghost use Rattle.std.specs.Prelude.{◌≡◌, ◌≤◌, ◌<◌, ◌&&◌, true, length, nat_le, option_copied};
 ghost use Rattle.std.specs.List.{list_all};
 ghost use Rattle.std.specs.Str.Parse.{digits_value};
 ghost use Rattle.hx_object.specs.Names.{is_digit};
-ghost use Rattle.hx_script.specs.Words.{first_space, word_of, rest_of, is_decimal, has_no_leading_zero, is_number};
+ghost use Rattle.hx_script.specs.Words.{word_of, rest_of, is_short_decimal, has_no_leading_zero, is_number};
 
 /// The first word.
 #[tactic(auto, unfolding(crate::specs::Words::word_of))]
-pub fn word_of(text: &[u8]) -> &[u8]
+pub fn word_of(text: &str) -> &str
     ensures { result.now ≡ word_of text.now }
 {
-    match first_space(text) {
+    match text.split_once(' ') {
+        Some((word, _)) => word,
         None => text,
-        Some(space) => &text[..space],
     }
 }
 
 /// What follows the first word and its space, where there is a space.
 #[tactic(auto, unfolding(crate::specs::Words::rest_of))]
-pub fn rest_of(text: &[u8]) -> Option<&[u8]>
+pub fn rest_of(text: &str) -> Option<&str>
     ensures { option_copied result ≡ rest_of text.now }
 {
-    match first_space(text) {
+    match text.split_once(' ') {
+        Some((_, rest)) => Some(rest),
         None => None,
-        Some(space) => Some(&text[space + 1..]),
     }
-}
-
-fn first_space(text: &[u8]) -> Option<usize>
-    ensures place { result ≡ first_space text.now }
-    ensures within { IfSome result (λ space. space < length text.now) }
-{
-    text.iter().position(|byte| *byte == b' ')
 }
 
 /// Whether the text is a number in decimal, without a leading zero, that lies within the bounds. It has at most ten digits.
 #[tactic(auto, unfolding(crate::specs::Words::is_number))]
-pub fn is_number(least: u64, most: u64, text: &[u8]) -> bool
+pub fn is_number(least: u64, most: u64, text: &str) -> bool
     ensures { result ≡ is_number least most text.now }
 {
-    if !is_decimal(text) {
+    let digits = text.as_bytes();
+    if !is_short_decimal(digits) {
         return false;
     }
-    let value = value_of(text);
+    let value = value_of(digits);
     least <= value && value <= most
 }
 
-#[tactic(auto, unfolding(crate::specs::Words::is_decimal))]
-fn is_decimal(text: &[u8]) -> bool
-    ensures decimal { result ≡ is_decimal text.now }
+/// Whether the bytes are 1 to 10 digits without a leading zero.
+#[tactic(auto, unfolding(crate::specs::Words::is_short_decimal))]
+fn is_short_decimal(text: &[u8]) -> bool
+    ensures decimal { result ≡ is_short_decimal text.now }
     ensures few { result ≡ true → length text.now ≤ 10 }
     ensures digits { result ≡ true → list_all is_digit text.now ≡ true }
 {

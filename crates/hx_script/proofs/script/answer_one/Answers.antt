@@ -13,8 +13,8 @@ returns-in-Err-clause-cut g c =
 
 pub returns-in-Ok-clause-does : goal.returns-in-Ok-clause-does
 returns-in-Ok-clause-does g c =
-    on_ok_weaker c.serve-served.result (Does-serves (line_of_text c.args.text.now) c.in-Ok.ask _ _ _ _ c.in-Ok.ensures.asks) c.serve-served.ensures.serves
+    on_ok_weaker c.serve.result (Does-serves (line_of_text c.args.text.now) c.in-Ok.ask _ _ _ _ c.in-Ok.ensures.asks) c.serve.ensures.serves
 
 pub returns-in-Ok-clause-cut : goal.returns-in-Ok-clause-cut
 returns-in-Ok-clause-cut g c =
-    on_err_weaker c.serve-served.result (Cuts-answer (line_of_text c.args.text.now) c.in-Ok.ask _ _ _ _ c.in-Ok.ensures.asks) c.serve-served.ensures.cut
+    on_err_weaker c.serve.result (Cuts-answer (line_of_text c.args.text.now) c.in-Ok.ask _ _ _ _ c.in-Ok.ensures.asks) c.serve.ensures.cut

@@ -1,14 +1,13 @@
-use Rattle.std.proofs.Common.{arith, length-drop, drop, take, ap, ◌∙◌, ◌++◌}
-use Rattle.std.proofs.Math.Nat.{le_trans, le_refl}
+use Rattle.std.proofs.Common.{arith, refl, length-drop, drop, take, ap, ◌∙◌, ◌++◌}
 use Rattle.std.proofs.lemmas.List.{take_rest}
 use Rattle.hx_script.specs.Running.{most_kept}
-use Rattle.hx_script.proofs.Running.{on_err_all}
+use Rattle.hx_script.proofs.Running.{calm_on, on_err_all}
 use Rattle.hx_script.proofs.Kept.{IsWaiting-keep}
 use Rattle.hx_script.proofs.Pieces.{add_back, Feeds-none, Feeds-line, Feeds-rest, Cuts-line, Cuts-rest}
 use Rattle.hx_script.proofs.script.feed.Goals as goal
 
 pub loop-end-init : goal.loop-end-init
-loop-end-init g c = record { within = omega arith; waits = c.requires; faults = le_refl _; stalls = le_refl _; feeds = Feeds-none _ _ _ }
+loop-end-init g c = record { within = omega arith; waits = c.requires; calm = record { faults = refl; stalls = refl }; feeds = Feeds-none _ _ _ }
 
 pub loop-end-preserved : goal.loop-end-preserved
 loop-end-preserved g c =
@@ -19,8 +18,7 @@ loop-end-preserved g c =
     rw c.clear.ensures.items (record {
       within = omega (arith, ends.within, length-drop c.loop-end.at c.args.piece.now);
       waits = record { no_end = tt; few = omega arith };
-      faults = le_trans c.loop-end.invariant.faults cause.later;
-      stalls = le_trans c.loop-end.invariant.stalls cause.longer;
+      calm = calm_on _ _ _ c.loop-end.invariant.calm cause.still;
       feeds = Feeds-line _ _ _ _ _ _ _ _ _ _ _ c.loop-end.invariant.feeds c.loop-end.invariant.waits ends answered;
     })
 

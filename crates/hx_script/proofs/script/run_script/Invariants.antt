@@ -1,16 +1,14 @@
-use Rattle.std.proofs.Common.{◌≤◌, ◌-◌, ◌^◌}
-use Rattle.hx_script.specs.Running.{IsWaiting, ReadsOn, HasRead}
+use Rattle.std.proofs.Common.{◌≡◌, ◌≤◌, ◌-◌, ◌^◌}
+use Rattle.hx_script.specs.Running.{IsCalm, IsWaiting, ReadsOn}
 use Rattle.hx_script.proofs.script.run_script.Given as goal
 
 abbrev pub invariant-reading : goal.invariant-reading
 invariant-reading g l = record {
   waits : IsWaiting l.waiting.items;
   few : l.total ≤ 2 ^ 40;
-  read : HasRead (g.S.Source.left l.fn.source) (g.S.Source.left l.source) l.total;
-  reads : ReadsOn (g.S.Source.left l.fn.source) (g.S.Source.left l.source) l.waiting.items l.fn.cluster l.cluster (g.W.Sink.written l.fn.sink) (g.W.Sink.written l.sink);
-  read_faults : g.S.Source.read_faults l.fn.source ≤ g.S.Source.read_faults l.source;
-  write_faults : g.W.Sink.write_faults l.fn.sink ≤ g.W.Sink.write_faults l.sink;
-  stalls : g.W.Sink.stalls l.fn.sink ≤ g.W.Sink.stalls l.sink;
+  reads : ReadsOn (g.S.Source.shown l.fn.source).left (g.S.Source.shown l.source).left l.total l.waiting.items l.fn.cluster l.cluster (g.W.Sink.shown l.fn.sink).written (g.W.Sink.shown l.sink).written;
+  read_calm : (g.S.Source.shown l.source).faults ≡ (g.S.Source.shown l.fn.source).faults;
+  write_calm : IsCalm (g.W.Sink.shown l.fn.sink) (g.W.Sink.shown l.sink);
 }
 
 abbrev pub decreases-reading : goal.decreases-reading

@@ -1,7 +1,7 @@
 use Rattle.std.proofs.Common.{sym, drop, length-drop, arith}
 use Rattle.std.proofs.Math.Seq.{take-add}
 use Rattle.std.proofs.lemmas.List.{take_rest, take-append-drop}
-use Rattle.hx_script.proofs.Running.{Appends-trans, Appends-kept, Keeps-from_none}
+use Rattle.hx_script.proofs.Running.{calm_on, not_stall, Appends-trans, Appends-kept, Keeps-from_none}
 use Rattle.hx_script.proofs.script.write_all.Goals as goal
 
 pub loop-at-preserved : goal.loop-at-preserved
@@ -10,8 +10,7 @@ loop-at-preserved g c =
     let bound = rw e at c.in-Ok.ensures.bound in
     let wrote = rw e at c.in-Ok.ensures.bytes in
     record {
-      faults = omega (arith, c.loop-at.invariant.faults, c.in-Ok.ensures.cause.later);
-      stalls = omega (arith, c.loop-at.invariant.stalls, c.in-Ok.ensures.stall.later);
+      calm = calm_on _ _ _ c.loop-at.invariant.calm (record { faults = c.in-Ok.ensures.cause.still; stalls = c.in-Ok.ensures.stall.still (not_stall _ _ c.in-Ok.count-test.1) });
       within = omega (arith, bound, length-drop (c.loop-at).at c.args.bytes.now);
       written = rw (take-add (c.loop-at).at c.in-Ok.count c.args.bytes.now) (Appends-trans _ _ _ _ _ c.loop-at.invariant.written wrote);
     }

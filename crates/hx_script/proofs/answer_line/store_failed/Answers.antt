@@ -3,7 +3,7 @@ use Rattle.std.specs.Fmt.{digits}
 use Rattle.serde_json.proofs.OnLiterals.{serde_json_on_literals}
 use Rattle.hx_model.specs.Replies.{status_text}
 use Rattle.hx_script.specs.Replies.{line_of}
-use Rattle.hx_script.proofs.reply.too_long.Goals as goal
+use Rattle.hx_script.proofs.answer_line.store_failed.Goals as goal
 
 pub returns : goal.returns
 unfolding status_text line_of digits serde_json_on_literals

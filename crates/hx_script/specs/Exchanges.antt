@@ -1,7 +1,7 @@
--- The turns of a script: each line that is answered, with the entry of the machine that it made.
---     Turn, IsTurn         a line, its entry, and whether the text of its answer found no memory;  the line makes such an entry
---     lines_of, entries_of the lines and the entries of turns
---     answer_lines         what turns write
+-- The exchanges of a script: each line that is answered, with the entry of the machine that it made.
+--     Exchange, IsExchange         a line, its entry, and whether the text of its answer found no memory;  the line makes such an entry
+--     lines_of, entries_of the lines and the entries of exchanges
+--     answer_lines         what exchanges write
 use Rattle.std.specs.Prelude.{◌≡◌, ℕ, Bool, true, false, List, [], ◌∷◌, ◌++◌, map, Ok, Err, if◌then◌else◌}
 use Rattle.hx_model.specs.declared.ask.Answer.TheVariants.{Refused as Refusing}
 use Rattle.hx_model.specs.declared.refusal.Refusal.TheVariants.{NoMemory}
@@ -11,7 +11,7 @@ use Rattle.hx_script.specs.Forms.{reading_of}
 use Rattle.hx_script.specs.Replies.{answer_line}
 
 -- a line, the entry that it made, and whether its reading or the text of its answer found no memory
-pub record Turn : Type 0 where
+pub record Exchange : Type 0 where
   pub line : Line
   pub entry : Entry
   pub unsaid : Bool
@@ -29,28 +29,28 @@ MayBeUnsaid (Refused refusal) true = Unit {0}
 MayBeUnsaid (Request ask answer) true = Unit {0}
 MayBeUnsaid (LostRequest ask cause) true = ⊥
 
--- the line makes the entry of its turn, and its answer is left unsaid only where that may be
-pub record IsTurn (turn : Turn) : Type 0 where
-  pub makes : MakesEntry turn.line turn.entry
-  pub said : MayBeUnsaid turn.entry turn.unsaid
+-- the line makes the entry of its exchange, and its answer is left unsaid only where that may be
+pub record IsExchange (exchange : Exchange) : Type 0 where
+  pub makes : MakesEntry exchange.line exchange.entry
+  pub said : MayBeUnsaid exchange.entry exchange.unsaid
 
--- the lines of turns
-abbrev pub lines_of : List Turn → List Line
-lines_of turns = map (λ (turn : Turn). turn.line) turns
+-- the lines of exchanges
+abbrev pub lines_of : List Exchange → List Line
+lines_of exchanges = map (λ (exchange : Exchange). exchange.line) exchanges
 
--- the entries of turns
-abbrev pub entries_of : List Turn → History
-entries_of turns = map (λ (turn : Turn). turn.entry) turns
+-- the entries of exchanges
+abbrev pub entries_of : List Exchange → History
+entries_of exchanges = map (λ (exchange : Exchange). exchange.entry) exchanges
 
 -- the fixed line that stands for an answer whose text found no memory
 abbrev pub no_memory_line : List ℕ
 no_memory_line = answer_line (Refusing NoMemory)
 
--- what a turn writes
-abbrev pub turn_line : Turn → List ℕ
-turn_line turn = if turn.unsaid then no_memory_line else answer_line (answer_of turn.entry)
+-- what an exchange writes
+abbrev pub exchange_line : Exchange → List ℕ
+exchange_line exchange = if exchange.unsaid then no_memory_line else answer_line (answer_of exchange.entry)
 
--- what turns write
-abbrev pub answer_lines : List Turn → List ℕ
+-- what exchanges write
+abbrev pub answer_lines : List Exchange → List ℕ
 answer_lines [] = []
-answer_lines (turn ∷ turns) = turn_line turn ++ answer_lines turns
+answer_lines (exchange ∷ exchanges) = exchange_line exchange ++ answer_lines exchanges
