@@ -1,12 +1,12 @@
 -- What the words of the command line ask for.
 --     names_in value      the names that a value joins by commas
---     terms_of words      the terms of a run, where the words are taken
+--     config_of words      what is fixed for a run, where the words are taken
 -- The words are `run`, then at most once `--allow-skip`, then at most once `--excluded-namespace` and its value.
 use Rattle.std.specs.Prelude.{ℕ, Bool, true, false, ◌==◌, ◌&&◌, List, [], ◌∷◌, codes, Option, Some, None, option_map, option_and_then, if◌then◌else◌}
 use Rattle.std.specs.List.{list_all, slice_split}
 use Rattle.std.specs.Str.{bytes_eq}
 use Rattle.hx_object.specs.Names.{is_dns_label}
-use Rattle.hx_admit.specs.declared.terms.Terms.{Terms}
+use Rattle.hx_model.specs.declared.config.RunConfig.{RunConfig}
 
 -- what stands between the commas
 abbrev pub parts_of : List ℕ → List (List ℕ)
@@ -21,9 +21,9 @@ names_in (byte ∷ value) = parts_of (byte ∷ value)
 abbrev pub has_names : List ℕ → Bool
 has_names value = list_all is_dns_label (names_in value)
 
--- the terms that a value gives
-abbrev pub terms_by : Bool → List ℕ → Terms
-terms_by may_skip value = record { excluded = names_in value; may_skip = may_skip }
+-- what a value fixes for a run
+abbrev pub config_by : Bool → List ℕ → RunConfig
+config_by allow_skip value = record { excluded = names_in value; allow_skip = allow_skip }
 
 -- the words behind the first one, where that is the wanted one
 abbrev pub words_after : List ℕ → List (List ℕ) → Option (List (List ℕ))
@@ -36,11 +36,11 @@ excluded_in [] = Some []
 excluded_in (word ∷ value ∷ []) = if bytes_eq word (codes "--excluded-namespace") && has_names value then Some value else None
 excluded_in _ = None
 
--- the terms by the words behind `--allow-skip`, where it is there, and else by those behind `run`
-abbrev pub terms_behind : Option (List (List ℕ)) → List (List ℕ) → Option Terms
-terms_behind (Some rest) words = option_map (terms_by true) (excluded_in rest)
-terms_behind None words = option_map (terms_by false) (excluded_in words)
+-- what is fixed by the words behind `--allow-skip`, where it is there, and else by those behind `run`
+abbrev pub config_behind : Option (List (List ℕ)) → List (List ℕ) → Option RunConfig
+config_behind (Some rest) words = option_map (config_by true) (excluded_in rest)
+config_behind None words = option_map (config_by false) (excluded_in words)
 
--- the terms of a run
-unfoldable pub terms_of : List (List ℕ) → Option Terms
-terms_of words = option_and_then (λ rest. terms_behind (words_after (codes "--allow-skip") rest) rest) (words_after (codes "run") words)
+-- what is fixed for a run
+unfoldable pub config_of : List (List ℕ) → Option RunConfig
+config_of words = option_and_then (λ rest. config_behind (words_after (codes "--allow-skip") rest) rest) (words_after (codes "run") words)

@@ -1,29 +1,39 @@
 //! `hnc`: the control service of hierarchical namespaces, as a program over scripts of requests.
 #![tactic(auto)]
 
+ghost use Rattle.std.specs.Prelude.{◌≡◌, None};
+
 #[cfg(test)]
 mod tests;
 mod top;
 mod words;
 
 use crate::top::{Status, top};
-use hx_object::NoMemory;
-use hx_ports::{MemKeeper, Meta, StdSink, StdSource};
+use crate::words::first_untaken;
+use hx_core::SCHEMA;
+use hx_ports::{Keeper, MemKeeper, Meta, StdSink, StdSource};
 use std::alloc::Global;
 use std::process::ExitCode;
 use std::{env, io};
 
+/// How the command is used.
+const USAGE: &str = "usage: hnc run [--allow-skip] [--excluded-namespace NAMES] <SCRIPT";
+
 fn main(rt: HostRuntime) -> ExitCode {
-    let Ok(words) = words_of(&rt) else {
-        return exit_with(&rt, Status::NoMemory);
+    let words = match words_of(&rt) {
+        Ok(words) => words,
+        Err(error) => return exit_without_words(&rt, error.kind()),
     };
     let mut source = StdSource::new(rt.stdin());
     let mut sink = StdSink::new(rt.stdout());
-    let Ok(keeper) = empty_keeper(rt.alloc()) else {
-        return exit_with(&rt, Status::NoMemory);
-    };
+    let keeper = empty_keeper(rt.alloc());
     let ended = top(rt.alloc(), words.as_slice(), &mut source, &mut sink, keeper);
-    exit_with(&rt, ended.status)
+    match ended.status {
+        Status::Usage => exit_with_usage(&rt, first_untaken(words.as_slice())),
+        Status::ReadFault => exit_with_fault(&rt, Status::ReadFault, source.last_fault()),
+        Status::WriteFault => exit_with_fault(&rt, Status::WriteFault, sink.last_fault()),
+        status => exit_with(&rt, status),
+    }
 }
 
 /// The words of the command line, without the program's name.
@@ -36,9 +46,11 @@ fn words_of(rt: &(impl env::Env + AllocGlobal)) -> io::Result<Vec<String>> {
 }
 
 /// A keeper without rows, in memory.
-fn empty_keeper(alloc: Global) -> Result<MemKeeper, NoMemory> {
+fn empty_keeper(alloc: Global) -> MemKeeper
+    ensures { (⟦<MemKeeper as Keeper>⟧.shown result).place ≡ None }
+{
     let meta = Meta {
-        schema: 2,
+        schema: SCHEMA,
         version: 0,
         rows: 0,
     };
@@ -50,5 +62,33 @@ fn exit_with(rt: &HostRuntime, status: Status) -> ExitCode {
     if status != Status::Done {
         let _ = eprintln!(rt; "hnc: {status:?}");
     }
-    ExitCode::from(status as u8)
+    ExitCode::from(status.code())
+}
+
+/// Where the words aren't had: a word that isn't UTF-8 isn't taken, and all else is want of memory.
+fn exit_without_words(rt: &HostRuntime, kind: io::ErrorKind) -> ExitCode {
+    if kind != io::ErrorKind::InvalidData {
+        return exit_with(rt, Status::NoMemory);
+    }
+    let _ = eprintln!(rt; "hnc: {:?}: a word is not UTF-8", Status::Usage);
+    let _ = eprintln!(rt; "{USAGE}");
+    ExitCode::from(Status::Usage.code())
+}
+
+/// Says which word isn't taken, and how the command is used.
+fn exit_with_usage(rt: &HostRuntime, untaken: Option<&str>) -> ExitCode {
+    let status = Status::Usage;
+    let _ = match untaken {
+        Some(word) => eprintln!(rt; "hnc: {status:?}: {word:?} is not taken"),
+        None => eprintln!(rt; "hnc: {status:?}: a word is missing"),
+    };
+    let _ = eprintln!(rt; "{USAGE}");
+    ExitCode::from(status.code())
+}
+
+/// Says why a read or a write failed. A write that took nothing has no other reason.
+fn exit_with_fault(rt: &HostRuntime, status: Status, fault: Option<io::ErrorKind>) -> ExitCode {
+    let kind = fault.unwrap_or(io::ErrorKind::WriteZero);
+    let _ = eprintln!(rt; "hnc: {status:?}: {kind:?}");
+    ExitCode::from(status.code())
 }

@@ -3,17 +3,17 @@ ghost use Rattle.std.specs.Prelude.{ℕ, ◌≡◌, ◌≢◌, ◌≤◌, ◌<�
 ghost use Rattle.std.specs.Io.KnownBytes.{IsAtEnd};
 ghost use Rattle.hx_ports.specs.Causes.{Rose};
 ghost use Rattle.hx_core.specs.Starting.{IsDamaged, IsUndamaged};
-ghost use Rattle.hnc.specs.Headline.{Leaves, LeavesFront, IsUnbegun, is_cut_short, has_not_begun};
-ghost use Rattle.hnc.specs.Words.{terms_of};
-ghost use Rattle.hx_script.specs.Running.{most_bytes};
+ghost use Rattle.hnc.specs.Headline.{LeavesWhole, LeavesFront, OfRun, IsUnbegun, is_cut_short, has_not_begun, code_of_status};
+ghost use Rattle.hnc.specs.Words.{config_of};
+ghost use Rattle.hx_script.specs.Running.{IsCalm, most_bytes};
 
-use crate::words::options_of;
+use crate::words::run_words;
 use hx_core::{Cluster, StartFault, Unstarted};
 use hx_ports::{KeepFault, Keeper, Sink, Source};
 use hx_script::{RunEnd, run_script};
 use std::alloc::Global;
 
-/// How a command ended. The discriminant is the program's exit status.
+/// How a command ended. The discriminant is the exit status of the program.
 #[derive(Clone, Copy, Debug, PartialEq, Eq)]
 pub enum Status {
     /// The command was carried out: the script was read to its end, and each line answered.
@@ -32,6 +32,15 @@ pub enum Status {
     TooLong = 9,
 }
 
+impl Status {
+    /// The number that the program ends with.
+    pub fn code(self) -> u8
+        ensures { result ≡ code_of_status self }
+    {
+        self as u8
+    }
+}
+
 /// The end of a command: its status, and the keeper that was handed in.
 #[derive(Drop)]
 pub struct Ended<K> {
@@ -39,7 +48,7 @@ pub struct Ended<K> {
     pub keeper: K,
 }
 
-/// Does all that the program does: reads the script of `run` and answers its lines, over a keeper of the stored rows.
+/// Does all that the program does: reads the script of `run` and answers its lines, over a keeper of the stored rows, which takes its place in memory.
 pub fn top<S: Source, W: Sink, K: Keeper>(
     alloc: Global,
     words: &[String],
@@ -47,43 +56,38 @@ pub fn top<S: Source, W: Sink, K: Keeper>(
     sink: &mut W,
     mut keeper: K,
 ) -> Ended<K>
+    requires { (K.shown keeper).place ≡ None }
+
     // Answers and stored objects are a run of the machine.
-    ensures done { result.status ≡ Status.Done → IsSomeAnd (terms_of (map string_bytes words.now)) (λ terms. IfSome (S.left source.old) (λ script.
-        Leaves terms script [] [] (W.written sink.old) (W.written sink.new) (K.kept keeper) (K.kept result.keeper) (K.broken keeper) (K.broken result.keeper) (K.keeper_faults keeper) (K.keeper_faults result.keeper))) }
-    ensures cut { is_cut_short result.status ≡ true → IsSomeAnd (terms_of (map string_bytes words.now)) (λ terms. IfSome (S.left source.old) (λ script.
-        LeavesFront terms script (W.written sink.old) (W.written sink.new) (K.kept keeper) (K.kept result.keeper) (K.broken keeper) (K.broken result.keeper) (K.keeper_faults keeper) (K.keeper_faults result.keeper))) }
-    ensures unbegun { has_not_begun result.status ≡ true →
-        IsUnbegun source.old source.new sink.old sink.new (K.kept keeper) (K.kept result.keeper) (K.broken keeper) (K.broken result.keeper) }
-    ensures memory { result.status ≡ Status.NoMemory →
-        IsUnbegun source.old source.new sink.old sink.new (K.kept keeper) (K.kept result.keeper) (K.broken keeper) (K.broken result.keeper)
-        ⊎ IsSomeAnd (terms_of (map string_bytes words.now)) (λ terms. IfSome (S.left source.old) (λ script.
-        LeavesFront terms script (W.written sink.old) (W.written sink.new) (K.kept keeper) (K.kept result.keeper) (K.broken keeper) (K.broken result.keeper) (K.keeper_faults keeper) (K.keeper_faults result.keeper))) }
+    ensures done { result.status ≡ Status.Done → OfRun (config_of (map string_bytes words.now)) (S.shown source.old) (λ config script. LeavesWhole config script (W.shown sink.old) (W.shown sink.new) (K.shown keeper) (K.shown result.keeper)) }
+    ensures cut { is_cut_short result.status ≡ true → OfRun (config_of (map string_bytes words.now)) (S.shown source.old) (λ config script. LeavesFront config script (W.shown sink.old) (W.shown sink.new) (K.shown keeper) (K.shown result.keeper)) }
+    ensures unbegun { has_not_begun result.status ≡ true → IsUnbegun source.old source.new sink.old sink.new (K.shown keeper) (K.shown result.keeper) }
+    ensures memory { result.status ≡ Status.NoMemory → IsUnbegun source.old source.new sink.old sink.new (K.shown keeper) (K.shown result.keeper) ⊎ OfRun (config_of (map string_bytes words.now)) (S.shown source.old) (λ config script. LeavesFront config script (W.shown sink.old) (W.shown sink.new) (K.shown keeper) (K.shown result.keeper)) }
 
     // Each status has its cause; want of memory alone is free.
-    ensures usage { (result.status ≡ Status.Usage) ↔ (terms_of (map string_bytes words.now) ≡ None) }
-    ensures read_fault { result.status ≡ Status.ReadFault → Rose (S.read_faults source.old) (S.read_faults source.new) }
-    ensures write_fault { result.status ≡ Status.WriteFault → Rose (W.write_faults sink.old) (W.write_faults sink.new) ⊎ Rose (W.stalls sink.old) (W.stalls sink.new) }
-    ensures keeper_fault { result.status ≡ Status.KeeperFault → Rose (K.keeper_faults keeper) (K.keeper_faults result.keeper) }
-    ensures damaged { result.status ≡ Status.Damaged → IfSome (K.kept keeper) IsDamaged }
-    ensures undamaged { (result.status ≡ Status.Done) ⊎ (is_cut_short result.status ≡ true) → IfSome (K.kept keeper) IsUndamaged }
-    ensures too_long { result.status ≡ Status.TooLong → IfSome (S.left source.old) (λ script. most_bytes < length script) }
-    ensures whole { result.status ≡ Status.Done → IfSome (S.left source.old) (λ script. length script ≤ most_bytes) }
-    ensures end { result.status ≡ Status.Done → IsAtEnd (S.left source.new) }
-    ensures complete { terms_of (map string_bytes words.now) ≢ None
-        → (Rose (S.read_faults source.old) (S.read_faults source.new) → ⊥)
-        → (Rose (W.write_faults sink.old) (W.write_faults sink.new) ⊎ Rose (W.stalls sink.old) (W.stalls sink.new) → ⊥)
-        → (Rose (K.keeper_faults keeper) (K.keeper_faults result.keeper) → ⊥)
-        → IsSomeAnd (K.kept keeper) IsUndamaged
-        → IsSomeAnd (S.left source.old) (λ script. length script ≤ most_bytes)
-        → (result.status ≡ Status.Done) ⊎ (result.status ≡ Status.NoMemory) }
+    ensures usage { (result.status ≡ Status.Usage) ↔ (config_of (map string_bytes words.now) ≡ None) }
+    ensures read_fault { result.status ≡ Status.ReadFault → Rose (S.shown source.old).faults (S.shown source.new).faults }
+    ensures write_fault { result.status ≡ Status.WriteFault → Rose (W.shown sink.old).faults (W.shown sink.new).faults ⊎ Rose (W.shown sink.old).stalls (W.shown sink.new).stalls }
+    ensures keeper_fault { result.status ≡ Status.KeeperFault → Rose (K.shown keeper).faults (K.shown result.keeper).faults }
+    ensures damaged { result.status ≡ Status.Damaged → IfSome (K.shown keeper).kept IsDamaged }
+    ensures too_long { result.status ≡ Status.TooLong → OfRun (config_of (map string_bytes words.now)) (S.shown source.old) (λ config script. (most_bytes < length script) × LeavesFront config script (W.shown sink.old) (W.shown sink.new) (K.shown keeper) (K.shown result.keeper)) }
+    ensures unasked { result.status ≡ Status.Usage → result.keeper ≡ keeper }
+    ensures calm { result.status ≡ Status.Done → ((S.shown source.new).faults ≡ (S.shown source.old).faults) × IsCalm (W.shown sink.old) (W.shown sink.new) }
+    ensures end { result.status ≡ Status.Done → IsAtEnd (S.shown source.new).left }
+    ensures complete { config_of (map string_bytes words.now) ≢ None
+        → (Rose (S.shown source.old).faults (S.shown source.new).faults → ⊥)
+        → (Rose (W.shown sink.old).faults (W.shown sink.new).faults ⊎ Rose (W.shown sink.old).stalls (W.shown sink.new).stalls → ⊥)
+        → (Rose (K.shown keeper).faults (K.shown result.keeper).faults → ⊥)
+        → IsSomeAnd (K.shown keeper).kept IsUndamaged
+        → (result.status ≡ Status.Done) ⊎ (result.status ≡ Status.TooLong) ⊎ (result.status ≡ Status.NoMemory) }
 {
-    let Some(options) = options_of(words) else {
+    let Some(run) = run_words(words) else {
         return Ended {
             status: Status::Usage,
             keeper,
         };
     };
-    let Ok(terms) = options.terms(alloc) else {
+    let Ok(config) = run.config(alloc) else {
         return Ended {
             status: Status::NoMemory,
             keeper,
@@ -95,7 +99,7 @@ pub fn top<S: Source, W: Sink, K: Keeper>(
             keeper,
         };
     }
-    match Cluster::start(alloc, keeper, terms) {
+    match Cluster::start(alloc, keeper, config) {
         Err(Unstarted { fault, keeper }) => Ended {
             status: status_of_start(fault),
             keeper,

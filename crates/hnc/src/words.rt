@@ -2,39 +2,39 @@
 ghost use Rattle.std.specs.Prelude.{◌≡◌, List, map, IfOk, option_map, option_copied, string_bytes};
 ghost use Rattle.std.specs.List.{list_all};
 ghost use Rattle.hx_object.specs.Names.{is_dns_label};
-ghost use Rattle.hnc.specs.Words.{parts_of, names_in, has_names, terms_by, words_after, excluded_in, terms_of};
+ghost use Rattle.hnc.specs.Words.{parts_of, names_in, has_names, config_by, words_after, excluded_in, config_of};
 
-use hx_admit::Terms;
+use hx_model::RunConfig;
 use hx_object::{List, NoMemory, Text, is_dns_label};
 use std::alloc::Global;
 
 /// What the words of a run ask for, as they stand.
 #[derive(Drop)]
-pub struct Options<'a> {
-    may_skip: bool,
+pub struct RunWords<'a> {
+    allow_skip: bool,
     excluded: &'a str,
 }
 
-/// The options of a run, where the words are taken.
-#[tactic(auto, unfolding(crate::specs::Words::terms_of))]
-pub fn options_of(words: &[String]) -> Option<Options<'_>>
-    ensures { option_map (λ o. terms_by o.may_skip o.excluded.now) result ≡ terms_of (map string_bytes words.now) }
+/// What the words ask for, where they are taken: `run`, then perhaps `--allow-skip`, then perhaps `--excluded-namespace` and its value.
+#[tactic(auto, unfolding(crate::specs::Words::config_of))]
+pub fn run_words(words: &[String]) -> Option<RunWords<'_>>
+    ensures { option_map (λ run. config_by run.allow_skip run.excluded.now) result ≡ config_of (map string_bytes words.now) }
 {
     let words = words_after("run", words)?;
     match words_after("--allow-skip", words) {
-        Some(rest) => options_with(true, rest),
-        None => options_with(false, words),
+        Some(rest) => run_words_with(true, rest),
+        None => run_words_with(false, words),
     }
 }
 
-impl Options<'_> {
-    /// The terms of the run.
-    pub fn terms(&self, alloc: Global) -> Result<Terms, NoMemory>
-        ensures { IfOk result (λ terms. terms ≡ terms_by self.now.may_skip self.now.excluded.now) }
+impl RunWords<'_> {
+    /// What is fixed for the run.
+    pub fn config(&self, alloc: Global) -> Result<RunConfig, NoMemory>
+        ensures { IfOk result (λ config. config ≡ config_by self.now.allow_skip self.now.excluded.now) }
     {
-        Ok(Terms {
+        Ok(RunConfig {
             excluded: names_in(alloc, self.excluded)?,
-            may_skip: self.may_skip,
+            allow_skip: self.allow_skip,
         })
     }
 }
@@ -72,11 +72,14 @@ fn words_after<'a>(wanted: &str, words: &'a [String]) -> Option<&'a [String]>
     }
 }
 
-fn options_with(may_skip: bool, words: &[String]) -> Option<Options<'_>>
-    ensures { option_map (λ o. terms_by o.may_skip o.excluded.now) result ≡ option_map (terms_by may_skip) (excluded_in (map string_bytes words.now)) }
+fn run_words_with(allow_skip: bool, words: &[String]) -> Option<RunWords<'_>>
+    ensures { option_map (λ run. config_by run.allow_skip run.excluded.now) result ≡ option_map (config_by allow_skip) (excluded_in (map string_bytes words.now)) }
 {
     let excluded = excluded_in(words)?;
-    Some(Options { may_skip, excluded })
+    Some(RunWords {
+        allow_skip,
+        excluded,
+    })
 }
 
 /// The value of the excluded names. Where there are no words it is empty.
@@ -89,6 +92,28 @@ fn excluded_in(words: &[String]) -> Option<&str>
             Some(value.as_str())
         }
         _ => None,
+    }
+}
+
+/// The first word that isn't taken where it stands, for a reader. `None` where one is missing.
+pub fn first_untaken(words: &[String]) -> Option<&str> {
+    let Some(words) = words_after("run", words) else {
+        return first(words);
+    };
+    let words = words_after("--allow-skip", words).unwrap_or(words);
+    let Some(words) = words_after("--excluded-namespace", words) else {
+        return first(words);
+    };
+    match words {
+        [value, rest @ ..] if has_names(value.as_str()) => first(rest),
+        _ => first(words),
+    }
+}
+
+fn first(words: &[String]) -> Option<&str> {
+    match words {
+        [word, ..] => Some(word.as_str()),
+        [] => None,
     }
 }
 
