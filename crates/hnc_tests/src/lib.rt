@@ -1,0 +1,21 @@
+//! The tests of the libraries, over what they make public: outside vectors, printed bytes, what a call gives with ample memory, and plain programs to compare with.
+//!
+//! What a contract says isn't tested again. What a whole run answers stands in the table of requests that `hnc` is run on.
+#![tactic(auto)]
+
+#[cfg(test)]
+mod bodies;
+#[cfg(test)]
+mod forests;
+#[cfg(test)]
+mod graphs;
+#[cfg(test)]
+mod ports;
+#[cfg(test)]
+mod requests;
+#[cfg(test)]
+mod scripts;
+#[cfg(test)]
+mod stores;
+#[cfg(test)]
+mod values;

@@ -1,0 +1,133 @@
+// Adapters over std's streams, and a keeper in memory.
+ghost use Rattle.std.specs.Prelude.{◌≤◌, IfOk};
+
+use hx_object::List;
+use hx_ports::{Batch, Keeper, MemKeeper, Meta, Row, Sink, Source, StdSink, StdSource};
+use std::alloc::{AllocError, Global};
+use std::io;
+use std::io::{Read, Write};
+use std::test::Fail;
+
+// Four reads of up to eight bytes: how many each gave, where it did not fail.
+fn four_reads<S: Source>(source: &mut S) -> [Option<usize>; 4] {
+    let mut piece = [0; 8];
+    let mut counts = [None; 4];
+    for i in 0..4 {
+        counts[i] = source.read(&mut piece).ok();
+    }
+    counts
+}
+
+// Four writes of what is left of a text: how many bytes each took, where it did not fail.
+fn four_writes<S: Sink>(sink: &mut S, text: &[u8]) -> [Option<usize>; 4] {
+    let mut rest = text;
+    let mut counts = [None; 4];
+    for i in 0..4 {
+        if let Ok(count) = sink.write(rest) {
+            rest = &rest[count..];
+            counts[i] = Some(count);
+        }
+    }
+    counts
+}
+
+// Is interrupted at the first call and fails at the third, and else gives or takes a byte.
+#[derive(Drop)]
+struct Flaky {
+    calls: u8,
+}
+
+impl Flaky {
+    fn next_count(&mut self, most: usize) -> io::Result<usize>
+        ensures { IfOk result (λ n. n ≤ most) }
+    {
+        self.calls = self.calls.saturating_add(1);
+        match self.calls {
+            1 => Err(io::Error::from(io::ErrorKind::Interrupted)),
+            3 => Err(io::Error::from(io::ErrorKind::BrokenPipe)),
+            _ => Ok(most.min(1)),
+        }
+    }
+}
+
+impl Read for Flaky {
+    fn read(&mut self, buf: &mut [u8]) -> io::Result<usize> {
+        self.next_count(buf.len())
+    }
+}
+
+impl Write for Flaky {
+    fn write(&mut self, buf: &[u8]) -> io::Result<usize> {
+        self.next_count(buf.len())
+    }
+
+    fn flush(&mut self) -> io::Result<()> {
+        Ok(())
+    }
+}
+
+#[test]
+fn reads_from_std(rt: HostRuntime) {
+    let mut source = StdSource::new(b"ten bytes.".as_slice());
+    assert!(rt; four_reads(&mut source) == [Some(8), Some(2), Some(0), Some(0)]);
+    let mut flaky = StdSource::new(Flaky { calls: 0 });
+    assert!(rt; four_reads(&mut flaky) == [Some(1), None, Some(1), Some(1)]);
+    assert!(rt; flaky.faults() == 1 && flaky.last_fault() == Some(io::ErrorKind::BrokenPipe));
+}
+
+#[test]
+fn writes_to_std(rt: HostRuntime) {
+    let mut room = [0; 2];
+    let mut full = StdSink::new(room.as_mut_slice());
+    assert!(rt; four_writes(&mut full, b"abc") == [Some(2), Some(0), Some(0), Some(0)]);
+    assert!(rt; full.faults() == 0 && full.stalls() == 3);
+    let mut flaky = StdSink::new(Flaky { calls: 0 });
+    assert!(rt; four_writes(&mut flaky, b"abc") == [Some(1), None, Some(1), Some(1)]);
+    assert!(rt; flaky.faults() == 1 && flaky.last_fault() == Some(io::ErrorKind::BrokenPipe));
+}
+
+fn text(alloc: Global, letters: &str) -> Result<List<u8>, AllocError> {
+    Ok(List::of(Vec::from_slice(alloc, letters.as_bytes())?))
+}
+
+fn row(alloc: Global, key: &str) -> Result<Row, AllocError> {
+    Ok(Row {
+        key: text(alloc, key)?,
+        version: 1,
+        body: text(alloc, "{}")?,
+    })
+}
+
+// A keeper of the rows b and d, of version 4, with e put and b cut.
+fn changed(alloc: Global) -> Result<MemKeeper, Fail> {
+    let meta = Meta {
+        schema: 1,
+        version: 4,
+        rows: 2,
+    };
+    let rows = Vec::from_array(alloc, [row(alloc, "b")?, row(alloc, "d")?])?;
+    let mut keeper = MemKeeper::new(rows, meta, Vec::new(alloc), Vec::new(alloc));
+    keeper.attach("")?;
+    let batch = Batch {
+        version: 5,
+        puts: List::of(Vec::from_array(alloc, [row(alloc, "e")?])?),
+        cuts: List::of(Vec::from_array(alloc, [text(alloc, "b")?])?),
+    };
+    keeper.commit(&batch)?;
+    Ok(keeper)
+}
+
+#[test]
+fn keeps_rows(rt: HostRuntime) -> Result<(), Fail> {
+    let mut keeper = changed(rt.alloc())?;
+    let meta = keeper.meta()?;
+    assert!(rt; meta.version == 5 && meta.rows == 2);
+    for (after, wanted) in [("", "d"), ("c", "d"), ("d", "e"), ("e", "")] {
+        let found = keeper.load(after.as_bytes())?;
+        let key = found
+            .as_ref()
+            .map_or(b"".as_slice(), |row| row.key.as_slice());
+        assert!(rt; key == wanted.as_bytes(), "after {after}");
+    }
+    Ok(())
+}

@@ -1,0 +1,168 @@
+// A store beside a plain list of objects in order, over staged writes that are made or dropped.
+ghost use Rattle.std.specs.Prelude.{◌≤◌, length};
+
+use hx_object::{Id, Kind, List, Need, NoMemory, Object, Pairs, Payload, Shared, Text};
+use hx_store::{Change, Store};
+use std::alloc::Global;
+use std::cmp::Ordering;
+use std::test::Fail;
+
+const KINDS: [Kind; 2] = [Kind::Role, Kind::Secret];
+
+const NAMESPACES: [&str; 2] = ["a", "b"];
+
+const NAMES: [&str; 2] = ["x", "y"];
+
+/// One of eight identities, by a number.
+fn id(alloc: Global, number: usize) -> Result<Id, NoMemory> {
+    Ok(Id {
+        kind: KINDS[number % 2],
+        ns: Text::of(alloc, NAMESPACES[number / 2 % 2])?,
+        name: Text::of(alloc, NAMES[number / 4 % 2])?,
+    })
+}
+
+fn object(alloc: Global, id: Id, version: u64) -> Result<Object, NoMemory> {
+    Ok(Object {
+        id,
+        labels: Pairs::new(alloc),
+        annotations: Pairs::new(alloc),
+        payload: Payload::Plain {
+            members: Text::of(alloc, "{}")?,
+            need: Need {
+                finished: false,
+                token: false,
+                storage: 0,
+                containers: List::of(Vec::new(alloc)),
+            },
+        },
+        version,
+    })
+}
+
+/// A write of one of the identities, which in one case of three takes its object away.
+fn change(alloc: Global, number: usize, version: u64) -> Result<Change, NoMemory> {
+    let id = id(alloc, number)?;
+    if number / 8 % 3 == 0 {
+        return Ok(Change::cut(id));
+    }
+    Change::put(Shared::new(alloc, object(alloc, id, version)?)?)
+}
+
+// ---- the plain list
+
+/// Where an object of the identity goes.
+fn place(objects: &[Object], id: &Id) -> usize
+    ensures { result ≤ length objects.now }
+{
+    for i in 0..objects.len() {
+        if id.compare(&objects[i].id) == Ordering::Less {
+            return i;
+        }
+    }
+    objects.len()
+}
+
+fn remove(objects: &mut Vec<Object>, id: &Id) {
+    for i in 0..objects.len() {
+        if objects[i].id.is_same(id) {
+            objects.remove(i);
+            return;
+        }
+    }
+}
+
+fn make(objects: &mut Vec<Object>, change: &Change) -> Result<(), NoMemory> {
+    remove(objects, change.id());
+    if let Some(object) = change.object() {
+        let at = place(objects.as_slice(), change.id());
+        objects.insert(at, object.object().copy()?)?;
+    }
+    Ok(())
+}
+
+/// Whether an object is of the kind, and in the namespace where one is given.
+fn is_listed(object: &Object, kind: Kind, ns: Option<&Text>) -> bool {
+    let is_there = match ns {
+        Some(ns) => object.id.ns == *ns,
+        None => true,
+    };
+    is_there && object.id.kind == kind
+}
+
+fn are_same(listed: &[Shared], objects: &[Object]) -> bool {
+    if listed.len() != objects.len() {
+        return false;
+    }
+    for i in 0..listed.len() {
+        if !listed[i].object().is_same(&objects[i]) {
+            return false;
+        }
+    }
+    true
+}
+
+/// Whether the list that the store gives has the objects of the plain one that are of a kind, and in a namespace where one is given.
+fn lists_alike(
+    store: &Store,
+    objects: &[Object],
+    kind: Kind,
+    ns: Option<&Text>,
+) -> Result<bool, NoMemory> {
+    let mut wanted = Vec::new(store.allocator());
+    for object in objects {
+        if is_listed(object, kind, ns) {
+            wanted.push(object.copy()?)?;
+        }
+    }
+    let listed = store.list(kind, ns)?;
+    Ok(are_same(listed.as_slice(), wanted.as_slice()))
+}
+
+fn are_alike(store: &Store, objects: &[Object]) -> Result<bool, NoMemory> {
+    let alloc = store.allocator();
+    for kind in KINDS {
+        for ns in NAMESPACES {
+            let ns = Text::of(alloc, ns)?;
+            if !lists_alike(store, objects, kind, Some(&ns))? {
+                return Ok(false);
+            }
+        }
+        if !lists_alike(store, objects, kind, None)? {
+            return Ok(false);
+        }
+    }
+    Ok(
+        objects.iter().all(|object| match store.get(&object.id) {
+            Some(found) => found.object().is_same(object),
+            None => false,
+        }),
+    )
+}
+
+#[test]
+fn a_store_answers_as_a_list(rt: HostRuntime) -> Result<(), Fail> {
+    let alloc = rt.alloc();
+    let mut store = Store::new(alloc, 0);
+    let mut objects = Vec::new(alloc);
+    let mut number: usize = 1;
+    for version in 1..400u64 {
+        let mut changes = Vec::new(alloc);
+        for _ in 0..number % 4 {
+            number = number.wrapping_mul(1_103_515_245).wrapping_add(12_345) >> 8;
+            changes.push(change(alloc, number, version)?)?;
+        }
+        number = number.wrapping_mul(1_103_515_245).wrapping_add(12_345) >> 8;
+        store.stage(changes)?;
+        if number % 5 == 0 {
+            store.discard();
+        } else {
+            for change in store.staged() {
+                make(&mut objects, change)?;
+            }
+            store.apply(version);
+        }
+        assert!(rt; are_alike(&store, objects.as_slice())?, "version {version}");
+    }
+    Ok(())
+}
