@@ -2,7 +2,7 @@
 """Processor time per request of `hnc run` at 4,080 namespaces and 64,992 ConfigMaps against a sixteenth of both.
 
 Usage: bench/growth.py PROGRAM
-PROGRAM is the built program, which `rt run` leaves as crates/hnc/out/hnc.
+PROGRAM is the built program, which bin/hnc leaves as crates/hnc/out/hnc.
 Prints one line per kind of request: the time per request at each size, and their ratio. The POSTs are those of the second half of the
 ConfigMaps. Then ConfigMaps are read by GETs, and changed by PUTs. All come in shuffled order and in parts of 2,031 requests, in turns at the
 small and the large size. The least of sixteen parts with POSTs, and of 192 with GETs or PUTs, counts. Everything runs on one processor.

@@ -2,7 +2,7 @@
 """Resident bytes per ConfigMap in `hnc run` against the bytes of its JSON text.
 
 Usage: bench/memory.py PROGRAM
-PROGRAM is the built program, which `rt run` leaves as crates/hnc/out/hnc.
+PROGRAM is the built program, which bin/hnc leaves as crates/hnc/out/hnc.
 Prints one line for ConfigMaps of about 1 KiB and one for those of about 100 bytes: the bytes of the text as GET prints it, the resident
 bytes, and their ratio. The resident bytes are the peak of a run with 64,000 ConfigMaps less that of one with 4,000, per ConfigMap between.
 They have all that is kept of an object: the object and its identity in the store, and its row's key and text in the keeper in memory.

@@ -1,4 +1,5 @@
 """Lines of scripts, and runs of the built program on them, for the measurements beside this file."""
+import itertools
 import json
 import os
 import re
@@ -38,12 +39,12 @@ def settings(number):
 
 
 class Run:
-    """A run of the program, which waits for more lines until it is closed."""
+    """A run of the program with these options, which waits for more lines until it is closed."""
 
-    def __init__(self, program):
+    def __init__(self, program, *options):
         self.answers = tempfile.TemporaryFile()
         self.taken = 0
-        self.child = subprocess.Popen([program, "run"], stdin=subprocess.PIPE, stdout=self.answers)
+        self.child = subprocess.Popen([program, "run", *options], stdin=subprocess.PIPE, stdout=self.answers)
 
     def ask(self, lines):
         """Sends lines and gives their answers, each of which is a success."""
@@ -79,3 +80,11 @@ class Run:
         self.child.stdin.close()
         assert self.child.wait() == 0
         self.answers.close()
+
+
+def compare(kind, names, runs, lines, part=248, parts=32):
+    """Prints the least time per request in two runs, which take turns in parts of the lines that each gives, and the ratio of the second to the first."""
+    turns = [(run, lines(run)) for run in runs]
+    times = [[run.seconds(list(itertools.islice(its, part))) for run, its in turns] for _ in range(parts)]
+    first, second = (min(column) / part * 1e6 for column in zip(*times))
+    print(f"{kind}: {first:.1f} us at {names[0]}, {second:.1f} us at {names[1]}, ratio {second / first:.2f}", flush=True)

@@ -2,7 +2,7 @@
 """Requests per second of `hnc run` against reading and writing the same bodies by Python's json, and by orjson where it is installed.
 
 Usage: bench/python_json.py PROGRAM
-PROGRAM is the built program, which `rt run` leaves as crates/hnc/out/hnc.
+PROGRAM is the built program, which bin/hnc leaves as crates/hnc/out/hnc.
 Prints one line per kind of request and library: the requests per second of the processor's time, those of a loop that reads and writes each
 body with sorted members, and their ratio. There are 20,000 ConfigMaps of about 1 KiB in 4 namespaces, each created and then read once. The
 best of five runs, which take turns with the loops on one processor, counts.

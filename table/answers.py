@@ -1,9 +1,9 @@
 #!/usr/bin/env python3
 """A script of requests for `hnc run`, and what the rules have it answer.
 
-Usage: bench/answers.py script >crates/hnc/stdin
-       bench/answers.py answers >crates/hnc/stdout
-       bench/answers.py rows
+Usage: table/answers.py script >crates/hnc/stdin
+       table/answers.py answers >crates/hnc/stdout
+       table/answers.py rows
 
 Each row is a line of the script and, written by hand beside it, what it is to answer: by docs/BEHAVIOUR.md and
 the definitions in the crates' specs/, never by what the program printed. A row that writes has the next version.
@@ -1875,13 +1875,23 @@ def line_bytes(t):
     t.refuses(b"GET\xff /x", BAD_LINE)
     t.refuses(b"take 1 copy acme configmaps \xff", BAD_LINE)
     t.refuses(b"take 1 copy acme roles \xff", BAD_LINE)
+    # a body is looked at with its line, before the target
     collection = CONFIGMAPS.encode()
-    t.refuses(b"POST " + collection + b" \xff", NOT_JSON)
-    t.refuses(b"POST " + collection + b' {"apiVersion":"v1","kind":"ConfigMap","metadata":{"name":"x"},"a":"\xff"}', NOT_JSON)
-    t.refuses(b"POST " + collection + b' {"apiVersion":"v1","kind":"ConfigMap","metadata":{"name":"x"},"a":"\xed\xa0\x80"}', NOT_JSON)
-    t.refuses(b"POST " + collection + b' {"apiVersion":"v1","kind":"ConfigMap","metadata":{"name":"x"},"a":1.5,"b":"\xc3"}', NOT_JSON)
-    t.refuses(b"PUT " + collection + b"/x " + MINIMAL.encode() + b"\x80", NOT_JSON)
-    t.refuses(b"POST /x \xff", NO_PATH)
+    t.refuses(b"POST " + collection + b" \xff", BAD_LINE)
+    t.refuses(b"POST " + collection + b" \xff\r", BAD_LINE)
+    t.refuses(b"POST " + collection + b' {"apiVersion":"v1","kind":"ConfigMap","metadata":{"name":"x"},"a":"\xff"}', BAD_LINE)
+    t.refuses(b"POST " + collection + b' {"apiVersion":"v1","kind":"ConfigMap","metadata":{"name":"x"},"a":"\xed\xa0\x80"}', BAD_LINE)
+    t.refuses(b"POST " + collection + b' {"apiVersion":"v1","kind":"ConfigMap","metadata":{"name":"x"},"a":1.5,"b":"\xc3"}', BAD_LINE)
+    for overlong_or_cut in (b"\xc0\x80", b"\xe0\x80\xaf", b"\xf4\x90\x80\x80", b"\xe2\x82", b"\x80"):
+        t.refuses(b"POST " + collection + b' {"a":"' + overlong_or_cut + b'"}', BAD_LINE)
+    t.refuses(b"PUT " + collection + b"/x " + MINIMAL.encode() + b"\x80", BAD_LINE)
+    t.refuses(b"POST /x \xff", BAD_LINE)
+    t.refuses(b"PUT /api/v1/services/x \xff", BAD_LINE)
+    t.refuses(b"POST /api/v1/services \xff", BAD_LINE)
+    t.refuses(b"POST /api/v1/namespaces/acme/pods \xff", BAD_LINE)
+    t.refuses(b"POST " + collection + b"?watch=1 \xff", BAD_LINE)
+    t.refuses(b"DELETE " + collection + b"/x\xff", BAD_LINE)
+    t.refuses(b"take 1\xff", BAD_LINE)
 
 
 def worker_lines(t):

@@ -1,0 +1,49 @@
+#!/usr/bin/env python3
+"""Processor time of `hnc run` per PUT that moves a leaf beside a ring of 4,090 namespaces against one beside as many without parents.
+
+Usage: bench/ring.py PROGRAM [PART]
+PROGRAM is the built program, which bin/hnc leaves as crates/hnc/out/hnc.
+Prints the time per PUT in each run, and their ratio. In both there are 4,096 namespaces: four leaves that move between two roots, and the
+others, which in the second run are each the parent of the next one, and the last of the first, by `admission=skip`. The PUTs come in parts of
+PART, 248 where it isn't given, in turns in both runs. The least of 32 parts counts. Everything runs on one processor.
+"""
+import itertools
+import os
+import sys
+
+from program import Run, compare, namespace
+from trees import move, plant
+
+RING = 4_090
+LEAVES = ("a", "b", "c", "d")
+ROOTS = ("r", "s")
+
+
+class Beside(Run):
+    """A run with leaves below two roots, and a ring or as many namespaces without parents."""
+
+    def __init__(self, program, is_ring):
+        super().__init__(program, "--allow-skip")
+        self.ask([namespace(name) for name in (*ROOTS, *LEAVES, *(f"n{i}" for i in range(RING)))])
+        self.ask([plant(leaf, ROOTS[0]) for leaf in LEAVES])
+        if is_ring:
+            self.ask([plant(f"n{i}", f"n{(i + 1) % RING}", "?admission=skip") for i in range(RING)])
+
+    def moves(self):
+        """PUTs that move the leaves below the other root, over and over."""
+        for turn in itertools.count(1):
+            for leaf in LEAVES:
+                yield move(leaf, ROOTS[turn % len(ROOTS)])
+
+
+def main():
+    program, *part = sys.argv[1:]
+    os.sched_setaffinity(0, {max(os.sched_getaffinity(0))})
+    runs = [Beside(program, is_ring) for is_ring in (False, True)]
+    compare("PUT that moves a leaf", ["no ring", f"a ring of {RING:,}"], runs, Beside.moves, *map(int, part))
+    for run in runs:
+        run.close()
+
+
+if __name__ == "__main__":
+    main()

@@ -1,0 +1,58 @@
+"""Trees of namespaces in runs of the built program, for the measurements beside this file."""
+import itertools
+import random
+
+from program import Run, compact, namespace
+
+
+def path(ns):
+    return f"/apis/hnc.x-k8s.io/v1alpha2/namespaces/{ns}/hierarchyconfigurations"
+
+
+def body(parent):
+    """The body of a HierarchyConfiguration."""
+    return compact({"apiVersion": "hnc.x-k8s.io/v1alpha2", "kind": "HierarchyConfiguration", "metadata": {"name": "hierarchy"}, "spec": {"parent": parent}})
+
+
+def plant(ns, parent, query=""):
+    """The line that gives a namespace its first parent."""
+    return f"POST {path(ns)}{query} {body(parent)}\n"
+
+
+def move(ns, parent):
+    """The line that gives it another one."""
+    return f"PUT {path(ns)}/hierarchy {body(parent)}\n"
+
+
+class Columns(Run):
+    """A run with a root and columns of namespaces, each the parent of the next one. What the columns don't hold, up to so many namespaces, stands in a shorter one, which isn't asked about."""
+
+    def __init__(self, program, columns, depth, namespaces=0):
+        super().__init__(program)
+        self.depth = depth
+        self.columns = list(range(columns))
+        namespaces = max(namespaces, columns * depth + 1)
+        self.chance = random.Random(namespaces)
+        self.ask([namespace(f"n{i}") for i in range(namespaces)])
+        self.ask([plant(f"n{i}", f"n{i - 1}" if i % depth != 1 else "n0") for i in range(1, namespaces)])
+
+    def at(self, column, level):
+        """The namespace that stood in a column at a level at first. The root is at level 0."""
+        return f"n{column % len(self.columns) * self.depth + level}"
+
+    def shuffled(self):
+        """The columns, over and over, and how often they came before."""
+        for turn in itertools.count():
+            self.chance.shuffle(self.columns)
+            for column in self.columns:
+                yield column, turn
+
+    def moves(self, level):
+        """PUTs that give the namespaces of a level the parents of the next column, then those of the one behind it, and so on."""
+        for column, turn in self.shuffled():
+            yield move(self.at(column, level), self.at(column + turn + 1, level - 1))
+
+    def reads(self):
+        """GETs of the leaves' HierarchyConfigurations."""
+        for column, _ in self.shuffled():
+            yield f"GET {path(self.at(column, self.depth))}/hierarchy\n"
