@@ -6,6 +6,7 @@ pub mod Pairs
 pub mod Texts
 pub mod Canonical
 pub mod Json
+pub mod Placed
 pub mod Sizes
 pub mod CappedSizes
 pub mod Faults

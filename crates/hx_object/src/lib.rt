@@ -1,12 +1,13 @@
 //! Kubernetes objects as values: their kinds, names, identities and contents.
 //!
-//! Contracts see a [`Text`] as its bytes, a [`List`] as the list of its items and [`Pairs`] as a list of pairs in ascending order of keys.
+//! Contracts see a [`Text`] and [`Members`] as their bytes, a [`List`] as the list of its items and [`Pairs`] as a list of pairs in ascending order of keys.
 //! An [`Object`] and its parts are plain records of these, so that a clause compares two of them by `≡`.
 #![tactic(auto)]
 
 mod faults;
 mod kind;
 mod list;
+mod members;
 mod memory;
 mod names;
 mod object;
@@ -18,6 +19,7 @@ pub mod well_known;
 
 pub use kind::Kind;
 pub use list::List;
+pub use members::{Members, Places};
 pub use memory::NoMemory;
 pub use names::is_dns_label;
 pub use object::{

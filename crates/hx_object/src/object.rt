@@ -3,7 +3,7 @@ ghost use Rattle.std.specs.Prelude.{◌≡◌, IfOk, IsTrue, ◌↔◌};
 ghost use Rattle.hx_object.specs.Json.{mode_text};
 ghost use Rattle.hx_object.specs.Order.{id_cmp};
 
-use crate::{Kind, List, NoMemory, Pairs, Text};
+use crate::{Kind, List, Members, NoMemory, Pairs, Text};
 use std::cmp::Ordering;
 
 /// What an object is found by. `ns` is empty for the kinds that lie in no namespace.
@@ -53,9 +53,9 @@ pub enum Payload {
         hard: List<Limit>,
         status: List<Usage>,
     },
-    /// Of every other kind: its members as compact JSON text, and what was read from them.
+    /// Of every other kind: the members that it keeps, and what was read from them.
     Plain {
-        members: Text,
+        members: Members,
         need: Need,
     },
 }
