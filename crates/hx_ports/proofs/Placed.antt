@@ -23,7 +23,7 @@ use Rattle.hx_object.specs.Texts.{bytes_cmp}
 use Rattle.hx_ports.specs.declared.keeper.Meta.{Meta}
 use Rattle.hx_ports.specs.declared.keeper.Row.{Row}
 use Rattle.hx_ports.specs.declared.sure.Before.{Before}
-use Rattle.hx_ports.specs.Keeping.{Kept, Rows, meta_of, first_behind, row_of_entry, with_cuts}
+use Rattle.hx_ports.specs.Keeping.{Kept, Rows, meta_of, first_behind, row_of_entry, with_puts, with_cuts}
 use Rattle.hx_ports.specs.Rows.{Entry, entry_of, entries_of, onto, rows_in, rows_of, rows_over}
 use Rattle.hx_ports.specs.Undone.{had_back, put_back, all_put_back}
 
@@ -99,6 +99,15 @@ put_row-back old new log noted before key row is same had put =
 -- the last of what is left is taken back
 pub put_rows_back-step : (left rest : List Before) (before : Before) (rows old new : Rows) → left ≡ rest ++ before ∷ [] → new ≡ put_back before old → all_put_back left old ≡ rows → all_put_back rest new ≡ rows
 put_rows_back-step left rest before rows old new is back so_far = ap (all_put_back rest) back ∙ sym (all_put_back-push rest before old) ∙ ap (λ l. all_put_back l old) (sym is) ∙ so_far
+
+-- the last row is put behind the others
+with_puts-push : (puts : List Row) (last : Row) (rows : Rows) → with_puts (puts ++ last ∷ []) rows ≡ map_insert (with_puts puts rows) last.key (last.version, last.body)
+with_puts-push [] last rows = refl
+with_puts-push (put ∷ puts) last rows = with_puts-push puts last (map_insert rows put.key (put.version, put.body))
+
+pub put_rows-last : (puts rest : List Row) (last : Row) (old noted new : Rows) → puts ≡ rest ++ last ∷ [] → noted ≡ with_puts rest old → new ≡ map_insert noted last.key (last.version, last.body) → new ≡ with_puts puts old
+put_rows-last puts rest last old noted new is before put =
+    put ∙ ap (λ rows. map_insert rows last.key (last.version, last.body)) before ∙ sym (with_puts-push rest last old) ∙ ap (λ l. with_puts l old) (sym is)
 
 pub onto-push : (es : List Entry) (e : Entry) (rows : Rows) → onto (es ++ e ∷ []) rows ≡ onto es (map_insert rows e.0 e.1)
 onto-push [] e rows = refl

@@ -75,14 +75,14 @@ pub trait Keeper {
         ensures same { HoldsOn (shown self.old) (shown self.new) }
         ensures cause { KeeperCause (shown self.old).faults (shown self.new).faults result };
 
-    /// Writes a batch as a whole. After a fault the batch may have landed, and the keeper is broken: it refuses each later batch.
-    fn commit(&mut self, batch: &Batch) -> Result<(), KeepFault>
-        requires batch { IsBatch batch.now }
-        requires follows { (shown self.old).broken ≡ false → IfSome (shown self.old).kept (MayFollow batch.now) }
-        ensures ok { OnOk result (Lands batch.now (shown self.old).kept (shown self.new).kept × ((shown self.old).broken ≡ false) × ((shown self.new).broken ≡ false)) }
+    /// Writes a batch as a whole, whose rows the keeper takes over. After a fault the batch may have landed, and the keeper is broken: it refuses each later batch.
+    fn commit(&mut self, batch: Batch) -> Result<(), KeepFault>
+        requires batch { IsBatch batch }
+        requires follows { (shown self.old).broken ≡ false → IfSome (shown self.old).kept (MayFollow batch) }
+        ensures ok { OnOk result (Lands batch (shown self.old).kept (shown self.new).kept × ((shown self.old).broken ≡ false) × ((shown self.new).broken ≡ false)) }
         ensures refused { IsErrOf result KeepFault.NoMemory → ((shown self.new).kept ≡ (shown self.old).kept) × ((shown self.old).broken ≡ false) × ((shown self.new).broken ≡ false) }
         ensures breaks { IsErrOf result KeepFault.Fault → (shown self.new).broken ≡ true }
-        ensures torn { IsErrOf result KeepFault.Fault → ((shown self.new).kept ≡ (shown self.old).kept) ⊎ (Lands batch.now (shown self.old).kept (shown self.new).kept × ((shown self.old).broken ≡ false)) }
+        ensures torn { IsErrOf result KeepFault.Fault → ((shown self.new).kept ≡ (shown self.old).kept) ⊎ (Lands batch (shown self.old).kept (shown self.new).kept × ((shown self.old).broken ≡ false)) }
         ensures place { (shown self.new).place ≡ (shown self.old).place }
         ensures cause { KeeperCause (shown self.old).faults (shown self.new).faults result };
 }

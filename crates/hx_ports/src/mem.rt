@@ -310,14 +310,14 @@ impl Keeper for MemKeeper {
         self.keeper.load(after)
     }
 
-    fn commit(&mut self, batch: &Batch) -> Result<(), KeepFault>
-        ensures ok { OnOk result (Lands batch.now (⟦<MemKeeper as Keeper>⟧.shown self.old).kept (⟦<MemKeeper as Keeper>⟧.shown self.new).kept × ((⟦<MemKeeper as Keeper>⟧.shown self.old).broken ≡ false) × ((⟦<MemKeeper as Keeper>⟧.shown self.new).broken ≡ false)) }
+    fn commit(&mut self, batch: Batch) -> Result<(), KeepFault>
+        ensures ok { OnOk result (Lands batch (⟦<MemKeeper as Keeper>⟧.shown self.old).kept (⟦<MemKeeper as Keeper>⟧.shown self.new).kept × ((⟦<MemKeeper as Keeper>⟧.shown self.old).broken ≡ false) × ((⟦<MemKeeper as Keeper>⟧.shown self.new).broken ≡ false)) }
         ensures refused { IsErrOf result KeepFault.NoMemory → ((⟦<MemKeeper as Keeper>⟧.shown self.new).kept ≡ (⟦<MemKeeper as Keeper>⟧.shown self.old).kept) × ((⟦<MemKeeper as Keeper>⟧.shown self.old).broken ≡ false) × ((⟦<MemKeeper as Keeper>⟧.shown self.new).broken ≡ false) }
         ensures breaks { IsErrOf result KeepFault.Fault → (⟦<MemKeeper as Keeper>⟧.shown self.new).broken ≡ true }
-        ensures torn { IsErrOf result KeepFault.Fault → ((⟦<MemKeeper as Keeper>⟧.shown self.new).kept ≡ (⟦<MemKeeper as Keeper>⟧.shown self.old).kept) ⊎ (Lands batch.now (⟦<MemKeeper as Keeper>⟧.shown self.old).kept (⟦<MemKeeper as Keeper>⟧.shown self.new).kept × ((⟦<MemKeeper as Keeper>⟧.shown self.old).broken ≡ false)) }
+        ensures torn { IsErrOf result KeepFault.Fault → ((⟦<MemKeeper as Keeper>⟧.shown self.new).kept ≡ (⟦<MemKeeper as Keeper>⟧.shown self.old).kept) ⊎ (Lands batch (⟦<MemKeeper as Keeper>⟧.shown self.old).kept (⟦<MemKeeper as Keeper>⟧.shown self.new).kept × ((⟦<MemKeeper as Keeper>⟧.shown self.old).broken ≡ false)) }
         ensures place { (⟦<MemKeeper as Keeper>⟧.shown self.new).place ≡ (⟦<MemKeeper as Keeper>⟧.shown self.old).place }
         ensures cause { KeeperCause (⟦<MemKeeper as Keeper>⟧.shown self.old).faults (⟦<MemKeeper as Keeper>⟧.shown self.new).faults result }
-        ensures plan { CommitsByPlan (⟦<MemKeeper as Keeper>⟧.shown self.old).broken (landing (failing_of self.old) (next_number (commits_of self.old))) batch.now (⟦<MemKeeper as Keeper>⟧.shown self.old).kept (⟦<MemKeeper as Keeper>⟧.shown self.new).kept result }
+        ensures plan { CommitsByPlan (⟦<MemKeeper as Keeper>⟧.shown self.old).broken (landing (failing_of self.old) (next_number (commits_of self.old))) batch (⟦<MemKeeper as Keeper>⟧.shown self.old).kept (⟦<MemKeeper as Keeper>⟧.shown self.new).kept result }
         ensures counted { commits_of self.new ≡ next_number (commits_of self.old) }
         ensures closed { (⟦<MemKeeper as Keeper>⟧.shown self.old).broken ≡ true → kept_by self.new ≡ kept_by self.old }
         ensures lost { landing (failing_of self.old) (next_number (commits_of self.old)) ≡ Some false → kept_by self.new ≡ kept_by self.old }

@@ -275,18 +275,23 @@ impl Keeper for SureKeeper {
         Ok(row_behind(self.alloc, &self.rows, after)?)
     }
 
-    fn commit(&mut self, batch: &Batch) -> Result<(), KeepFault>
-        ensures lands { OnOk result (Lands batch.now (⟦<SureKeeper as Keeper>⟧.shown self.old).kept (⟦<SureKeeper as Keeper>⟧.shown self.new).kept) }
-        ensures held { OnOk result (held_by self.new ≡ with_batch batch.now (held_by self.old)) }
-        ensures meta { OnOk result ((given_meta self.new ≡ record (given_meta self.old) { version = batch.now.version }) × (tells_rows self.new ≡ tells_rows self.old)) }
+    fn commit(&mut self, batch: Batch) -> Result<(), KeepFault>
+        ensures lands { OnOk result (Lands batch (⟦<SureKeeper as Keeper>⟧.shown self.old).kept (⟦<SureKeeper as Keeper>⟧.shown self.new).kept) }
+        ensures held { OnOk result (held_by self.new ≡ with_batch batch (held_by self.old)) }
+        ensures meta { OnOk result ((given_meta self.new ≡ record (given_meta self.old) { version = batch.version }) × (tells_rows self.new ≡ tells_rows self.old)) }
         ensures memory { OnErr result (IsErrOf result KeepFault.NoMemory) }
         ensures same { OnErr result ((held_by self.new ≡ held_by self.old) × (given_meta self.new ≡ given_meta self.old) × (tells_rows self.new ≡ tells_rows self.old)) }
         ensures place { (⟦<SureKeeper as Keeper>⟧.shown self.new).place ≡ (⟦<SureKeeper as Keeper>⟧.shown self.old).place }
     {
+        let Batch {
+            version,
+            puts,
+            cuts,
+        } = batch;
         lay_rows(&mut self.given, &mut self.rows)?;
-        put_rows(self.alloc, &mut self.rows, batch.puts.as_slice())?;
-        cut_rows(&mut self.rows, batch.cuts.as_slice());
-        self.meta.version = batch.version;
+        put_rows(self.alloc, &mut self.rows, puts.into_vec())?;
+        cut_rows(&mut self.rows, cuts.as_slice());
+        self.meta.version = version;
         Ok(())
     }
 }
@@ -297,19 +302,36 @@ fn copy_text(alloc: Global, text: &str) -> Result<String, NoMemory>
     Ok(String::from_str(alloc, text)?)
 }
 
-/// Puts rows into their places, the first one first. Where memory ends, those that were put are taken back.
-fn put_rows(alloc: Global, held: &mut RowMap, puts: &[Row]) -> Result<(), NoMemory>
-    ensures puts { OnOk result (rows_in held.new ≡ with_puts puts.now (rows_in held.old)) }
+/// Puts rows into their places, the first one first. Where memory ends, those that were put are taken back. Of the last one nothing is noted, so that a single row takes no memory beside its place.
+fn put_rows(alloc: Global, held: &mut RowMap, mut puts: Vec<Row>) -> Result<(), NoMemory>
+    ensures puts { OnOk result (rows_in held.new ≡ with_puts puts.items (rows_in held.old)) }
+    ensures same { OnErr result (rows_in held.new ≡ rows_in held.old) }
+{
+    let Some(last) = puts.pop() else {
+        return Ok(());
+    };
+    let log = put_noted(alloc, held, puts)?;
+    if let Err(error) = put_row(held, last) {
+        put_rows_back(held, log);
+        return Err(error);
+    }
+    Ok(())
+}
+
+/// Puts rows into their places, the first one first, and notes what their keys had before. Where memory ends, those that were put are taken back.
+fn put_noted(alloc: Global, held: &mut RowMap, puts: Vec<Row>) -> Result<Vec<Before>, NoMemory>
+    ensures puts { OnOk result (rows_in held.new ≡ with_puts puts.items (rows_in held.old)) }
+    ensures back { IfOk result (λ log. all_put_back log.items (rows_in held.new) ≡ rows_in held.old) }
     ensures same { OnErr result (rows_in held.new ≡ rows_in held.old) }
 {
     let mut log = Vec::new(alloc);
     for put in puts {
-        if put_row(held, &mut log, put).is_err() {
+        if note_row(held, &mut log, put).is_err() {
             put_rows_back(held, log);
             return Err(NoMemory);
         }
     }
-    Ok(())
+    Ok(log)
 }
 
 /// Takes the rows of keys away.
@@ -329,15 +351,23 @@ struct Before {
 }
 
 /// Puts a row into its place, and notes what its key had before.
-fn put_row(held: &mut RowMap, log: &mut Vec<Before>, put: &Row) -> Result<(), NoMemory>
-    ensures put { OnOk result (rows_in held.new ≡ map.insert (rows_in held.old) put.now.key (put.now.version, put.now.body)) }
+fn note_row(held: &mut RowMap, log: &mut Vec<Before>, put: Row) -> Result<(), NoMemory>
+    ensures put { OnOk result (rows_in held.new ≡ map.insert (rows_in held.old) put.key (put.version, put.body)) }
     ensures back { all_put_back log.new.items (rows_in held.new) ≡ all_put_back log.old.items (rows_in held.old) }
 {
     log.reserve(1)?;
     let key = put.key.clone()?;
-    let body = put.body.clone()?;
-    let had = held.insert(put.key.clone()?, (put.version, body))?;
+    let had = held.insert(put.key, (put.version, put.body))?;
     let _ = log.push(Before { key, had });
+    Ok(())
+}
+
+/// Puts a row into its place. Where memory ends, nothing is changed.
+fn put_row(held: &mut RowMap, put: Row) -> Result<(), NoMemory>
+    ensures put { OnOk result (rows_in held.new ≡ map.insert (rows_in held.old) put.key (put.version, put.body)) }
+    ensures same { OnErr result (rows_in held.new ≡ rows_in held.old) }
+{
+    let _had = held.insert(put.key, (put.version, put.body))?;
     Ok(())
 }
 
