@@ -50,12 +50,14 @@ joined q x y p r = subst (λ (a : Id). id_cmp a y ≡ Equal) (is_same_id q x p) 
 alike : (q x y : Id) → id_cmp x y ≡ Equal → same_id q x ≡ same_id q y
 alike q x y e = ap (same_id q) (exact_ids x y e)
 
-swap_tests : {A : Type 0} (a b : Bool) (u v w : A) → (a ≡ true → b ≡ true → ⊥) → cond b v (cond a u w) ≡ cond a u (cond b v w)
+-- two tests that don't hold together are tried in either order
+pub swap_tests : {A : Type 0} (a b : Bool) (u v w : A) → (a ≡ true → b ≡ true → ⊥) → cond b v (cond a u w) ≡ cond a u (cond b v w)
 swap_tests true true u v w apart = absurd (apart refl refl)
 swap_tests true false u v w apart = refl
 swap_tests false b u v w apart = refl
 
-same_test : {A : Type 0} (a b : Bool) (u v w : A) → a ≡ b → cond a u w ≡ cond a u (cond b v w)
+-- a second test like the first finds nothing more
+pub same_test : {A : Type 0} (a b : Bool) (u v w : A) → a ≡ b → cond a u w ≡ cond a u (cond b v w)
 same_test true b u v w e = refl
 same_test false true u v w e = absurd (true≢false (sym e))
 same_test false false u v w e = refl

@@ -7,6 +7,7 @@ pub mod Tree
 pub mod Texts
 pub mod Json
 pub mod Replies
+pub mod Messages
 pub mod Bodies
 pub mod Limits
 pub mod Denials

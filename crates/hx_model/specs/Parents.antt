@@ -1,6 +1,6 @@
 -- That the rules look at the tree of the next state.
 --     IsParentAfter     the parent after a write, as the rules have it, is the one in the tree of the state after it
-use Rattle.std.specs.Prelude.{◌≡◌, Bool, true, List, [], ◌∷◌, Option, Some, None}
+use Rattle.std.specs.Prelude.{◌≡◌, Bool, true, [], ◌∷◌, Option, Some, None}
 use Rattle.hx_object.specs.declared.object.Id.{Id}
 use Rattle.hx_object.specs.declared.object.Object.{Object}
 use Rattle.hx_model.specs.Answers.{case_at}

@@ -13,6 +13,7 @@ pub mod plain;
 mod reason;
 mod refusal;
 mod rule;
+mod status;
 
 pub use ask::{Answer, Ask};
 pub use config::RunConfig;
@@ -23,3 +24,4 @@ pub use node::{Halt, Node};
 pub use reason::Reason;
 pub use refusal::Refusal;
 pub use rule::Rule;
+pub use status::{Message, RefusalStatus};

@@ -1,7 +1,9 @@
 // Why a request is refused.
-ghost use Rattle.std.specs.Prelude.{◌≡◌, IfOk};
-ghost use Rattle.hx_model.specs.Replies.{status_of, code_of, message_of, message_about, version_message, said_of};
+ghost use Rattle.std.specs.Prelude.{◌≡◌, ◌++◌, IfOk, OnOk, string_bytes};
+ghost use Rattle.hx_model.specs.Messages.{text_of};
+ghost use Rattle.hx_model.specs.Replies.{status_of, code_of, message_of};
 
+use crate::status::{RefusalStatus, about, breaks, has_version, joins, joins_kind, says};
 use crate::{Reason, Rule};
 use hx_object::{Kind, NoMemory, Text};
 use std::alloc::Global;
@@ -100,98 +102,67 @@ impl Refusal {
     pub fn reason(&self) -> Reason
         ensures { result ≡ (status_of self.now).reason }
     {
-        match self {
-            Refusal::BadLine
-            | Refusal::BadPath
-            | Refusal::BadQuery { .. }
-            | Refusal::NotJson
-            | Refusal::NotWhole
-            | Refusal::NotKind { .. }
-            | Refusal::OtherPlace => Reason::BadRequest,
-            Refusal::NoPath | Refusal::NotFound { .. } => Reason::NotFound,
-            Refusal::NoMethod => Reason::MethodNotAllowed,
-            Refusal::Exists { .. } => Reason::AlreadyExists,
-            Refusal::OtherVersion { .. } => Reason::Conflict,
-            Refusal::TooLong => Reason::RequestEntityTooLarge,
-            Refusal::Missing { .. }
-            | Refusal::WrongType { .. }
-            | Refusal::BadName
-            | Refusal::BadLabel
-            | Refusal::TooManyLabels
-            | Refusal::TooLarge => Reason::Invalid,
-            Refusal::StoreFailed => Reason::InternalError,
-            Refusal::NotServed => Reason::NotImplemented,
-            Refusal::NoMemory => Reason::ServiceUnavailable,
-            Refusal::Broken { rule } => rule.reason(),
-        }
+        self.status().reason
     }
 
     /// What is said to whom asked.
     pub fn message(&self, alloc: Global) -> Result<Text, NoMemory>
         ensures { IfOk result (λ text. text ≡ message_of self.now) }
     {
+        let mut text = String::new(alloc);
+        self.push_message(&mut text)?;
+        Ok(Text::of_string(text))
+    }
+
+    /// Appends what is said to whom asked.
+    pub fn push_message(&self, out: &mut String) -> Result<(), NoMemory>
+        ensures { OnOk result (string_bytes out.new ≡ string_bytes out.old ++ message_of self.now) }
+    {
+        self.status().message.push(out)
+    }
+
+    /// The reason, and what is said.
+    pub fn status(&self) -> RefusalStatus<'_>
+        ensures reason { result.reason ≡ (status_of self.now).reason }
+        ensures message { text_of result.message ≡ message_of self.now }
+    {
         match self {
-            Refusal::BadLine => Text::of(alloc, "line in no form of the script"),
-            Refusal::BadPath => Text::of(alloc, "bad path"),
-            Refusal::BadQuery { name } => said_of(alloc, "bad query ", name.as_str()),
-            Refusal::NotJson => Text::of(alloc, "body is not JSON"),
-            Refusal::NotWhole => Text::of(alloc, "body has a number that is not whole"),
-            Refusal::NotKind { kind } => said_of(alloc, "body is not ", kind.name()),
-            Refusal::OtherPlace => Text::of(alloc, "body names another place"),
-            Refusal::Broken { rule } => Text::of(alloc, rule.message()),
-            Refusal::NoPath => Text::of(alloc, "path not served"),
-            Refusal::NotFound { kind, name } => message_about(
-                alloc,
+            Refusal::BadLine => says(Reason::BadRequest, "line in no form of the script"),
+            Refusal::BadPath => says(Reason::BadRequest, "bad path"),
+            Refusal::BadQuery { name } => joins(Reason::BadRequest, "bad query ", name.as_str()),
+            Refusal::NotJson => says(Reason::BadRequest, "body is not JSON"),
+            Refusal::NotWhole => says(Reason::BadRequest, "body has a number that is not whole"),
+            Refusal::NotKind { kind } => joins_kind(Reason::BadRequest, "body is not ", *kind),
+            Refusal::OtherPlace => says(Reason::BadRequest, "body names another place"),
+            Refusal::Broken { rule } => breaks(*rule),
+            Refusal::NoPath => says(Reason::NotFound, "path not served"),
+            Refusal::NotFound { kind, name } => about(Reason::NotFound, *kind, name, "not found"),
+            Refusal::NoMethod => says(Reason::MethodNotAllowed, "method not served here"),
+            Refusal::Exists { kind, name } => about(
+                Reason::AlreadyExists,
                 *kind,
-                name.as_str(),
-                "not found",
-            ),
-            Refusal::NoMethod => Text::of(alloc, "method not served here"),
-            Refusal::Exists { kind, name } => message_about(
-                alloc,
-                *kind,
-                name.as_str(),
+                name,
                 "already exists",
             ),
             Refusal::OtherVersion {
                 kind,
                 name,
                 version,
-            } => version_message(alloc, *kind, name.as_str(), *version),
-            Refusal::TooLong => Text::of(alloc, "more than 131072 bytes"),
-            Refusal::Missing { member } => said_of(alloc, member.as_str(), " is missing"),
-            Refusal::WrongType { member } => said_of(alloc, member.as_str(), " has the wrong type"),
-            Refusal::BadName => Text::of(alloc, "name is not allowed"),
-            Refusal::BadLabel => Text::of(alloc, "label or annotation is not allowed"),
-            Refusal::TooManyLabels => Text::of(alloc, "more than 256 labels"),
-            Refusal::TooLarge => Text::of(alloc, "object is larger than 65536 bytes"),
-            Refusal::StoreFailed => Text::of(alloc, "the store failed"),
-            Refusal::NotServed => Text::of(alloc, "not served"),
-            Refusal::NoMemory => Text::of(alloc, "out of memory"),
+            } => has_version(Reason::Conflict, *kind, name, *version),
+            Refusal::TooLong => says(Reason::RequestEntityTooLarge, "more than 131072 bytes"),
+            Refusal::Missing { member } => joins(Reason::Invalid, member.as_str(), " is missing"),
+            Refusal::WrongType { member } => joins(
+                Reason::Invalid,
+                member.as_str(),
+                " has the wrong type",
+            ),
+            Refusal::BadName => says(Reason::Invalid, "name is not allowed"),
+            Refusal::BadLabel => says(Reason::Invalid, "label or annotation is not allowed"),
+            Refusal::TooManyLabels => says(Reason::Invalid, "more than 256 labels"),
+            Refusal::TooLarge => says(Reason::Invalid, "object is larger than 65536 bytes"),
+            Refusal::StoreFailed => says(Reason::InternalError, "the store failed"),
+            Refusal::NotServed => says(Reason::NotImplemented, "not served"),
+            Refusal::NoMemory => says(Reason::ServiceUnavailable, "out of memory"),
         }
     }
-}
-
-#[tactic(auto, unfolding(crate::specs::Replies::message_about))]
-fn message_about(alloc: Global, kind: Kind, name: &str, said: &str) -> Result<Text, NoMemory>
-    ensures { IfOk result (λ text. text ≡ message_about kind name.now said.now) }
-{
-    let resource = kind.resource();
-    Ok(Text::of_string(format!(in alloc; "{resource} \"{name}\" {said}")?))
-}
-
-#[tactic(auto, unfolding(crate::specs::Replies::version_message))]
-fn version_message(alloc: Global, kind: Kind, name: &str, version: u64) -> Result<Text, NoMemory>
-    ensures { IfOk result (λ text. text ≡ version_message kind name.now version) }
-{
-    let resource = kind.resource();
-    Ok(Text::of_string(format!(in alloc; "{resource} \"{name}\" has version {version}")?))
-}
-
-/// Two texts, one after the other.
-#[tactic(auto, unfolding(crate::specs::Replies::said_of))]
-fn said_of(alloc: Global, front: &str, back: &str) -> Result<Text, NoMemory>
-    ensures { IfOk result (λ text. text ≡ said_of front.now back.now) }
-{
-    Ok(Text::of_string(format!(in alloc; "{front}{back}")?))
 }
