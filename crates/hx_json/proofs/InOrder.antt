@@ -1,5 +1,5 @@
 -- The value of a legal object is canonical, and shallow enough to be read.
-use Rattle.std.proofs.Common.{◌≡◌, ◌≤◌, ℕ, max, List, [], ◌∷◌, Bool, true, false, Option, Some, None, Ordering, Less, Equal, Greater, nat_cmp, is_lt, map, codes, refl, sym, subst, ap, ◌∙◌, arith, decimal}
+use Rattle.std.proofs.Common.{◌≡◌, ◌≤◌, ℕ, max, List, [], ◌∷◌, Bool, true, false, true≢false, Option, Some, None, Ordering, Less, Equal, Greater, nat_cmp, is_lt, map, codes, refl, sym, subst, ap, ◌∙◌, arith, decimal}
 use Rattle.std.specs.Ordering.{match_ordering, ordering_reverse}
 use Rattle.std.specs.Cmp.Lexicographic.{slice_cmp}
 use Rattle.std.proofs.lemmas.Bool.{and_parts}
@@ -18,8 +18,18 @@ use Rattle.hx_object.specs.declared.object.Condition.{Condition}
 use Rattle.hx_object.specs.declared.object.Payload.{Payload}
 use Rattle.hx_object.specs.declared.object.Payload.TheVariants.{Namespace, Config, Hierarchy, Anchor, Quota, Plain}
 use Rattle.hx_json.proofs.Canonical.{before_all, before_put}
-use Rattle.hx_json.proofs.Putting.{less, rest_ascends}
 use Rattle.hx_json.proofs.RoundTrip.{read-compact_text, compact_text_once}
+
+-- ---- keys in order
+
+less : (o : Ordering) → is_lt o ≡ true → o ≡ Less
+less Less h = refl
+less Equal h = absurd (true≢false (sym h))
+less Greater h = absurd (true≢false (sym h))
+
+rest_ascends : (p : List ℕ × List ℕ) (ps : List (List ℕ × List ℕ)) → has_ascending_keys (p ∷ ps) ≡ true → has_ascending_keys ps ≡ true
+rest_ascends p [] h = refl
+rest_ascends p (q ∷ ps) h = (and_parts (is_lt (slice_cmp nat_cmp p.0 q.0)) (has_ascending_keys (q ∷ ps)) h).1
 
 -- ---- members that are put
 

@@ -17,7 +17,7 @@ use Rattle.hx_json.specs.ReadObject.{is_read}
 
 -- ---- removing keeps the order and the depth
 
-before_without : (q k : List ℕ) (ms : Members) → IsBefore q ms → IsBefore q (without k ms)
+pub before_without : (q k : List ℕ) (ms : Members) → IsBefore q ms → IsBefore q (without k ms)
 before_without q k no_members h = tt
 before_without q k (member l d ms) h = by (bytes_eq k l) (before_without q k ms h.1)
   where
@@ -76,7 +76,7 @@ still_gone k l (member m d ms) h = by (slice_cmp nat_cmp k m) refl h (still_gone
 
 -- ---- what is kept
 
-kept_in_order : (d : Data) → IsCanonical d → IsCanonical (object (kept_members d))
+pub kept_in_order : (d : Data) → IsCanonical d → IsCanonical (object (kept_members d))
 kept_in_order null h = tt
 kept_in_order (boolean b) h = tt
 kept_in_order (number n) h = tt
@@ -87,7 +87,7 @@ kept_in_order (object ms) h =
     let k = codes "kind" in
     members_without (codes "metadata") (without k (without a ms)) (members_without k (without a ms) (members_without a ms h))
 
-kept_shallow : (d : Data) → depth d ≤ max_depth → depth (object (kept_members d)) ≤ max_depth
+pub kept_shallow : (d : Data) → depth d ≤ max_depth → depth (object (kept_members d)) ≤ max_depth
 kept_shallow null h = omega arith
 kept_shallow (boolean b) h = omega arith
 kept_shallow (number n) h = omega arith

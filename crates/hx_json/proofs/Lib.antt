@@ -1,13 +1,21 @@
 pub mod RoundTrip
 pub mod Canonical
-pub mod Parts
 pub mod Versions
 pub mod Legal
 mod ReadExamples
-pub mod Putting
+mod TreeExamples
 pub mod NoFloat
+pub mod Trees
+pub mod Numbers
+pub mod Kept
+pub mod Orders
+pub mod Escapes
+pub mod Steps
+pub mod Pushes
+pub mod Spliced
 pub mod Ordered
 mod WrittenExamples
 pub mod InOrder
 pub mod Payloads
 pub mod Telling
+pub mod Normal

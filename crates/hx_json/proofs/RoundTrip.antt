@@ -21,7 +21,7 @@ use Rattle.hx_object.specs.Canonical.{IsWhole, IsBefore, IsCanonical, AreCanonic
 
 -- ---- numbers
 
-number_read : (n : Num) → IsWhole n → number_of (number_text n) ≡ Some n
+pub number_read : (n : Num) → IsWhole n → number_of (number_text n) ≡ Some n
 number_read (unsigned n) h = number_of-decimal n h
 number_read (negative (pos n)) h = absurd h
 number_read (negative (negsuc n)) h = number_of-negative n h
@@ -35,30 +35,30 @@ is_number (float x) h = absurd h
 
 -- ---- members in order
 
-abbrev join : Members → Members → Members
+abbrev pub join : Members → Members → Members
 join no_members more = more
 join (member k d ms) more = member k d (join ms more)
 
 -- each key of the first comes before those of the second
-abbrev AreBefore : Members → Members → Type 0
+abbrev pub AreBefore : Members → Members → Type 0
 AreBefore no_members more = ⊤
 AreBefore (member k d ms) more = IsBefore k more × AreBefore ms more
 
-join_one : (found : Members) (k : List ℕ) (d : Data) (rest : Members) → join (join found (member k d no_members)) rest ≡ join found (member k d rest)
+pub join_one : (found : Members) (k : List ℕ) (d : Data) (rest : Members) → join (join found (member k d no_members)) rest ≡ join found (member k d rest)
 join_one no_members k d rest = refl
 join_one (member l e ms) k d rest = ap (member l e) (join_one ms k d rest)
 
-put_last : (found : Members) (k : List ℕ) (d e : Data) (rest : Members) → AreBefore found (member k e rest) → put k d found ≡ join found (member k d no_members)
+pub put_last : (found : Members) (k : List ℕ) (d e : Data) (rest : Members) → AreBefore found (member k e rest) → put k d found ≡ join found (member k d no_members)
 put_last no_members k d e rest h = refl
 put_last (member l f ms) k d e rest h =
     let above : slice_cmp nat_cmp k l ≡ Greater = nat_list_cmp_total.antisymm k l ∙ ap ordering_reverse h.0.0 in
     rw above (ap (member l f) (put_last ms k d e rest h.1))
 
-join_none : (found : Members) → join found no_members ≡ found
+pub join_none : (found : Members) → join found no_members ≡ found
 join_none no_members = refl
 join_none (member k d ms) = ap (member k d) (join_none ms)
 
-still_before : (found : Members) (k : List ℕ) (d : Data) (rest : Members) → AreBefore found (member k d rest) → IsBefore k rest → AreBefore (join found (member k d no_members)) rest
+pub still_before : (found : Members) (k : List ℕ) (d : Data) (rest : Members) → AreBefore found (member k d rest) → IsBefore k rest → AreBefore (join found (member k d no_members)) rest
 still_before no_members k d rest h first = (first, tt)
 still_before (member l e ms) k d rest h first = (h.0.1, still_before ms k d rest h.1 first)
 
@@ -89,7 +89,7 @@ mutual
 -- ---- its numbers and its depth
 
 mutual
-  numbers : (d : Data) → IsCanonical d → tree.HasNumbers (outline d)
+  pub numbers : (d : Data) → IsCanonical d → tree.HasNumbers (outline d)
   numbers null h = tt
   numbers (boolean b) h = tt
   numbers (number n) h = is_number n h
@@ -106,7 +106,7 @@ mutual
   members_numbers (member k d ms) h = (numbers d h.1, members_numbers ms h.2)
 
 mutual
-  depth-outline : (d : Data) → tree.depth (outline d) ≡ depth d
+  pub depth-outline : (d : Data) → tree.depth (outline d) ≡ depth d
   depth-outline null = refl
   depth-outline (boolean b) = refl
   depth-outline (number n) = refl

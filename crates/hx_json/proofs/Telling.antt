@@ -34,7 +34,7 @@ without_put k d (member l e ms) h = by (slice_cmp nat_cmp k l) refl (without_put
     by Greater is later none = let apart : bytes_eq k l ≡ false = sym (is_eq-slice_cmp k l) ∙ ap is_eq is in rw apart (ap (member l e) (later none))
 
 -- no member has the name of one that each object has
-LacksHead : Members → Type 0
+unfoldable pub LacksHead : Members → Type 0
 LacksHead ms = (get_member (codes "apiVersion") ms ≡ None) × (get_member (codes "kind") ms ≡ None) × (get_member (codes "metadata") ms ≡ None)
 
 other_text : (a b : List ℕ) → bytes_eq a b ≡ false → a ≡ b → ⊥
@@ -87,7 +87,7 @@ unfolding LacksHead
 hierarchy_lacks spec no_members = (refl, refl, refl)
 hierarchy_lacks spec (member k d status) = (refl, refl, refl)
 
-own_lacks : (kind : Kind) (payload : Payload) → IsPayloadOf kind payload → LacksHead (own_members payload)
+pub own_lacks : (kind : Kind) (payload : Payload) → IsPayloadOf kind payload → LacksHead (own_members payload)
 unfolding LacksHead
 own_lacks kind (Namespace terminating) h = (refl, refl, refl)
 own_lacks kind (Config entries) h = (refl, refl, refl)

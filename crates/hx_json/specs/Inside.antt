@@ -1,23 +1,26 @@
--- What serves the code alone: checks of members one by one, and members that are put in any order.
+-- What serves the code alone: checks of members one by one, and what passes between readers.
 --     test_of s      the test of a shape
 --     seen fault     a fault as callers see it
 --     entry_fault m  the fault of a member of an entry
+--     num_of n       the number that a whole one is
+--     AreAlike       two texts of one value, whose numbers are whole
+--     Says, IsFaultIn    an object, or a fault, is what a value gives
+--     target_of a    the target of what is asked
 --     fault_in r     the fault that a check found
---     put_unless_blank, put_unless_empty, put_unless_none    to put a text, an object or a list, unless it is empty
---     HasOrderedLimits  what a quota's limits keep
-use Rattle.std.specs.Prelude.{◌≡◌, ℕ, Bool, true, List, [], ◌∷◌, map, Option, Some, None, Result, Ok, Err}
-use Rattle.serde_json.specs.Data.{Data, string, array, object, Items, no_items, item, Members, no_members, member, put}
-use Rattle.hx_object.specs.Json.{limit_pair}
-use Rattle.hx_object.specs.Pairs.{has_ascending_keys}
-use Rattle.hx_object.specs.declared.object.Payload.{Payload}
-use Rattle.hx_object.specs.declared.object.Payload.TheVariants.{Quota}
-use Rattle.hx_json.specs.Reading.{is_text, is_truth, is_object, is_texts, is_entries, is_mode, group_fault, resource_fault, mode_fault}
+use Rattle.std.specs.Prelude.{◌≡◌, ℕ, Bool, List, Option, Some, None, option_copied, Result, Ok, Err}
+use Rattle.serde_json.specs.Data.{Num, unsigned, negative, Data}
+use Rattle.hx_object.specs.declared.object.Object.{Object}
+use Rattle.hx_json.specs.Reading.{Target, target_at, expected_of, fault_of, object_of, is_text, is_truth, is_object, is_entries, is_mode, group_fault, resource_fault, mode_fault}
 use Rattle.hx_json.specs.declared.fault.JsonFault.{JsonFault}
 use Rattle.hx_json.specs.declared.fault.JsonFault.TheVariants as of
 use Rattle.hx_json.specs.declared.read.shapes.MemberFault.{MemberFault}
 use Rattle.hx_json.specs.declared.read.shapes.MemberFault.TheVariants.{WrongKind, Missing, WrongType, WrongPlace}
+use Rattle.hx_json.specs.ReadObject.{IsWhole}
+use Rattle.hx_json.specs.declared.read.Asked.{Asked}
+use Rattle.hx_json.specs.declared.read.number.Whole.{Whole}
+use Rattle.hx_json.specs.declared.read.number.Whole.TheVariants.{Unsigned, Negative}
 use Rattle.hx_json.specs.declared.read.shapes.Shape.{Shape}
-use Rattle.hx_json.specs.declared.read.shapes.Shape.TheVariants.{Text, Truth, Object, Texts, Entries, Mode}
+use Rattle.hx_json.specs.declared.read.shapes.Shape.TheVariants as shape
 use Rattle.hx_json.specs.declared.read.member_checks.EntryMember.{EntryMember}
 use Rattle.hx_json.specs.declared.read.member_checks.EntryMember.TheVariants as part
 
@@ -25,12 +28,11 @@ use Rattle.hx_json.specs.declared.read.member_checks.EntryMember.TheVariants as 
 
 -- the test of a shape
 abbrev pub test_of : Shape → Data → Bool
-test_of Text = is_text
-test_of Truth = is_truth
-test_of Object = is_object
-test_of Texts = is_texts
-test_of Entries = is_entries
-test_of Mode = is_mode
+test_of shape.Text = is_text
+test_of shape.Truth = is_truth
+test_of shape.Object = is_object
+test_of shape.Entries = is_entries
+test_of shape.Mode = is_mode
 
 -- a fault as callers see it
 abbrev pub seen : MemberFault → JsonFault
@@ -50,24 +52,26 @@ entry_fault part.Group = group_fault
 entry_fault part.Resource = resource_fault
 entry_fault part.Mode = mode_fault
 
--- ---- members
+-- the number that a whole one is
+abbrev pub num_of : Whole → Num
+num_of (Unsigned n) = unsigned n
+num_of (Negative z) = negative z
 
--- a text under a name, unless it is empty
-abbrev pub put_unless_blank : List ℕ → List ℕ → Members → Members
-put_unless_blank name [] ms = ms
-put_unless_blank name (byte ∷ text) ms = put name (string (byte ∷ text)) ms
+-- two texts of one value, whose numbers are whole
+abbrev pub AreAlike : List ℕ → List ℕ → Type 0
+AreAlike one other = (d : Data) × IsWhole one d × IsWhole other d
 
--- an object under a name, unless it is empty
-abbrev pub put_unless_empty : List ℕ → Members → Members → Members
-put_unless_empty name no_members ms = ms
-put_unless_empty name (member k d inner) ms = put name (object (member k d inner)) ms
+-- the object and the expected version are what a value says
+abbrev pub Says : Target → Data → Object → Option ℕ → Type 0
+Says p d x expected = (fault_of p d ≡ None) × (x ≡ object_of p d) × (expected ≡ expected_of p.name d)
 
--- a list under a name, unless it is empty
-abbrev pub put_unless_none : List ℕ → Items → Members → Members
-put_unless_none name no_items ms = ms
-put_unless_none name (item d ds) ms = put name (array (item d ds)) ms
+-- the fault is the value's, or want of memory
+abbrev pub IsFaultIn : Target → Data → JsonFault → Type 0
+IsFaultIn p d of.NotJson = ⊥
+IsFaultIn p d of.NotWhole = ⊥
+IsFaultIn p d of.NoMemory = Unit {0}
+IsFaultIn p d fault = fault_of p d ≡ Some fault
 
--- the limits of a quota stand in order of their resources
-abbrev pub HasOrderedLimits : Payload → Type 0
-HasOrderedLimits (Quota hard status) = has_ascending_keys (map limit_pair hard) ≡ true
-HasOrderedLimits _ = Unit {0}
+-- the target of what is asked
+abbrev pub target_of : Asked → Target
+target_of asked = target_at asked.kind asked.ns.now (option_copied asked.name)

@@ -1,3 +1,5 @@
 pub mod Reading
 pub mod ReadObject
 pub mod Inside
+pub mod Trees
+pub mod Pushed

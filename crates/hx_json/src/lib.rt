@@ -8,5 +8,5 @@ mod write;
 
 pub use fault::{JsonFault, Read};
 pub use law::law_of_texts;
-pub use read::{is_long_decimal, read_object};
-pub use write::{write_gone, write_list, write_object, write_status};
+pub use read::{BodyReader, is_long_decimal};
+pub use write::{push_gone, push_list, push_object, push_status, write_object};

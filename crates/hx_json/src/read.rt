@@ -1,68 +1,197 @@
 // Bodies of requests as objects.
-ghost use Rattle.std.specs.Prelude.{◌≡◌, [], true, None, option_copied, IfOk, IfErr};
-ghost use Rattle.serde_json.specs.View.{view};
+ghost use Rattle.std.specs.Prelude.{◌≡◌, ◌≤◌, [], true, None, option_copied, IfOk, IfErr, IfNone, IfSome};
+ghost use Rattle.json.specs.Value.{value_view};
+ghost use Rattle.serde_json.specs.Data.{depth};
+ghost use Rattle.serde_json.specs.Read.{max_depth};
+ghost use Rattle.hx_object.specs.Canonical.{IsCanonical};
 ghost use Rattle.hx_object.specs.Faults.{IsLegal};
 ghost use Rattle.hx_object.specs.Kinds.{is_in_cluster};
+ghost use Rattle.hx_json.specs.Inside.{IsFaultIn, Says, target_of};
 ghost use Rattle.hx_json.specs.Reading.{member_fault, target_at};
-ghost use Rattle.hx_json.specs.ReadObject.{IsFaultOf, IsReadOf, IsWhole, is_read};
+ghost use Rattle.hx_json.specs.ReadObject.{IsFaultOf, IsReadOf, is_read};
+ghost use Rattle.hx_json.specs.Trees.{IsOrdered, IsUnordered, is_ordered, said};
 
+mod kept;
 mod member_checks;
 mod members;
+mod number;
 mod parts;
 mod shapes;
+mod tree;
 mod version;
 mod whole;
 
 use crate::{JsonFault, Read};
 use hx_object::{Kind, Object, Text};
+use json::{Scratch, Value};
 use member_checks::check_members;
 use parts::{expected_in, id_of, pairs_in, payload_of};
-use serde_json::Value;
 use std::alloc::Global;
+use tree::{is_ordered, read_tree};
 pub use version::is_long_decimal;
-use whole::read_whole;
+use whole::ordered_text;
 
-/// The object that a request's body says. `kind` and `ns` are the path's, and so is `name`, which a PUT has and a POST doesn't.
-pub fn read_object(
-    alloc: Global,
-    body: &[u8],
+/// Whose body is read: the path's kind and namespace, and its name, which a PUT has and a POST doesn't.
+#[derive(Clone, Copy)]
+struct Asked<'a> {
     kind: Kind,
-    ns: &Text,
-    name: Option<&Text>,
-) -> Result<Read, JsonFault>
-    requires known { is_read kind ≡ true }
-    requires home { is_in_cluster kind ≡ true → ns.now ≡ [] }
-    ensures ok { IfOk result (λ r. IsReadOf (target_at kind ns.now (option_copied name.entry)) body.now r.object r.expected) }
-    ensures fault { IfErr result (λ f. IsFaultOf (target_at kind ns.now (option_copied name.entry)) body.now f) }
-    ensures legal { IfOk result (λ r. IsLegal r.object) }
-{
-    let value = sound_value(alloc, body, kind, ns, name)?;
-    let expected = expected_in(&value, name);
-    let id = id_of(alloc, &value, kind, ns, name)?;
-    let labels = pairs_in(alloc, &value, "labels")?;
-    let annotations = pairs_in(alloc, &value, "annotations")?;
-    let payload = payload_of(alloc, value, kind)?;
-    match Object::new(id, labels, annotations, payload, 0) {
-        Ok(object) => Ok(Read { object, expected }),
-        Err(fault) => Err(JsonFault::Object(fault)),
+    ns: &'a Text,
+    name: Option<&'a Text>,
+}
+
+/// Reads bodies, in memory that it keeps from one to the next.
+#[derive(Drop)]
+pub struct BodyReader {
+    alloc: Global,
+    scratch: Scratch,
+    // Where kept members are made.
+    room: String,
+}
+
+impl BodyReader {
+    /// A reader that has taken no memory yet.
+    pub fn new(alloc: Global) -> BodyReader {
+        BodyReader {
+            alloc,
+            scratch: Scratch::new(alloc),
+            room: String::new(alloc),
+        }
+    }
+
+    /// The object that a request's body says. `kind` and `ns` are the path's, and so is `name`, which a PUT has and a POST doesn't.
+    pub fn read_object(
+        &mut self,
+        body: &[u8],
+        kind: Kind,
+        ns: &Text,
+        name: Option<&Text>,
+    ) -> Result<Read, JsonFault>
+        requires known { is_read kind ≡ true }
+        requires home { is_in_cluster kind ≡ true → ns.now ≡ [] }
+        ensures ok { IfOk result (λ r. IsReadOf (target_at kind ns.now (option_copied name.entry)) body.now r.object r.expected) }
+        ensures fault { IfErr result (λ f. IsFaultOf (target_at kind ns.now (option_copied name.entry)) body.now f) }
+        ensures legal { IfOk result (λ r. IsLegal r.object) }
+    {
+        let Ok(text) = simdutf8::compat::from_utf8(body) else {
+            return Err(JsonFault::NotJson);
+        };
+        let asked = Asked { kind, ns, name };
+        read_text(self.alloc, &mut self.scratch, &mut self.room, text, asked)
     }
 }
 
-/// The value of a body whose members are without fault.
-fn sound_value(
+/// Reads a text as it stands, and puts it in order first where it isn't.
+fn read_text(
     alloc: Global,
-    body: &[u8],
-    kind: Kind,
-    ns: &Text,
-    name: Option<&Text>,
-) -> Result<Value, JsonFault>
-    ensures whole { IfOk result (λ v. IsWhole body.now (view v)) }
-    ensures sound { IfOk result (λ v. member_fault (target_at kind ns.now (option_copied name.entry)) (view v) ≡ None) }
-    ensures fault { IfErr result (λ f. IsFaultOf (target_at kind ns.now (option_copied name.entry)) body.now f) }
+    scratch: &mut Scratch,
+    room: &mut String,
+    text: &str,
+    asked: Asked<'_>,
+) -> Result<Read, JsonFault>
+    requires known { is_read asked.kind ≡ true }
+    requires home { is_in_cluster asked.kind ≡ true → asked.ns.now ≡ [] }
+    ensures ok { IfOk result (λ r. IsReadOf (target_of asked.entry) text.now r.object r.expected) }
+    ensures fault { IfErr result (λ f. IsFaultOf (target_of asked.entry) text.now f) }
+    ensures legal { IfOk result (λ r. IsLegal r.object) }
 {
-    let value = read_whole(alloc, body)?;
-    match check_members(&value, kind, ns, name) {
-        Ok(()) => Ok(value),
+    if let Some(read) = read_as_is(alloc, scratch, room, text, asked)? {
+        return Ok(read);
+    }
+    let ordered = ordered_text(alloc, text)?;
+    read_ordered(alloc, scratch, room, ordered.as_str(), asked)
+}
+
+/// Reads a text that was put in order.
+fn read_ordered(
+    alloc: Global,
+    scratch: &mut Scratch,
+    room: &mut String,
+    text: &str,
+    asked: Asked<'_>,
+) -> Result<Read, JsonFault>
+    requires known { is_read asked.kind ≡ true }
+    requires home { is_in_cluster asked.kind ≡ true → asked.ns.now ≡ [] }
+    requires ordered { IsOrdered asked.kind text.now }
+    ensures ok { IfOk result (λ r. IsReadOf (target_of asked.entry) text.now r.object r.expected) }
+    ensures fault { IfErr result (λ f. IsFaultOf (target_of asked.entry) text.now f) }
+    ensures legal { IfOk result (λ r. IsLegal r.object) }
+{
+    match read_as_is(alloc, scratch, room, text, asked)? {
+        Some(read) => Ok(read),
+        None => unreachable!(),
+    }
+}
+
+/// Reads a text as it stands, unless what is kept in order isn't.
+fn read_as_is(
+    alloc: Global,
+    scratch: &mut Scratch,
+    room: &mut String,
+    text: &str,
+    asked: Asked<'_>,
+) -> Result<Option<Read>, JsonFault>
+    requires known { is_read asked.kind ≡ true }
+    requires home { is_in_cluster asked.kind ≡ true → asked.ns.now ≡ [] }
+    ensures ok { IfOk result (λ o. IfSome o (λ r. IsReadOf (target_of asked.entry) text.now r.object r.expected)) }
+    ensures fault { IfErr result (λ f. IsFaultOf (target_of asked.entry) text.now f) }
+    ensures legal { IfOk result (λ o. IfSome o (λ r. IsLegal r.object)) }
+    ensures unordered { IfOk result (λ o. IfNone o (IsUnordered asked.entry.kind text.now)) }
+{
+    let value = read_tree(alloc, text, scratch)?;
+    if !is_ordered(&value, asked.kind) {
+        return Ok(None);
+    }
+    let said = tell(alloc, room, &value, asked)?;
+    Ok(Some(said))
+}
+
+/// What an ordered tree says.
+fn tell(
+    alloc: Global,
+    room: &mut String,
+    value: &Value<'_>,
+    asked: Asked<'_>,
+) -> Result<Read, JsonFault>
+    requires ordered { is_ordered asked.kind (value_view value.now) ≡ true }
+    requires canonical { IsCanonical (said value.now) }
+    requires shallow { depth (said value.now) ≤ max_depth }
+    requires known { is_read asked.kind ≡ true }
+    requires home { is_in_cluster asked.kind ≡ true → asked.ns.now ≡ [] }
+    ensures ok { IfOk result (λ r. Says (target_of asked.entry) (said value.now) r.object r.expected) }
+    ensures fault { IfErr result (λ f. IsFaultIn (target_of asked.entry) (said value.now) f) }
+    ensures legal { IfOk result (λ r. IsLegal r.object) }
+{
+    match check_members(value, asked.kind, asked.ns, asked.name) {
+        Ok(()) => object_in(alloc, room, value, asked),
         Err(fault) => Err(fault.with_text(alloc)?),
+    }
+}
+
+/// The object that an ordered tree says whose members are without fault.
+fn object_in(
+    alloc: Global,
+    room: &mut String,
+    value: &Value<'_>,
+    asked: Asked<'_>,
+) -> Result<Read, JsonFault>
+    requires ordered { is_ordered asked.kind (value_view value.now) ≡ true }
+    requires canonical { IsCanonical (said value.now) }
+    requires shallow { depth (said value.now) ≤ max_depth }
+    requires known { is_read asked.kind ≡ true }
+    requires home { is_in_cluster asked.kind ≡ true → asked.ns.now ≡ [] }
+    requires sound { member_fault (target_of asked) (said value.now) ≡ None }
+    ensures ok { IfOk result (λ r. Says (target_of asked.entry) (said value.now) r.object r.expected) }
+    ensures fault { IfErr result (λ f. IsFaultIn (target_of asked.entry) (said value.now) f) }
+    ensures legal { IfOk result (λ r. IsLegal r.object) }
+{
+    let Asked { kind, ns, name } = asked;
+    let expected = expected_in(value, name);
+    let id = id_of(alloc, value, kind, ns, name)?;
+    let labels = pairs_in(alloc, value, "labels")?;
+    let annotations = pairs_in(alloc, value, "annotations")?;
+    let payload = payload_of(alloc, room, value, kind)?;
+    match Object::new(id, labels, annotations, payload, 0) {
+        Ok(object) => Ok(Read { object, expected }),
+        Err(fault) => Err(JsonFault::Object(fault)),
     }
 }

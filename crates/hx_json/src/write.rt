@@ -1,9 +1,10 @@
-// Objects, lists of objects, refusals and removals as compact JSON.
+// Objects, lists of objects, refusals and removals as compact JSON, which is appended to a text.
 mod list;
-mod members;
 mod object;
+mod payload;
 mod status;
+pub mod text;
 
-pub use list::write_list;
-pub use object::write_object;
-pub use status::{write_gone, write_status};
+pub use list::push_list;
+pub use object::{push_object, write_object};
+pub use status::{push_gone, push_status};

@@ -1,30 +1,31 @@
 // The faults of bodies, in their order.
-ghost use Rattle.std.specs.Prelude.{◌≡◌, option_copied, option_map};
-ghost use Rattle.serde_json.specs.View.{view, items_view};
+ghost use Rattle.std.specs.Prelude.{◌≡◌, true, option_copied, option_map};
+ghost use Rattle.json.specs.Value.{value_view};
 ghost use Rattle.hx_model.specs.First.{first};
 ghost use Rattle.hx_json.specs.Inside.{fault_in, entry_fault};
 ghost use Rattle.hx_json.specs.Reading.{config_faults, first_of_items, head_faults, hierarchy_faults, is_elsewhere, is_other, is_this, kind_fault, member_fault, metadata_faults, name_fault, own_faults, target_at};
+ghost use Rattle.hx_json.specs.Trees.{has_sorted_metadata, has_sorted_pairs, said, said_items};
 
-use super::members::{entries, in_metadata, member, text_in};
-use super::shapes::{MemberFault, Shape, check, check_in_spec, required};
+use super::members::{get, in_metadata, in_spec, member, text_in};
+use super::shapes::{MemberFault, Shape, check, check_in_spec, check_texts, is_object, required};
 use hx_object::{Kind, Text};
-use serde_json::Value;
+use json::Value;
 
 /// Whether a member is this text.
-fn is_this(found: Option<&Value>, wanted: &str) -> bool
-    ensures { result ≡ is_this wanted.now (option_map (λ v. view v.now) found.entry) }
+fn is_this(found: Option<&Value<'_>>, wanted: &str) -> bool
+    ensures { result ≡ is_this wanted.now (option_map (λ v. said v.now) found.entry) }
 {
     match found {
-        Some(Value::String(text)) => wanted == text.as_str(),
+        Some(Value::String(text)) => wanted == *text,
         _ => false,
     }
 }
 
-fn check_kind(value: &Value, kind: Kind) -> Result<(), MemberFault>
-    ensures { fault_in result ≡ kind_fault kind (view value.now) }
+fn check_kind(value: &Value<'_>, kind: Kind) -> Result<(), MemberFault>
+    ensures { fault_in result ≡ kind_fault kind (said value.now) }
 {
-    if is_this(value.get("apiVersion"), kind.api_version())
-        && is_this(value.get("kind"), kind.name())
+    if is_this(get(value, "apiVersion"), kind.api_version())
+        && is_this(get(value, "kind"), kind.name())
     {
         Ok(())
     } else {
@@ -33,18 +34,19 @@ fn check_kind(value: &Value, kind: Kind) -> Result<(), MemberFault>
 }
 
 /// Refuses a name that has the wrong type, and want of one unless the path has it.
-fn check_name(metadata: &Value, name: Option<&Text>) -> Result<(), MemberFault>
-    ensures { fault_in result ≡ name_fault (option_copied name.entry) (view metadata.now) }
+fn check_name(metadata: &Value<'_>, name: Option<&Text>) -> Result<(), MemberFault>
+    ensures { fault_in result ≡ name_fault (option_copied name.entry) (said metadata.now) }
 {
     if name.is_some() {
         return check(member(metadata, "name"), "metadata.name", Shape::Text);
     }
-    required(metadata.get("name"), "metadata.name", Shape::Text)?;
+    required(get(metadata, "name"), "metadata.name", Shape::Text)?;
     Ok(())
 }
 
-fn check_metadata(metadata: &Value, name: Option<&Text>) -> Result<(), MemberFault>
-    ensures { fault_in result ≡ first (metadata_faults (option_copied name.entry) (view metadata.now)) }
+fn check_metadata(metadata: &Value<'_>, name: Option<&Text>) -> Result<(), MemberFault>
+    requires { has_sorted_pairs (value_view metadata.now) ≡ true }
+    ensures { fault_in result ≡ first (metadata_faults (option_copied name.entry) (said metadata.now)) }
 {
     check_name(metadata, name)?;
     check(
@@ -57,22 +59,19 @@ fn check_metadata(metadata: &Value, name: Option<&Text>) -> Result<(), MemberFau
         "metadata.resourceVersion",
         Shape::Text,
     )?;
-    check(member(metadata, "labels"), "metadata.labels", Shape::Texts)?;
-    check(
-        member(metadata, "annotations"),
-        "metadata.annotations",
-        Shape::Texts,
-    )
+    check_texts(metadata, "labels", "metadata.labels")?;
+    check_texts(metadata, "annotations", "metadata.annotations")
 }
 
-fn check_head(value: &Value, kind: Kind, name: Option<&Text>) -> Result<(), MemberFault>
-    ensures { fault_in result ≡ first (head_faults kind (option_copied name.entry) (view value.now)) }
+fn check_head(value: &Value<'_>, kind: Kind, name: Option<&Text>) -> Result<(), MemberFault>
+    requires { has_sorted_metadata (value_view value.now) ≡ true }
+    ensures { fault_in result ≡ first (head_faults kind (option_copied name.entry) (said value.now)) }
 {
-    if !value.is_object() {
+    if !is_object(value) {
         return Err(MemberFault::WrongType(""));
     }
     check_kind(value, kind)?;
-    let metadata = required(value.get("metadata"), "metadata", Shape::Object)?;
+    let metadata = required(get(value, "metadata"), "metadata", Shape::Object)?;
     check_metadata(metadata, name)
 }
 
@@ -85,8 +84,8 @@ enum EntryMember {
 }
 
 impl EntryMember {
-    fn check(self, entry: &Value) -> Result<(), MemberFault>
-        ensures { fault_in result ≡ entry_fault self (view entry.now) }
+    fn check(self, entry: &Value<'_>) -> Result<(), MemberFault>
+        ensures { fault_in result ≡ entry_fault self (said entry.now) }
     {
         match self {
             EntryMember::Group => check(
@@ -97,7 +96,7 @@ impl EntryMember {
             EntryMember::Mode => check(member(entry, "mode"), "spec.resources.mode", Shape::Mode),
             EntryMember::Resource => {
                 required(
-                    entry.get("resource"),
+                    get(entry, "resource"),
                     "spec.resources.resource",
                     Shape::Text,
                 )?;
@@ -107,8 +106,8 @@ impl EntryMember {
     }
 }
 
-fn check_entries(entries: &[Value], part: EntryMember) -> Result<(), MemberFault>
-    ensures { fault_in result ≡ first_of_items (entry_fault part) (items_view entries.now) }
+fn check_entries(entries: &[Value<'_>], part: EntryMember) -> Result<(), MemberFault>
+    ensures { fault_in result ≡ first_of_items (entry_fault part) (said_items entries.now) }
 {
     for entry in entries {
         part.check(entry)?;
@@ -116,18 +115,20 @@ fn check_entries(entries: &[Value], part: EntryMember) -> Result<(), MemberFault
     Ok(())
 }
 
-fn check_config(value: &Value) -> Result<(), MemberFault>
-    ensures { fault_in result ≡ first (config_faults (view value.now)) }
+fn check_config(value: &Value<'_>) -> Result<(), MemberFault>
+    ensures { fault_in result ≡ first (config_faults (said value.now)) }
 {
     check_in_spec(value, "resources", "spec.resources", Shape::Entries)?;
-    let entries = entries(value);
+    let Some(Value::Array(entries)) = in_spec(value, "resources") else {
+        return Ok(());
+    };
     check_entries(entries, EntryMember::Group)?;
     check_entries(entries, EntryMember::Resource)?;
     check_entries(entries, EntryMember::Mode)
 }
 
-fn check_hierarchy(value: &Value) -> Result<(), MemberFault>
-    ensures { fault_in result ≡ first (hierarchy_faults (view value.now)) }
+fn check_hierarchy(value: &Value<'_>) -> Result<(), MemberFault>
+    ensures { fault_in result ≡ first (hierarchy_faults (said value.now)) }
 {
     check_in_spec(value, "parent", "spec.parent", Shape::Text)?;
     check_in_spec(
@@ -139,8 +140,8 @@ fn check_hierarchy(value: &Value) -> Result<(), MemberFault>
 }
 
 /// The faults of the members that a kind has beside those of all kinds.
-fn check_own(value: &Value, kind: Kind) -> Result<(), MemberFault>
-    ensures { fault_in result ≡ first (own_faults kind (view value.now)) }
+fn check_own(value: &Value<'_>, kind: Kind) -> Result<(), MemberFault>
+    ensures { fault_in result ≡ first (own_faults kind (said value.now)) }
 {
     match kind {
         Kind::HncConfiguration => check_config(value),
@@ -151,8 +152,8 @@ fn check_own(value: &Value, kind: Kind) -> Result<(), MemberFault>
 }
 
 /// Whether a member is a text and isn't the one of the path.
-fn is_other(path: &Text, found: Option<&Value>) -> bool
-    ensures { result ≡ is_other path.now (option_map (λ v. view v.now) found.entry) }
+fn is_other(path: &Text, found: Option<&Value<'_>>) -> bool
+    ensures { result ≡ is_other path.now (option_map (λ v. said v.now) found.entry) }
 {
     match text_in(found) {
         Some(given) => given != path.as_str(),
@@ -160,8 +161,8 @@ fn is_other(path: &Text, found: Option<&Value>) -> bool
     }
 }
 
-fn is_elsewhere(value: &Value, ns: &Text, name: Option<&Text>) -> bool
-    ensures { result ≡ is_elsewhere ns.now (option_copied name.entry) (view value.now) }
+fn is_elsewhere(value: &Value<'_>, ns: &Text, name: Option<&Text>) -> bool
+    ensures { result ≡ is_elsewhere ns.now (option_copied name.entry) (said value.now) }
 {
     if let Some(name) = name {
         if is_other(name, in_metadata(value, "name")) {
@@ -173,12 +174,13 @@ fn is_elsewhere(value: &Value, ns: &Text, name: Option<&Text>) -> bool
 
 /// The first fault of what a body's members are.
 pub fn check_members(
-    value: &Value,
+    value: &Value<'_>,
     kind: Kind,
     ns: &Text,
     name: Option<&Text>,
 ) -> Result<(), MemberFault>
-    ensures { fault_in result ≡ member_fault (target_at kind ns.now (option_copied name.entry)) (view value.now) }
+    requires { has_sorted_metadata (value_view value.now) ≡ true }
+    ensures { fault_in result ≡ member_fault (target_at kind ns.now (option_copied name.entry)) (said value.now) }
 {
     check_head(value, kind, name)?;
     check_own(value, kind)?;

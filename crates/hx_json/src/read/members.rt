@@ -1,33 +1,44 @@
 // The members of values.
-ghost use Rattle.std.specs.Prelude.{◌≡◌, option_map, codes};
-ghost use Rattle.serde_json.specs.View.{view, items_view};
-ghost use Rattle.hx_json.specs.Reading.{counted_member, in_spec, items_in, metadata_in, text_in, truth_in};
+ghost use Rattle.std.specs.Prelude.{◌≡◌, option_map};
+ghost use Rattle.json.specs.Find as find;
+ghost use Rattle.json.specs.Value.{value_view};
+ghost use Rattle.serde_json.specs.Find.{get};
+ghost use Rattle.hx_json.specs.Reading.{counted_member, in_spec, metadata_in, text_in, truth_in};
+ghost use Rattle.hx_json.specs.Trees.{said};
 
-use serde_json::Value;
+use json::Value;
+
+/// A member.
+pub fn get<'v, 'a>(value: &'v Value<'a>, name: &str) -> Option<&'v Value<'a>>
+    ensures tree { option_map (λ v. value_view v.now) result ≡ find.get name.now (value_view value.now) }
+    ensures said { option_map (λ v. said v.now) result ≡ get name.now (said value.now) }
+{
+    value.get(name)
+}
 
 /// A member that is there and isn't null.
-pub fn member<'a>(value: &'a Value, name: &str) -> Option<&'a Value>
-    ensures { option_map (λ v. view v.now) result ≡ counted_member name.now (view value.now) }
+pub fn member<'v, 'a>(value: &'v Value<'a>, name: &str) -> Option<&'v Value<'a>>
+    ensures { option_map (λ v. said v.now) result ≡ counted_member name.now (said value.now) }
 {
-    match value.get(name) {
+    match get(value, name) {
         None | Some(Value::Null) => None,
         found => found,
     }
 }
 
 /// A member of the metadata.
-pub fn in_metadata<'a>(value: &'a Value, name: &str) -> Option<&'a Value>
-    ensures { option_map (λ v. view v.now) result ≡ counted_member name.now (metadata_in (view value.now)) }
+pub fn in_metadata<'v, 'a>(value: &'v Value<'a>, name: &str) -> Option<&'v Value<'a>>
+    ensures { option_map (λ v. said v.now) result ≡ counted_member name.now (metadata_in (said value.now)) }
 {
-    match value.get("metadata") {
+    match get(value, "metadata") {
         Some(metadata) => member(metadata, name),
         None => None,
     }
 }
 
 /// A member of `spec`.
-pub fn in_spec<'a>(value: &'a Value, name: &str) -> Option<&'a Value>
-    ensures { option_map (λ v. view v.now) result ≡ in_spec name.now (view value.now) }
+pub fn in_spec<'v, 'a>(value: &'v Value<'a>, name: &str) -> Option<&'v Value<'a>>
+    ensures { option_map (λ v. said v.now) result ≡ in_spec name.now (said value.now) }
 {
     match member(value, "spec") {
         Some(spec) => member(spec, name),
@@ -36,31 +47,21 @@ pub fn in_spec<'a>(value: &'a Value, name: &str) -> Option<&'a Value>
 }
 
 /// The text that a member is.
-pub fn text_in(found: Option<&Value>) -> Option<&str>
-    ensures { option_map (λ s. s.now) result ≡ text_in (option_map (λ v. view v.now) found.entry) }
+pub fn text_in<'a>(found: Option<&Value<'a>>) -> Option<&'a str>
+    ensures { option_map (λ s. s.now) result ≡ text_in (option_map (λ v. said v.now) found.entry) }
 {
     match found {
-        Some(value) => value.as_str(),
-        None => None,
+        Some(Value::String(text)) => Some(*text),
+        _ => None,
     }
 }
 
 /// Whether a member is `true`.
-pub fn truth_in(found: Option<&Value>) -> bool
-    ensures { result ≡ truth_in (option_map (λ v. view v.now) found.entry) }
+pub fn truth_in(found: Option<&Value<'_>>) -> bool
+    ensures { result ≡ truth_in (option_map (λ v. said v.now) found.entry) }
 {
     match found {
         Some(Value::Bool(truth)) => *truth,
         _ => false,
-    }
-}
-
-/// What a HNCConfiguration lists.
-pub fn entries(value: &Value) -> &[Value]
-    ensures { items_view result.now ≡ items_in (in_spec (codes "resources") (view value.now)) }
-{
-    match in_spec(value, "resources") {
-        Some(Value::Array(items)) => items.as_slice(),
-        _ => &[],
     }
 }

@@ -1,8 +1,9 @@
-use Rattle.std.proofs.Common.{◌≡◌}
-use Rattle.serde_json.specs.View.{members_view}
+use Rattle.std.proofs.Common.{◌≡◌, drop}
+use Rattle.json.specs.Value.{members_view}
 use Rattle.hx_json.specs.Reading.{are_texts}
+use Rattle.hx_json.specs.Trees.{laid_members}
 use Rattle.hx_json.proofs.read.shapes.are_texts.Given as goal
 
 -- the answer is that of the members to come
 abbrev pub invariant-loop-member : goal.invariant-loop-member
-invariant-loop-member l = are_texts (members_view l.members.entries) ≡ are_texts (members_view l.member-iterator)
+invariant-loop-member l = are_texts (laid_members (members_view l.members)) ≡ are_texts (laid_members (members_view (drop l.member-index l.members)))

@@ -1,0 +1,143 @@
+// Strings, numbers and commas of JSON texts.
+ghost use Rattle.std.specs.Prelude.{◌≡◌, ◌++◌, ◌/◌, ◌%◌, ◌<◌, ◌∷◌, [], encode_utf8, string_bytes, OnOk};
+ghost use Rattle.std.specs.Char.{digit_char};
+ghost use Rattle.std.specs.Fmt.{decimal};
+ghost use Rattle.std.specs.List.{list_all};
+ghost use Rattle.json.specs.Print.{escape, quoted};
+ghost use Rattle.json.specs.Run.{is_plain};
+ghost use Rattle.serde_json.specs.Written.{comma_if};
+ghost use Rattle.hx_object.specs.Kinds.{name_of, api_version_of};
+
+use hx_object::{Kind, NoMemory, Text};
+use itoa::Buffer;
+
+/// Appends a text as it is.
+pub fn push(out: &mut String, text: &str) -> Result<(), NoMemory>
+    ensures { OnOk result (string_bytes out.new ≡ string_bytes out.old ++ text.now) }
+{
+    Ok(out.push_str(text)?)
+}
+
+/// Appends a comma, where something stands before.
+pub fn push_comma_if(out: &mut String, later: bool) -> Result<(), NoMemory>
+    ensures { OnOk result (string_bytes out.new ≡ string_bytes out.old ++ comma_if later) }
+{
+    push(out, if later { "," } else { "" })
+}
+
+/// Appends a text in quotes.
+pub fn push_quoted(out: &mut String, text: &str) -> Result<(), NoMemory>
+    ensures { OnOk result (string_bytes out.new ≡ string_bytes out.old ++ quoted text.now) }
+{
+    push(out, "\"")?;
+    push_inside(out, text)?;
+    push(out, "\"")
+}
+
+/// Appends a text in quotes.
+pub fn push_text(out: &mut String, text: &Text) -> Result<(), NoMemory>
+    ensures { OnOk result (string_bytes out.new ≡ string_bytes out.old ++ quoted text.now) }
+{
+    push_quoted(out, text.as_str())
+}
+
+/// Appends the version of a kind's group in quotes.
+pub fn push_api_version(out: &mut String, kind: Kind) -> Result<(), NoMemory>
+    ensures { OnOk result (string_bytes out.new ≡ string_bytes out.old ++ quoted (api_version_of kind)) }
+{
+    push_quoted(out, kind.api_version())
+}
+
+/// Appends the name of a kind in quotes.
+pub fn push_kind(out: &mut String, kind: Kind) -> Result<(), NoMemory>
+    ensures { OnOk result (string_bytes out.new ≡ string_bytes out.old ++ quoted (name_of kind)) }
+{
+    push_quoted(out, kind.name())
+}
+
+/// Appends a number in quotes.
+pub fn push_quoted_number(out: &mut String, number: u64) -> Result<(), NoMemory>
+    ensures { OnOk result (string_bytes out.new ≡ string_bytes out.old ++ quoted (decimal number)) }
+{
+    push_quoted(out, Buffer::new().format(number))
+}
+
+/// Appends a number.
+pub fn push_number(out: &mut String, number: u64) -> Result<(), NoMemory>
+    ensures { OnOk result (string_bytes out.new ≡ string_bytes out.old ++ decimal number) }
+{
+    push(out, Buffer::new().format(number))
+}
+
+/// Appends what stands between quotes for a text.
+#[tactic(auto, using(crate::proofs::Escapes::plain_bytes))]
+fn push_inside(out: &mut String, text: &str) -> Result<(), NoMemory>
+    ensures { OnOk result (string_bytes out.new ≡ string_bytes out.old ++ escape text.now) }
+{
+    if are_plain(text.as_bytes()) {
+        push(out, text)
+    } else {
+        push_escaped(out, text)
+    }
+}
+
+/// Whether none of the bytes wants an escape.
+fn are_plain(bytes: &[u8]) -> bool
+    ensures { result ≡ list_all is_plain bytes.now }
+{
+    bytes.iter().all(|byte| is_plain(*byte))
+}
+
+fn is_plain(byte: u8) -> bool
+    ensures { result ≡ is_plain byte }
+{
+    !(byte == b'"' || byte == b'\\' || byte < 32)
+}
+
+fn push_escaped(out: &mut String, text: &str) -> Result<(), NoMemory>
+    ensures { OnOk result (string_bytes out.new ≡ string_bytes out.old ++ escape text.now) }
+{
+    for c in text.chars() {
+        push_char(out, c)?;
+    }
+    Ok(())
+}
+
+#[tactic(auto, using(crate::proofs::Escapes::high_char, crate::proofs::Escapes::plain_char), unfolding(json::specs::Print::escape_byte))]
+fn push_char(out: &mut String, c: char) -> Result<(), NoMemory>
+    ensures { OnOk result (string_bytes out.new ≡ string_bytes out.old ++ escape (encode_utf8 c)) }
+{
+    match c {
+        '"' => push(out, "\\\""),
+        '\\' => push(out, "\\\\"),
+        '\u{8}' => push(out, "\\b"),
+        '\u{c}' => push(out, "\\f"),
+        '\n' => push(out, "\\n"),
+        '\r' => push(out, "\\r"),
+        '\t' => push(out, "\\t"),
+        _ if c < ' ' => push_control(out, c as u32 as u8),
+        _ => Ok(out.push(c)?),
+    }
+}
+
+/// Appends a control character by its number.
+fn push_control(out: &mut String, byte: u8) -> Result<(), NoMemory>
+    requires { byte < 32 }
+    ensures { OnOk result (string_bytes out.new ≡ string_bytes out.old ++ (92 ∷ 117 ∷ 48 ∷ 48 ∷ digit_char (byte / 16) ∷ digit_char (byte % 16) ∷ [])) }
+{
+    push(out, "\\u00")?;
+    push_digit(out, byte / 16)?;
+    push_digit(out, byte % 16)
+}
+
+fn push_digit(out: &mut String, digit: u8) -> Result<(), NoMemory>
+    requires { digit < 16 }
+    ensures { OnOk result (string_bytes out.new ≡ string_bytes out.old ++ (digit_char digit ∷ [])) }
+{
+    let byte = if digit < 10 {
+        b'0' + digit
+    } else {
+        b'a' - 10 + digit
+    };
+    Ok(out.push(byte as char)?)
+}
