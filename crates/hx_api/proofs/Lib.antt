@@ -1,9 +1,6 @@
-pub mod Fits
-pub mod Search
-pub mod Pieces
-pub mod Named
-pub mod Table
 pub mod Segments
 pub mod Reading
 pub mod Scopes
+pub mod Cuts
+pub mod Said
 pub mod Examples

@@ -3,12 +3,24 @@
 --     parts_of_version       the parts of an `apiVersion` that a path has
 --     FitsScope              objects of the cluster have no namespace
 --     IsServedForm           what is written or removed may be
-use Rattle.std.specs.Prelude.{◌≡◌, ℕ, true, false, List, [], ◌∷◌, None, option_map}
+--     name_of parameter      its name
+--     said_by query          what the first values of a query's parameters say
+--     over x y               what two queries say, one behind the other
+use Rattle.std.specs.Prelude.{◌≡◌, ℕ, Bool, true, false, not, List, [], ◌∷◌, codes, Option, None, option_map}
+use Rattle.std.specs.Option.{option_or}
 use Rattle.std.specs.Borrow.{Bor}
+use Rattle.std.specs.Str.{bytes_eq}
 use Rattle.hx_object.specs.Kinds.{is_in_cluster, is_namespace}
+use Rattle.hx_object.specs.Pairs.{value_of}
+use Rattle.hx_json.specs.Reading.{is_long_decimal}
 use Rattle.hx_model.specs.Serving.{is_written}
+use Rattle.hx_api.specs.Paths.{is_blank}
+use Rattle.hx_api.specs.Queries.{Parameters}
 use Rattle.hx_api.specs.declared.method.Method.{Method}
 use Rattle.hx_api.specs.declared.method.Method.TheVariants.{Post, Put, Delete}
+use Rattle.hx_api.specs.declared.query.Parameter.{Parameter}
+use Rattle.hx_api.specs.declared.query.Parameter.TheVariants.{Watch, FieldSelector, DryRun, Continue, LabelSelector}
+use Rattle.hx_api.specs.declared.query.Said.{Said}
 use Rattle.hx_api.specs.declared.resource_path.ResourcePath.{ResourcePath}
 use Rattle.hx_api.specs.declared.resource_path.ResourcePath.TheVariants.{Events, Collection, Object}
 use Rattle.hx_api.specs.declared.served.Version.{Version}
@@ -37,3 +49,53 @@ IsServedForm Post (Collection kind ns) = is_written kind ≡ true
 IsServedForm Put (Object kind ns name) = is_written kind ≡ true
 IsServedForm Delete (Object kind ns name) = is_namespace kind ≡ false
 IsServedForm method resource = Unit {0}
+
+-- ---- queries
+
+-- the name of a parameter
+abbrev pub name_of : Parameter → List ℕ
+name_of Watch = codes "watch"
+name_of FieldSelector = codes "fieldSelector"
+name_of DryRun = codes "dryRun"
+name_of Continue = codes "continue"
+name_of LabelSelector = codes "labelSelector"
+
+-- the value isn't empty
+abbrev pub is_filled : List ℕ → Bool
+is_filled value = not (is_blank value)
+
+-- what the first value of a parameter says by a test, where it has one
+abbrev pub first_by : (List ℕ → Bool) → List ℕ → Parameters → Option Bool
+first_by test name query = option_map test (value_of query name)
+
+-- what the first values of a query's parameters say
+unfoldable pub said_by : Parameters → Said
+said_by query = record {
+  admission = first_by (λ value. bytes_eq value (codes "skip")) (codes "admission") query;
+  since = first_by is_long_decimal (codes "since") query;
+  watch = first_by is_filled (codes "watch") query;
+  field_selector = first_by is_filled (codes "fieldSelector") query;
+  dry_run = first_by is_filled (codes "dryRun") query;
+  continued = first_by is_filled (codes "continue") query;
+  label_selector = first_by is_filled (codes "labelSelector") query;
+}
+
+-- what they say of a parameter: whether its first value isn't empty
+abbrev pub given_in : Said → Parameter → Option Bool
+given_in said Watch = said.watch
+given_in said FieldSelector = said.field_selector
+given_in said DryRun = said.dry_run
+given_in said Continue = said.continued
+given_in said LabelSelector = said.label_selector
+
+-- what two queries say, one behind the other
+unfoldable pub over : Said → Said → Said
+over x y = record {
+  admission = option_or x.admission y.admission;
+  since = option_or x.since y.since;
+  watch = option_or x.watch y.watch;
+  field_selector = option_or x.field_selector y.field_selector;
+  dry_run = option_or x.dry_run y.dry_run;
+  continued = option_or x.continued y.continued;
+  label_selector = option_or x.label_selector y.label_selector;
+}

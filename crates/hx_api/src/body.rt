@@ -6,10 +6,9 @@ ghost use Rattle.hx_model.specs.Serving.{IsServedAsk, is_written};
 ghost use Rattle.hx_api.specs.Asks.{created, replaced};
 ghost use Rattle.hx_api.specs.Bodies.{object_refusal, read_body, refusal_of};
 
-use hx_json::{JsonFault, read_object};
+use hx_json::{BodyReader, JsonFault};
 use hx_model::{Ask, Refusal};
 use hx_object::{Id, Kind, ObjectFault, Text};
-use std::alloc::Global;
 
 fn object_refusal(fault: ObjectFault) -> Refusal
     ensures { result ≡ object_refusal fault }
@@ -41,14 +40,20 @@ fn refusal_of(kind: Kind, fault: JsonFault) -> Refusal
 }
 
 /// To store the object that a body says.
-pub fn create(alloc: Global, kind: Kind, ns: &Text, skip: bool, body: &[u8]) -> Result<Ask, Refusal>
+pub fn create(
+    reader: &mut BodyReader,
+    kind: Kind,
+    ns: &Text,
+    skip: bool,
+    body: &[u8],
+) -> Result<Ask, Refusal>
     requires written { is_written kind ≡ true }
     requires namespace { is_in_cluster kind ≡ true → ns.now ≡ [] }
     ensures ok { IfOk result (λ ask. created kind skip (read_body (target_at kind ns.now None) body.now) ≡ Ok ask) }
     ensures refused { IfErr result (λ refusal. (refusal ≡ Refusal.NoMemory) ⊎ (created kind skip (read_body (target_at kind ns.now None) body.now) ≡ Err refusal)) }
     ensures served { IfOk result IsServedAsk }
 {
-    match read_object(alloc, body, kind, ns, None) {
+    match reader.read_object(body, kind, ns, None) {
         Ok(read) => Ok(Ask::Create {
             object: read.object,
             skip,
@@ -58,14 +63,14 @@ pub fn create(alloc: Global, kind: Kind, ns: &Text, skip: bool, body: &[u8]) -> 
 }
 
 /// To store the object that a body says in place of the one that is there.
-pub fn replace(alloc: Global, id: &Id, skip: bool, body: &[u8]) -> Result<Ask, Refusal>
+pub fn replace(reader: &mut BodyReader, id: &Id, skip: bool, body: &[u8]) -> Result<Ask, Refusal>
     requires written { is_written id.now.kind ≡ true }
     requires namespace { is_in_cluster id.now.kind ≡ true → id.now.ns ≡ [] }
     ensures ok { IfOk result (λ ask. replaced id.now.kind skip (read_body (target_at id.now.kind id.now.ns (Some id.now.name)) body.now) ≡ Ok ask) }
     ensures refused { IfErr result (λ refusal. (refusal ≡ Refusal.NoMemory) ⊎ (replaced id.now.kind skip (read_body (target_at id.now.kind id.now.ns (Some id.now.name)) body.now) ≡ Err refusal)) }
     ensures served { IfOk result IsServedAsk }
 {
-    match read_object(alloc, body, id.kind, &id.ns, Some(&id.name)) {
+    match reader.read_object(body, id.kind, &id.ns, Some(&id.name)) {
         Ok(read) => Ok(Ask::Replace {
             object: read.object,
             expected: read.expected,

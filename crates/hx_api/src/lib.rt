@@ -5,13 +5,13 @@
 
 mod body;
 mod method;
+mod parts;
 mod query;
 mod reply;
 mod request;
 mod resource_path;
-mod routes;
 mod served;
 
 pub use method::Method;
-pub use reply::{Reply, reply_to, write_answer};
-pub use routes::Routes;
+pub use reply::{Reply, push_body, status_of, write_answer};
+pub use request::RequestReader;

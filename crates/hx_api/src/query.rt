@@ -1,10 +1,11 @@
 // The parameters of a query.
-ghost use Rattle.std.specs.Prelude.{◌≡◌, IfOk, codes, option_copied};
-ghost use Rattle.hx_api.specs.Queries.{bad_parameter, is_given, is_other_admission, is_since, is_skip, parameters_of, path_of, query_of};
+ghost use Rattle.std.specs.Prelude.{◌≡◌, ◌∷◌, IfOk, codes, option_copied};
+ghost use Rattle.hx_api.specs.Inside.{given_in, is_filled, name_of, over, said_by};
+ghost use Rattle.hx_api.specs.Queries.{Parameters, bad_parameter, is_given, is_other_admission, is_since, is_skip, parameters_of, path_of, query_of};
 ghost use Rattle.hx_object.specs.Pairs.{value_of};
 
 use hx_json::is_long_decimal;
-use hx_object::{NoMemory, Text};
+use hx_object::NoMemory;
 use std::alloc::Global;
 use std::marker::Model;
 
@@ -19,77 +20,153 @@ pub fn cut(target: &str) -> (&str, &str)
     }
 }
 
-/// The parameters of a query in order, each a name and a value, form decoded.
-#[derive(Drop)]
-pub struct Query {
-    pairs: Vec<(Text, Text)>,
+/// What the parameters of a query say: each that counts by its first value, `None` where it has none.
+#[derive(Clone, Copy)]
+pub struct Said {
+    /// Whether it is `skip`.
+    admission: Option<bool>,
+    /// Whether it is a number.
+    since: Option<bool>,
+    /// Whether it isn't empty, and so for those below.
+    watch: Option<bool>,
+    field_selector: Option<bool>,
+    dry_run: Option<bool>,
+    continued: Option<bool>,
+    label_selector: Option<bool>,
 }
 
-impl Model for Query {
-    ghost use Rattle.hx_api.specs.Queries.{Parameters};
+impl Said {
+    const NOTHING: Said = Said {
+        admission: None,
+        since: None,
+        watch: None,
+        field_selector: None,
+        dry_run: None,
+        continued: None,
+        label_selector: None,
+    };
+
+    /// What is said with one more parameter behind the others.
+    fn followed(self, name: &str, value: &str) -> Said
+        ensures { (rest : Parameters) → over result (said_by rest) ≡ over self (said_by ((name.now, value.now) ∷ rest)) }
+    {
+        let given = Some(is_filled(value));
+        match name {
+            "admission" => Said {
+                admission: self.admission.or(Some(value == "skip")),
+                ..self
+            },
+            "since" => Said {
+                since: self.since.or(Some(is_long_decimal(value.as_bytes()))),
+                ..self
+            },
+            "watch" => Said {
+                watch: self.watch.or(given),
+                ..self
+            },
+            "fieldSelector" => Said {
+                field_selector: self.field_selector.or(given),
+                ..self
+            },
+            "dryRun" => Said {
+                dry_run: self.dry_run.or(given),
+                ..self
+            },
+            "continue" => Said {
+                continued: self.continued.or(given),
+                ..self
+            },
+            "labelSelector" => Said {
+                label_selector: self.label_selector.or(given),
+                ..self
+            },
+            _ => self,
+        }
+    }
+
+    /// Whether the first value of a parameter isn't empty.
+    fn given(self, parameter: Parameter) -> Option<bool>
+        ensures { result ≡ given_in self parameter }
+    {
+        match parameter {
+            Parameter::Watch => self.watch,
+            Parameter::FieldSelector => self.field_selector,
+            Parameter::DryRun => self.dry_run,
+            Parameter::Continue => self.continued,
+            Parameter::LabelSelector => self.label_selector,
+        }
+    }
+}
+
+fn is_filled(value: &str) -> bool
+    ensures { result ≡ is_filled value.now }
+{
+    !value.is_empty()
+}
+
+/// A parameter of which it only counts whether its value is empty.
+#[derive(Clone, Copy)]
+pub enum Parameter {
+    Watch,
+    FieldSelector,
+    DryRun,
+    Continue,
+    LabelSelector,
+}
+
+/// A query, read once. Contracts see it as its parameters.
+#[derive(Drop)]
+pub struct Query<'a> {
+    /// What was read. Only contracts speak of it.
+    text: &'a str,
+    said: Said,
+}
+
+impl<'a> Model for Query<'a> {
+    ghost use Rattle.std.specs.Prelude.{◌≡◌};
+    ghost use Rattle.hx_api.specs.Inside.{said_by};
+    ghost use Rattle.hx_api.specs.Queries.{Parameters, parameters_of};
 
     ghost Value = { Parameters };
 
-    ghost view = { λ query. query.pairs.items };
+    ghost view = { λ query. parameters_of query.text.now };
+
+    ghost invariant = { λ query. query.said ≡ said_by (parameters_of query.text.now) };
 }
 
-impl Query {
-    /// The parameters of what stands behind a target's `?`.
-    #[tactic(auto, unfolding(crate::specs::Queries::parameters_of))]
-    pub fn read(alloc: Global, query: &str) -> Result<Query, NoMemory>
+impl<'a> Query<'a> {
+    /// Reads what stands behind a target's `?`. It takes memory only for names and values that have escapes.
+    pub fn read(alloc: Global, query: &'a str) -> Result<Query<'a>, NoMemory>
         ensures { IfOk result (λ read. read ≡ parameters_of query.now) }
     {
-        let mut pairs = Vec::new(alloc);
-        for pair in form_urlencoded::parse(alloc, query.as_bytes()).into_owned() {
-            let (name, value) = pair?;
-            pairs.push((Text::of_string(name), Text::of_string(value)))?;
-        }
-        Ok(Query { pairs })
-    }
-
-    /// The first value of a parameter.
-    fn value(&self, name: &str) -> Option<&str>
-        ensures { option_copied result ≡ value_of self.now name.now }
-    {
-        value_in(self.pairs.as_slice(), name)
+        let said = said_in(alloc, query)?;
+        Ok(Query { text: query, said })
     }
 
     /// Whether a parameter has a value that isn't empty.
-    pub fn is_given(&self, name: &str) -> bool
-        ensures { result ≡ is_given (value_of self.now name.now) }
+    pub fn is_given(&self, parameter: Parameter) -> bool
+        ensures { result ≡ is_given (value_of self.now (name_of parameter)) }
     {
-        match self.value(name) {
-            Some(value) => !value.is_empty(),
-            None => false,
-        }
+        self.said.given(parameter).unwrap_or(false)
     }
 
     /// Whether the rules of admission that may be passed over are to be.
     pub fn is_skip(&self) -> bool
         ensures { result ≡ is_skip (value_of self.now (codes "admission")) }
     {
-        match self.value("admission") {
-            Some(value) => value == "skip",
-            None => false,
-        }
+        self.said.admission.unwrap_or(false)
     }
 
     fn is_other_admission(&self) -> bool
         ensures { result ≡ is_other_admission (value_of self.now (codes "admission")) }
     {
-        match self.value("admission") {
-            Some(value) => value != "skip",
-            None => false,
-        }
+        !self.said.admission.unwrap_or(true)
     }
 
     fn is_since(&self) -> bool
         ensures { result ≡ is_since (value_of self.now (codes "since")) }
     {
-        match self.value("since") {
-            Some(value) => is_long_decimal(value.as_bytes()),
-            None => false,
-        }
+        self.said.since.unwrap_or(false)
     }
 
     /// The first parameter whose value isn't taken, at the feed of events or elsewhere.
@@ -101,13 +178,13 @@ impl Query {
             Some("admission")
         } else if feed && !self.is_since() {
             Some("since")
-        } else if self.is_given("watch") {
+        } else if self.is_given(Parameter::Watch) {
             Some("watch")
-        } else if self.is_given("fieldSelector") {
+        } else if self.is_given(Parameter::FieldSelector) {
             Some("fieldSelector")
-        } else if self.is_given("dryRun") {
+        } else if self.is_given(Parameter::DryRun) {
             Some("dryRun")
-        } else if self.is_given("continue") {
+        } else if self.is_given(Parameter::Continue) {
             Some("continue")
         } else {
             None
@@ -115,13 +192,14 @@ impl Query {
     }
 }
 
-fn value_in<'a>(pairs: &'a [(Text, Text)], name: &str) -> Option<&'a str>
-    ensures { option_copied result ≡ value_of pairs.now name.now }
+/// What the parameters of a query say. One pass over it.
+fn said_in(alloc: Global, query: &str) -> Result<Said, NoMemory>
+    ensures { IfOk result (λ said. said ≡ said_by (parameters_of query.now)) }
 {
-    for pair in pairs {
-        if name == pair.0.as_str() {
-            return Some(pair.1.as_str());
-        }
+    let mut said = Said::NOTHING;
+    for pair in form_urlencoded::parse(alloc, query.as_bytes()) {
+        let (name, value) = pair?;
+        said = said.followed(name.as_str(), value.as_str());
     }
-    None
+    Ok(said)
 }

@@ -1,10 +1,10 @@
 // Answers as replies.
-ghost use Rattle.std.specs.Prelude.{◌≡◌, [], IfOk, IfSome};
+ghost use Rattle.std.specs.Prelude.{◌≡◌, ◌++◌, [], OnOk, string_bytes};
 ghost use Rattle.hx_model.specs.Bodies.{answer_code, answer_text};
 ghost use Rattle.hx_model.specs.Serving.{IsLegalAnswer};
-ghost use Rattle.hx_api.specs.Replies.{Carries, IsReplyTo};
+ghost use Rattle.hx_api.specs.Replies.{IsReplyTo};
 
-use hx_json::{write_gone, write_list, write_object, write_status};
+use hx_json::{push_gone, push_list, push_object, push_status};
 use hx_model::Answer;
 use hx_object::{NoMemory, Text};
 use std::alloc::Global;
@@ -29,7 +29,8 @@ impl Reply {
     }
 }
 
-fn status_of(answer: &Answer) -> u16
+/// The HTTP status of an answer.
+pub fn status_of(answer: &Answer) -> u16
     ensures { result ≡ answer_code answer.now }
 {
     match answer {
@@ -40,36 +41,21 @@ fn status_of(answer: &Answer) -> u16
     }
 }
 
-fn body_of(alloc: Global, answer: &Answer) -> Result<Text, NoMemory>
+/// Appends the body that says an answer. After an error the text may end with a part of it.
+pub fn push_body(out: &mut String, answer: &Answer) -> Result<(), NoMemory>
     requires { IsLegalAnswer answer.now }
-    ensures { IfOk result (λ text. text ≡ answer_text answer.now) }
+    ensures { OnOk result (string_bytes out.new ≡ string_bytes out.old ++ answer_text answer.now) }
 {
     match answer {
-        Answer::One { object, .. } => write_object(alloc, object.object()),
+        Answer::One { object, .. } => push_object(out, object.object()),
         Answer::Many {
             kind,
             objects,
             version,
-        } => write_list(alloc, *kind, objects.as_slice(), *version),
-        Answer::Gone { version } => write_gone(alloc, *version),
-        Answer::Refused(refusal) => write_status(alloc, refusal),
+        } => push_list(out, *kind, objects.as_slice(), *version),
+        Answer::Gone { version } => push_gone(out, *version),
+        Answer::Refused(refusal) => push_status(out, refusal),
     }
-}
-
-/// The reply that carries an answer. A body that was written already, as that of an object which a request stored, is handed in, and isn't written again.
-pub fn reply_to(alloc: Global, answer: &Answer, written: Option<Text>) -> Result<Reply, NoMemory>
-    requires legal { IsLegalAnswer answer.now }
-    requires written { IfSome written (λ body. body ≡ answer_text answer.now) }
-    ensures { IfOk result (Carries answer.now) }
-{
-    let body = match written {
-        Some(body) => body,
-        None => body_of(alloc, answer)?,
-    };
-    Ok(Reply {
-        status: status_of(answer),
-        body,
-    })
 }
 
 /// The reply that carries an answer, or the one for want of memory.
@@ -77,8 +63,12 @@ pub fn write_answer(alloc: Global, answer: &Answer) -> Reply
     requires { IsLegalAnswer answer.now }
     ensures { IsReplyTo answer.now result }
 {
-    match reply_to(alloc, answer, None) {
-        Ok(reply) => reply,
+    let mut body = String::new(alloc);
+    match push_body(&mut body, answer) {
+        Ok(()) => Reply {
+            status: status_of(answer),
+            body: Text::of_string(body),
+        },
         Err(NoMemory) => Reply::no_memory(alloc),
     }
 }

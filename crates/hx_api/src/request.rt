@@ -1,65 +1,79 @@
 // Requests as asks.
-ghost use Rattle.std.specs.Prelude.{◌≡◌, ◌⊎◌, Ok, Err, true, IfOk, IfErr, OnOk};
+ghost use Rattle.std.specs.Prelude.{◌≡◌, ◌⊎◌, Ok, Err, true, IfOk, IfErr};
 ghost use Rattle.hx_model.specs.Serving.{IsServedAsk, is_written};
 ghost use Rattle.hx_api.specs.Asks.{ask_of, namespace, is_feed, is_served, resource_for, ask_at};
 ghost use Rattle.hx_api.specs.Inside.{FitsScope, IsServedForm};
 ghost use Rattle.hx_api.specs.Paths.{resource_of};
 
+use crate::Method;
 use crate::body::{create, replace};
-use crate::query::{Query, cut};
+use crate::parts::resource_of;
+use crate::query::{Parameter, Query, cut};
 use crate::resource_path::{ResourcePath, allows, decoded};
-use crate::{Method, Routes};
+use hx_json::BodyReader;
 use hx_model::{Ask, Refusal};
-use hx_object::{Id, Kind, NoMemory, Text};
+use hx_object::{Id, Kind, Text};
 use std::alloc::Global;
+use std::marker::Model;
 
-impl Routes {
+/// Reads requests, one after another. It keeps the room that reading a body takes.
+#[derive(Drop)]
+pub struct RequestReader {
+    alloc: Global,
+    bodies: BodyReader,
+}
+
+impl Model for RequestReader {
+    ghost Value = { Unit {0} };
+
+    ghost view = { λ reader. tt };
+}
+
+impl RequestReader {
+    /// It takes no memory.
+    pub fn new(alloc: Global) -> RequestReader {
+        RequestReader {
+            alloc,
+            bodies: BodyReader::new(alloc),
+        }
+    }
+
     /// What a request asks, or the first refusal that holds. The bodies of `Get` and `Delete` are ignored.
     #[tactic(auto, using(crate::proofs::Scopes::fits_scope), unfolding(crate::specs::Asks::ask_of))]
-    pub fn read_ask(
-        &self,
-        alloc: Global,
-        method: Method,
-        target: &str,
-        body: &[u8],
-    ) -> Result<Ask, Refusal>
+    pub fn read_ask(&mut self, method: Method, target: &str, body: &[u8]) -> Result<Ask, Refusal>
         ensures ok { IfOk result (λ ask. ask_of method target.now body.now ≡ Ok ask) }
         ensures refused { IfErr result (λ refusal. (refusal ≡ Refusal.NoMemory) ⊎ (ask_of method target.now body.now ≡ Err refusal)) }
         ensures served { IfOk result IsServedAsk }
     {
         let (path, query) = cut(target);
-        let resource = self.resource_for(alloc, method, path)?;
-        let query = Query::read(alloc, query)?;
+        let resource = resource_for(self.alloc, method, path)?;
+        let query = Query::read(self.alloc, query)?;
         if let Some(name) = query.bad_parameter(is_feed(&resource)) {
-            let name = Text::of(alloc, name)?;
+            let name = Text::of(self.alloc, name)?;
             return Err(Refusal::BadQuery { name });
         }
         if !is_served(method, &resource, &query) {
             return Err(Refusal::NotServed);
         }
-        ask_at(alloc, method, resource, query.is_skip(), body)
+        let skip = query.is_skip();
+        ask_at(&mut self.bodies, self.alloc, method, resource, skip, body)
     }
+}
 
-    /// The resource of a request, its segments decoded, if the path is served and takes the method.
-    fn resource_for(
-        &self,
-        alloc: Global,
-        method: Method,
-        path: &str,
-    ) -> Result<ResourcePath<Text>, Refusal>
-        ensures ok { IfOk result (λ resource. resource_for method (resource_of path.now) ≡ Ok resource) }
-        ensures refused { IfErr result (λ refusal. (refusal ≡ Refusal.NoMemory) ⊎ (resource_for method (resource_of path.now) ≡ Err refusal)) }
-    {
-        let Some(resource) = self.resource_of(path) else {
-            return Err(Refusal::NoPath);
-        };
-        if !allows(&resource, method) {
-            return Err(Refusal::NoMethod);
-        }
-        match decoded(alloc, &resource)? {
-            Some(resource) => Ok(resource),
-            None => Err(Refusal::BadPath),
-        }
+/// The resource of a request, its segments decoded, if the path is served and takes the method.
+fn resource_for(alloc: Global, method: Method, path: &str) -> Result<ResourcePath<Text>, Refusal>
+    ensures ok { IfOk result (λ resource. resource_for method (resource_of path.now) ≡ Ok resource) }
+    ensures refused { IfErr result (λ refusal. (refusal ≡ Refusal.NoMemory) ⊎ (resource_for method (resource_of path.now) ≡ Err refusal)) }
+{
+    let Some(resource) = resource_of(path) else {
+        return Err(Refusal::NoPath);
+    };
+    if !allows(&resource, method) {
+        return Err(Refusal::NoMethod);
+    }
+    match decoded(alloc, &resource)? {
+        Some(resource) => Ok(resource),
+        None => Err(Refusal::BadPath),
     }
 }
 
@@ -83,12 +97,12 @@ fn is_written(kind: Kind) -> bool
 }
 
 /// Whether the request's form is served.
-fn is_served(method: Method, resource: &ResourcePath<Text>, query: &Query) -> bool
+fn is_served(method: Method, resource: &ResourcePath<Text>, query: &Query<'_>) -> bool
     ensures { result ≡ is_served method resource.now query.now }
 {
     match (method, resource) {
         (Method::Get, ResourcePath::Events) => false,
-        (Method::Get, ResourcePath::Collection { .. }) => !query.is_given("labelSelector"),
+        (Method::Get, ResourcePath::Collection { .. }) => !query.is_given(Parameter::LabelSelector),
         (Method::Post, ResourcePath::Collection { kind, .. }) => is_written(*kind),
         (Method::Put, ResourcePath::Object { kind, .. }) => is_written(*kind),
         (Method::Delete, ResourcePath::Object { kind, .. }) => *kind != Kind::Namespace,
@@ -97,17 +111,18 @@ fn is_served(method: Method, resource: &ResourcePath<Text>, query: &Query) -> bo
 }
 
 /// The namespace, empty where there is none.
-fn namespace(alloc: Global, ns: Option<Text>) -> Result<Text, NoMemory>
-    ensures { IfOk result (λ text. text ≡ namespace ns) }
+fn namespace(alloc: Global, ns: Option<Text>) -> Text
+    ensures { result ≡ namespace ns }
 {
     match ns {
-        Some(ns) => Ok(ns),
-        None => Text::of(alloc, ""),
+        Some(ns) => ns,
+        None => Text::of_string(String::new(alloc)),
     }
 }
 
 /// The ask of a method at a resource that takes it.
 fn ask_at(
+    reader: &mut BodyReader,
     alloc: Global,
     method: Method,
     resource: ResourcePath<Text>,
@@ -123,21 +138,21 @@ fn ask_at(
     match (method, resource) {
         (Method::Get, ResourcePath::Collection { kind, ns }) => Ok(Ask::List { kind, ns }),
         (Method::Get, ResourcePath::Object { kind, ns, name }) => {
-            let ns = namespace(alloc, ns)?;
+            let ns = namespace(alloc, ns);
             Ok(Ask::Get {
                 id: Id { kind, ns, name },
             })
         }
         (Method::Post, ResourcePath::Collection { kind, ns }) => {
-            let ns = namespace(alloc, ns)?;
-            create(alloc, kind, &ns, skip, body)
+            let ns = namespace(alloc, ns);
+            create(reader, kind, &ns, skip, body)
         }
         (Method::Put, ResourcePath::Object { kind, ns, name }) => {
-            let ns = namespace(alloc, ns)?;
-            replace(alloc, &Id { kind, ns, name }, skip, body)
+            let ns = namespace(alloc, ns);
+            replace(reader, &Id { kind, ns, name }, skip, body)
         }
         (Method::Delete, ResourcePath::Object { kind, ns, name }) => {
-            let ns = namespace(alloc, ns)?;
+            let ns = namespace(alloc, ns);
             Ok(Ask::Delete {
                 id: Id { kind, ns, name },
                 skip,

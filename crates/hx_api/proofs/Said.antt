@@ -1,0 +1,121 @@
+-- What a query says, by its parameters one after another.
+use Rattle.std.proofs.Common.{◌≡◌, ℕ, List, [], ◌∷◌, Bool, true, false, not, Option, Some, None, option_map, unwrap_or, codes, refl, sym, ap, ◌∙◌}
+use Rattle.std.specs.Prelude.{bytes_eq}
+use Rattle.std.specs.Option.{option_or}
+use Rattle.std.proofs.lemmas.Slice.Eq.{bytes_eq-Decides}
+use Rattle.hx_object.specs.Pairs.{value_of}
+use Rattle.hx_json.specs.Reading.{is_long_decimal}
+use Rattle.hx_api.specs.Inside.{given_in, is_filled, name_of, over, said_by}
+use Rattle.hx_api.specs.Queries.{Parameters, is_given, is_other_admission, is_since, is_skip}
+use Rattle.hx_api.specs.declared.query.Parameter.{Parameter}
+use Rattle.hx_api.specs.declared.query.Parameter.TheVariants.{Watch, FieldSelector, DryRun, Continue, LabelSelector}
+use Rattle.hx_api.specs.declared.query.Said.{Said}
+
+-- ---- one more parameter
+
+first_said : (o : Option Bool) (b : Bool) (y : Option Bool) → option_or (option_or o (Some b)) y ≡ option_or o (Some b)
+first_said None b y = refl
+first_said (Some a) b y = refl
+
+pub admission : (x : Said) (value : List ℕ) (rest : Parameters)
+    → over (record x { admission = option_or x.admission (Some (bytes_eq value (codes "skip"))) }) (said_by rest) ≡ over x (said_by ((codes "admission", value) ∷ rest))
+unfolding over said_by
+admission x value rest = rw (first_said x.admission) refl
+
+pub since : (x : Said) (value : List ℕ) (rest : Parameters)
+    → over (record x { since = option_or x.since (Some (is_long_decimal value)) }) (said_by rest) ≡ over x (said_by ((codes "since", value) ∷ rest))
+unfolding over said_by
+since x value rest = rw (first_said x.since) refl
+
+pub watch : (x : Said) (value : List ℕ) (rest : Parameters)
+    → over (record x { watch = option_or x.watch (Some (is_filled value)) }) (said_by rest) ≡ over x (said_by ((codes "watch", value) ∷ rest))
+unfolding over said_by
+watch x value rest = rw (first_said x.watch) refl
+
+pub field_selector : (x : Said) (value : List ℕ) (rest : Parameters)
+    → over (record x { field_selector = option_or x.field_selector (Some (is_filled value)) }) (said_by rest) ≡ over x (said_by ((codes "fieldSelector", value) ∷ rest))
+unfolding over said_by
+field_selector x value rest = rw (first_said x.field_selector) refl
+
+pub dry_run : (x : Said) (value : List ℕ) (rest : Parameters)
+    → over (record x { dry_run = option_or x.dry_run (Some (is_filled value)) }) (said_by rest) ≡ over x (said_by ((codes "dryRun", value) ∷ rest))
+unfolding over said_by
+dry_run x value rest = rw (first_said x.dry_run) refl
+
+pub continued : (x : Said) (value : List ℕ) (rest : Parameters)
+    → over (record x { continued = option_or x.continued (Some (is_filled value)) }) (said_by rest) ≡ over x (said_by ((codes "continue", value) ∷ rest))
+unfolding over said_by
+continued x value rest = rw (first_said x.continued) refl
+
+pub label_selector : (x : Said) (value : List ℕ) (rest : Parameters)
+    → over (record x { label_selector = option_or x.label_selector (Some (is_filled value)) }) (said_by rest) ≡ over x (said_by ((codes "labelSelector", value) ∷ rest))
+unfolding over said_by
+label_selector x value rest = rw (first_said x.label_selector) refl
+
+differs : (name key : List ℕ) → (name ≡ key → ⊥) → bytes_eq key name ≡ false
+differs name key other = by (bytes_eq key name) refl
+  where
+    by : (b : Bool) → bytes_eq key name ≡ b → b ≡ false
+    by true is = absurd (other (sym ((bytes_eq-Decides key name).0 is)))
+    by false is = refl
+
+-- one that doesn't count
+pub no_parameter : (x : Said) (name value : List ℕ) (rest : Parameters)
+    → (name ≡ codes "admission" → ⊥) → (name ≡ codes "since" → ⊥) → (name ≡ codes "watch" → ⊥) → (name ≡ codes "fieldSelector" → ⊥)
+    → (name ≡ codes "dryRun" → ⊥) → (name ≡ codes "continue" → ⊥) → (name ≡ codes "labelSelector" → ⊥) → over x (said_by rest) ≡ over x (said_by ((name, value) ∷ rest))
+unfolding over said_by
+no_parameter x name value rest a b c d e f g =
+    rw (differs name _ a, differs name _ b, differs name _ c, differs name _ d, differs name _ e, differs name _ f, differs name _ g) refl
+
+-- ---- the end
+
+or_none : (o : Option Bool) → option_or o None ≡ o
+or_none None = refl
+or_none (Some b) = refl
+
+pub nothing_behind : (x : Said) → over x (said_by []) ≡ x
+unfolding over said_by
+nothing_behind x =
+    rw (or_none x.admission, or_none x.since, or_none x.watch, or_none x.field_selector, or_none x.dry_run, or_none x.continued, or_none x.label_selector) refl
+
+-- ---- what is asked of it
+
+skips : (o : Option (List ℕ)) → unwrap_or (option_map (λ value. bytes_eq value (codes "skip")) o) false ≡ is_skip o
+skips None = refl
+skips (Some value) = refl
+
+pub skip : (x : Said) (query : Parameters) → x ≡ said_by query → unwrap_or x.admission false ≡ is_skip (value_of query (codes "admission"))
+unfolding said_by
+skip x query e = ap (λ (y : Said). unwrap_or y.admission false) e ∙ skips (value_of query (codes "admission"))
+
+others : (o : Option (List ℕ)) → not (unwrap_or (option_map (λ value. bytes_eq value (codes "skip")) o) true) ≡ is_other_admission o
+others None = refl
+others (Some value) = refl
+
+pub other_admission : (x : Said) (query : Parameters) → x ≡ said_by query → not (unwrap_or x.admission true) ≡ is_other_admission (value_of query (codes "admission"))
+unfolding said_by
+other_admission x query e = ap (λ (y : Said). not (unwrap_or y.admission true)) e ∙ others (value_of query (codes "admission"))
+
+numbers : (o : Option (List ℕ)) → unwrap_or (option_map is_long_decimal o) false ≡ is_since o
+numbers None = refl
+numbers (Some value) = refl
+
+pub number : (x : Said) (query : Parameters) → x ≡ said_by query → unwrap_or x.since false ≡ is_since (value_of query (codes "since"))
+unfolding said_by
+number x query e = ap (λ (y : Said). unwrap_or y.since false) e ∙ numbers (value_of query (codes "since"))
+
+fills : (o : Option (List ℕ)) → unwrap_or (option_map is_filled o) false ≡ is_given o
+fills None = refl
+fills (Some []) = refl
+fills (Some (byte ∷ value)) = refl
+
+said_of : (query : Parameters) (parameter : Parameter) → unwrap_or (given_in (said_by query) parameter) false ≡ is_given (value_of query (name_of parameter))
+unfolding said_by
+said_of query Watch = fills (value_of query (codes "watch"))
+said_of query FieldSelector = fills (value_of query (codes "fieldSelector"))
+said_of query DryRun = fills (value_of query (codes "dryRun"))
+said_of query Continue = fills (value_of query (codes "continue"))
+said_of query LabelSelector = fills (value_of query (codes "labelSelector"))
+
+pub given : (x : Said) (query : Parameters) (parameter : Parameter) → x ≡ said_by query → unwrap_or (given_in x parameter) false ≡ is_given (value_of query (name_of parameter))
+given x query parameter e = ap (λ (y : Said). unwrap_or (given_in y parameter) false) e ∙ said_of query parameter
