@@ -3,13 +3,14 @@ ghost use Rattle.std.specs.Prelude.{◌≡◌, []};
 
 use indexmap::IndexMap;
 use std::alloc::Global;
+use std::hash::RandomState;
 
-/// A map whose keys are texts, and are looked up by `&str`.
-pub(crate) type TextMap<V> = IndexMap<String, V>;
+/// A map whose keys are texts, and are looked up by `&str`. It hashes with keys that are handed in, since strangers choose the texts.
+pub(crate) type TextMap<V> = IndexMap<String, V, RandomState>;
 
 /// An empty map. Every map of a store is made here.
-pub(crate) fn empty_map<V>(alloc: Global) -> TextMap<V>
+pub(crate) fn empty_map<V>(alloc: Global, keys: RandomState) -> TextMap<V>
     ensures { result.entries ≡ [] }
 {
-    IndexMap::new(alloc)
+    IndexMap::with_hasher(alloc, keys)
 }

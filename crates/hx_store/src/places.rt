@@ -7,6 +7,7 @@ use crate::shelves::Shelves;
 use hx_object::{Id, Kind, NoMemory, Shared, Text};
 use std::alloc::Global;
 use std::array;
+use std::hash::RandomState;
 
 /// The places of the objects of all kinds, kind by kind in the order of their numbers.
 #[derive(Drop)]
@@ -16,12 +17,12 @@ pub(crate) struct Places {
 
 impl Places {
     /// No objects.
-    pub(crate) fn new(alloc: Global) -> Places
+    pub(crate) fn new(alloc: Global, keys: RandomState) -> Places
         ensures long { length result.kinds ≡ 14 }
         ensures empty { (i : ℕ) (shelves : Shelves) → slice_get result.kinds i ≡ Some shelves → shelves.shelves.entries ≡ [] }
     {
         Places {
-            kinds: array::from_fn(|_| Shelves::new(alloc)),
+            kinds: array::from_fn(|_| Shelves::new(alloc, keys)),
         }
     }
 

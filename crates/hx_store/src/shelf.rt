@@ -5,6 +5,7 @@ ghost use Rattle.hx_store.specs.Places.{IsShelf, place_in, found, EditsShelf, ma
 use crate::map::{TextMap, empty_map};
 use hx_object::{NoMemory, Shared};
 use std::alloc::Global;
+use std::hash::RandomState;
 
 /// The objects of one kind in one namespace, by their names.
 ///
@@ -16,11 +17,11 @@ pub(crate) struct Shelf {
 
 impl Shelf {
     /// A shelf with one place, which is empty.
-    pub(crate) fn new(alloc: Global, name: &str) -> Result<Shelf, NoMemory>
+    pub(crate) fn new(alloc: Global, keys: RandomState, name: &str) -> Result<Shelf, NoMemory>
         ensures shelf { IfOk result IsShelf }
         ensures places { IfOk result (IsNewShelf name.now) }
     {
-        let mut places = empty_map(alloc);
+        let mut places = empty_map(alloc, keys);
         let _none = places.insert(String::from_str(alloc, name)?, None)?;
         Ok(Shelf { places })
     }

@@ -7,6 +7,7 @@ use crate::map::{TextMap, empty_map};
 use crate::shelf::Shelf;
 use hx_object::{NoMemory, Shared};
 use std::alloc::Global;
+use std::hash::RandomState;
 
 /// The objects of one kind, by their namespaces. No shelf is without places.
 #[derive(Drop)]
@@ -16,11 +17,11 @@ pub(crate) struct Shelves {
 
 impl Shelves {
     /// No objects.
-    pub(crate) fn new(alloc: Global) -> Shelves
+    pub(crate) fn new(alloc: Global, keys: RandomState) -> Shelves
         ensures { result.shelves.entries ≡ [] }
     {
         Shelves {
-            shelves: empty_map(alloc),
+            shelves: empty_map(alloc, keys),
         }
     }
 
@@ -52,14 +53,14 @@ impl Shelves {
         }
     }
 
-    /// Adds a shelf with an empty place.
+    /// Adds a shelf with an empty place, which hashes with the same keys.
     fn add(&mut self, ns: &str, name: &str) -> Result<(), NoMemory>
         requires { shelf_in self.old ns.now ≡ None }
         ensures shelves { AreShelves self.old → AreShelves self.new }
         ensures places { MatchResult result (λ _. EditsShelves made self.old self.new ns.now name.now) (λ _. EditsShelves unchanged self.old self.new ns.now name.now) }
     {
         let alloc = *self.shelves.allocator();
-        let shelf = Shelf::new(alloc, name)?;
+        let shelf = Shelf::new(alloc, *self.shelves.hasher(), name)?;
         let _none = self.shelves.insert(String::from_str(alloc, ns)?, shelf)?;
         Ok(())
     }

@@ -10,6 +10,7 @@ use crate::places::Places;
 use crate::writes::{make_places, make_writes, sweep_places};
 use hx_object::{Id, Kind, NoMemory, Shared, Text};
 use std::alloc::Global;
+use std::hash::RandomState;
 use std::marker::Model;
 use std::mem;
 
@@ -38,14 +39,14 @@ impl Model for Store {
 }
 
 impl Store {
-    /// A store without objects. It takes no memory.
-    pub fn new(alloc: Global, version: u64) -> Store
+    /// A store without objects, whose maps hash with these keys. It takes no memory.
+    pub fn new(alloc: Global, version: u64, keys: RandomState) -> Store
         ensures objects { result.objects ≡ [] }
         ensures version { result.version ≡ version }
         ensures staged { result.staged ≡ [] }
     {
         Store {
-            places: Places::new(alloc),
+            places: Places::new(alloc, keys),
             version,
             staged: Vec::new(alloc),
             alloc,
