@@ -178,3 +178,7 @@ pub any_drop : (t : List ℕ → Bool) (xs : List (List ℕ)) (i : ℕ) (x : Lis
 any_drop t xs i x within is =
     let next : suc i ≡ i + 1 = omega arith in
     ap (list_any t) (drop-cons xs i x within) ∙ ap (λ (y : List ℕ). t y || list_any t (drop (suc i) xs)) (sym is) ∙ ap (λ (k : ℕ). t x || list_any t (drop k xs)) next
+
+-- past one that doesn't pass
+pub any_past : (t : List ℕ → Bool) (xs : List (List ℕ)) (i : ℕ) (x : List ℕ) → i < length xs → x ≡ get_or xs i x → t x ≡ false → list_any t (drop (i + 1) xs) ≡ list_any t (drop i xs)
+any_past t xs i x within is none = sym (any_drop t xs i x within is ∙ ap (λ b. b || list_any t (drop (i + 1) xs)) none)

@@ -1,4 +1,5 @@
 pub mod Nodes
+pub mod Ways
 pub mod Listing
 pub mod Ascending
 pub mod Indexing

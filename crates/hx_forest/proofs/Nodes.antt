@@ -22,6 +22,7 @@ use Rattle.hx_model.specs.Forest.{Forest, is_there, node_of, with_changed}
 use Rattle.hx_model.specs.ForestChanges.{with_node, without_node, forest_from}
 use Rattle.hx_model.proofs.Climbing.{is_same, same_itself}
 use Rattle.hx_model.proofs.Moving.{changed_node}
+use Rattle.hx_model.proofs.Objects.{same_test, swap_tests}
 
 -- ---- the order of names
 
@@ -70,16 +71,6 @@ none_below n (y ∷ f) h =
 
 joined : (q a b : List ℕ) → bytes_eq q a ≡ true → bytes_eq q b ≡ true → bytes_cmp a b ≡ Equal
 joined q a b p r = subst (λ (x : List ℕ). bytes_cmp x b ≡ Equal) (is_same q a p) (subst (λ (x : List ℕ). bytes_cmp q x ≡ Equal) (is_same q b r) (tied_itself name_total q))
-
-swap_tests : {A : Type 0} (a b : Bool) (u v w : A) → (a ≡ true → b ≡ true → ⊥) → cond b v (cond a u w) ≡ cond a u (cond b v w)
-swap_tests true true u v w apart = absurd (apart refl refl)
-swap_tests true false u v w apart = refl
-swap_tests false b u v w apart = refl
-
-same_test : {A : Type 0} (a b : Bool) (u v w : A) → a ≡ b → cond a u w ≡ cond a u (cond b v w)
-same_test true b u v w e = refl
-same_test false true u v w e = absurd (true≢false (sym e))
-same_test false false u v w e = refl
 
 pub node_of-with_node : (n : List ℕ) (node : Node) (f : Forest) (q : List ℕ) → node_of (with_node n node f) q ≡ cond (bytes_eq q n) (Some node) (node_of f q)
 node_of-with_node n node [] q = refl

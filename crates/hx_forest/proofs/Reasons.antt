@@ -1,13 +1,15 @@
 -- Why a namespace is halted.
---     halted_above, not_halted      where the walk up ends, and it has no reason by its parent
---     halted_by                     where it has one
+--     nowhere                       a name without a namespace
+--     halt_walked                   where the walk up ends
+--     endless                       where it doesn't
 --     ring_above                    where the walk up goes in a cycle, and it has no reason by itself
 --     apart_from                    a parent that isn't below a namespace
 use Rattle.std.proofs.Common.{◌≡◌, Bool, true, false, cond, not, ◌&&◌, ◌||◌, Option, Some, None, option_map, List, [], ◌∷◌, ℕ, zero, suc, ◌+◌, ◌<◌, length, is_some, refl, sym, ap, subst, ◌∙◌, inl, inr, arith, true≢false}
-use Rattle.std.specs.Prelude.{IfSome}
+use Rattle.std.specs.Prelude.{IfSome, option_and_then}
 use Rattle.std.specs.Option.{option_map_or}
 use Rattle.std.specs.List.{list_any}
 use Rattle.std.proofs.lemmas.Bool.{cases_Bool}
+use Rattle.std.proofs.lemmas.Option.{same_Some}
 use Rattle.hx_model.specs.First.{so, first, or_else}
 use Rattle.hx_model.specs.declared.node.Node.{Node}
 use Rattle.hx_model.specs.declared.node.Halt.{Halt}
@@ -18,7 +20,7 @@ use Rattle.hx_model.proofs.Climbing.{few, above_chain, itself}
 use Rattle.hx_model.proofs.Parents.{up_to, up_to_all, chain_alone, chain_parent}
 use Rattle.hx_model.proofs.Walking.{walk_halts_above, Ends, past_top, missing, passing, walk_ends_Ends, not_above_parent, no_parent, no_halt_apart, chain_there, chain_missing}
 use Rattle.hx_forest.proofs.Rings.{begins}
-use Rattle.hx_forest.specs.Inside.{halt_under, halt_by, walk_halts_by}
+use Rattle.hx_forest.specs.Inside.{halt_under, halt_by, node_at, nodes_halt}
 
 -- ---- walks that end
 
@@ -49,47 +51,93 @@ own_by f n apart =
     by None = refl
     by (Some p) = at (node_of f p)
 
-same_walks : (left : ℕ) (f : Forest) (next : Option (List ℕ)) (k : ℕ) → Ends f next k → walk_halts left f next ≡ walk_halts_by left f next
-same_walks zero f next k ends = refl
-same_walks (suc left) f None zero past_top = refl
-same_walks (suc left) f None (suc k) ends = elim ends [ ]
-same_walks (suc left) f (Some n) zero (missing out) =
-    ap (λ b. b && (is_some (own_halt_of f n) || walk_halts left f (parent_of f n))) out
-    ∙ sym (ap (λ b. b && (is_some (halt_by f (parent_of f n)) || walk_halts_by left f (parent_of f n))) out)
-same_walks (suc left) f (Some n) (suc k) (passing there ends) =
-    (λ i. is_there f n && (is_some (own_by f n (ends_apart f n (suc k) (passing there ends)) i) || same_walks left f (parent_of f n) k ends i))
+mapped : {A B : Type 0} (g : A → B) (o : Option A) → is_some (option_map g o) ≡ is_some o
+mapped g None = refl
+mapped g (Some a) = refl
 
-ends_above : (f : Forest) (n : List ℕ) (k : ℕ) → Ends f (Some n) k → (j : ℕ) × Ends f (parent_of f n) j
-ends_above f n zero (missing out) = (0, subst (λ (o : Option (List ℕ)). Ends f o 0) (sym (no_parent f n out)) past_top)
-ends_above f n (suc k) (passing there ends) = (k, ends)
-
-by_ancestors : (f : Forest) (n : List ℕ) (b : Bool) (k : ℕ) → Ends f (Some n) k → halt_by f (parent_of f n) ≡ None → walk_halts_by (length f) f (parent_of f n) ≡ b → halt_of f n ≡ or_else (so b Ancestor) None
-by_ancestors f n b k ends none walk =
-    let own : own_halt_of f n ≡ None = own_by f n (ends_apart f n k ends) ∙ none in
-    let above = ends_above f n k ends in
-    ap (λ (o : Option Halt). or_else o (or_else (so (has_halted_ancestor f n) Ancestor) None)) own
-    ∙ ap (λ t. or_else (so t Ancestor) None) (sym (walk_halts_above f n own) ∙ same_walks (length f) f (parent_of f n) above.0 above.1 ∙ walk)
-
--- the walk from n has ended
-abbrev pub HasEnded : Forest → List ℕ → Type 0
-HasEnded f n = (k : ℕ) × (walk_ends (length f + 1) f (Some n) ≡ Some k)
-
-pub has_ended : (f : Forest) (n : List ℕ) → is_some (walk_ends (length f + 1) f (Some n)) ≡ true → HasEnded f n
-has_ended f n h = at (walk_ends (length f + 1) f (Some n)) refl h
+-- a walk by nodes ends where that by names does
+halts_end : (left : ℕ) (f : Forest) (next : Option (List ℕ)) → is_some (nodes_halt left f (node_at f next)) ≡ is_some (walk_ends left f next)
+halts_end zero f next = refl
+halts_end (suc left) f None = refl
+halts_end (suc left) f (Some n) = at (halts_end left f) (node_of f n)
   where
-    at : (o : Option ℕ) → walk_ends (length f + 1) f (Some n) ≡ o → is_some o ≡ true → HasEnded f n
-    at None is e = absurd (true≢false (sym e))
-    at (Some k) is e = (k, is)
+    at : ((next : Option (List ℕ)) → is_some (nodes_halt left f (node_at f next)) ≡ is_some (walk_ends left f next)) → (o : Option Node)
+        → is_some (nodes_halt (suc left) f o) ≡ is_some (cond (is_some o) (option_map (λ k. suc k) (walk_ends left f (option_and_then (λ node. node.parent) o))) (Some 0))
+    at further None = refl
+    at further (Some node) = mapped (λ has. is_some (halt_by f node.parent) || has) (nodes_halt left f (node_at f node.parent)) ∙ further node.parent ∙ sym (mapped (λ k. suc k) (walk_ends left f node.parent))
 
-pub halted_above : (f : Forest) (n : List ℕ) → HasEnded f n → halt_by f (parent_of f n) ≡ None → walk_halts_by (length f) f (parent_of f n) ≡ true → Some Ancestor ≡ halt_of f n
-halted_above f n ended none walk = sym (by_ancestors f n true ended.0 (walk_ends_Ends (length f + 1) f (Some n) ended.0 ended.1) none walk)
+-- one step of it
+nodes_on : (left : ℕ) (f : Forest) (n : List ℕ) → is_there f n ≡ true
+    → nodes_halt (suc left) f (node_of f n) ≡ option_map (λ has. is_some (halt_by f (parent_of f n)) || has) (nodes_halt left f (node_at f (parent_of f n)))
+nodes_on left f n there = at (node_of f n) there
+  where
+    at : (o : Option Node) → is_some o ≡ true
+        → nodes_halt (suc left) f o ≡ (let p = option_and_then (λ node. node.parent) o in option_map (λ has. is_some (halt_by f p) || has) (nodes_halt left f (node_at f p)))
+    at None h = absurd (true≢false (sym h))
+    at (Some node) h = refl
 
-pub not_halted : (f : Forest) (n : List ℕ) → HasEnded f n → halt_by f (parent_of f n) ≡ None → walk_halts_by (length f) f (parent_of f n) ≡ false → None ≡ halt_of f n
-not_halted f n ended none walk = sym (by_ancestors f n false ended.0 (walk_ends_Ends (length f + 1) f (Some n) ended.0 ended.1) none walk)
+same_walks : (left : ℕ) (f : Forest) (next : Option (List ℕ)) (k : ℕ) → Ends f next k → is_some (nodes_halt left f (node_at f next)) ≡ true → nodes_halt left f (node_at f next) ≡ Some (walk_halts left f next)
+same_walks zero f next k ends enough = absurd (true≢false (sym enough))
+same_walks (suc left) f None zero past_top enough = refl
+same_walks (suc left) f None (suc k) ends enough = elim ends [ ]
+same_walks (suc left) f (Some n) zero (missing out) enough = at (node_of f n) out
+  where
+    at : (o : Option Node) → is_some o ≡ false → nodes_halt (suc left) f o ≡ Some (is_some o && (is_some (own_halt_of f n) || walk_halts left f (parent_of f n)))
+    at None h = refl
+    at (Some node) h = absurd (true≢false h)
+same_walks (suc left) f (Some n) (suc k) (passing there ends) enough =
+    let on = nodes_on left f n there in
+    let by = λ (has : Bool). is_some (halt_by f (parent_of f n)) || has in
+    let more = sym (mapped by (nodes_halt left f (node_at f (parent_of f n)))) ∙ sym (ap is_some on) ∙ enough in
+    on ∙ ap (option_map by) (same_walks left f (parent_of f n) k ends more)
+    ∙ (λ i. Some (sym there i && (is_some (sym (own_by f n (ends_apart f n (suc k) (passing there ends))) i) || walk_halts left f (parent_of f n))))
 
-pub halted_by : (f : Forest) (n : List ℕ) (halt : Halt) → HasEnded f n → halt_by f (parent_of f n) ≡ Some halt → Some halt ≡ halt_of f n
-halted_by f n halt ended some =
-    sym (ap (λ (o : Option Halt). or_else o (or_else (so (has_halted_ancestor f n) Ancestor) None)) (own_by f n (ends_apart f n ended.0 (walk_ends_Ends (length f + 1) f (Some n) ended.0 ended.1)) ∙ some))
+by_ancestors : (f : Forest) (n : List ℕ) (b : Bool) → own_halt_of f n ≡ None → walk_halts (length f) f (parent_of f n) ≡ b → halt_of f n ≡ or_else (so b Ancestor) None
+by_ancestors f n b own walk =
+    ap (λ (o : Option Halt). or_else o (or_else (so (has_halted_ancestor f n) Ancestor) None)) own
+    ∙ ap (λ t. or_else (so t Ancestor) None) (sym (walk_halts_above f n own) ∙ walk)
+
+-- a walk that ends tells the reason
+pub halt_walked : (f : Forest) (n : List ℕ) (node : Node) (b : Bool) → node_of f n ≡ Some node → nodes_halt (length f) f (node_at f node.parent) ≡ Some b → first (halt_by f node.parent ∷ so b Ancestor ∷ []) ≡ halt_of f n
+halt_walked f n node b found walk = subst (λ (p : Option (List ℕ)). first (halt_by f p ∷ so b Ancestor ∷ []) ≡ halt_of f n) up (told (halt_by f (parent_of f n)) refl)
+  where
+    up : parent_of f n ≡ node.parent
+    up = ap (λ (o : Option Node). option_and_then (λ node. node.parent) o) found
+
+    above : nodes_halt (length f) f (node_at f (parent_of f n)) ≡ Some b
+    above = subst (λ (p : Option (List ℕ)). nodes_halt (length f) f (node_at f p) ≡ Some b) (sym up) walk
+
+    ended : (k : ℕ) × Ends f (parent_of f n) k
+    ended = at (walk_ends (length f) f (parent_of f n)) refl (sym (halts_end (length f) f (parent_of f n)) ∙ ap is_some above)
+      where
+        at : (o : Option ℕ) → walk_ends (length f) f (parent_of f n) ≡ o → is_some o ≡ true → (k : ℕ) × Ends f (parent_of f n) k
+        at None is h = absurd (true≢false (sym h))
+        at (Some k) is h = (k, walk_ends_Ends (length f) f (parent_of f n) k is)
+
+    own : own_halt_of f n ≡ halt_by f (parent_of f n)
+    own = own_by f n (ends_apart f n (suc ended.0) (passing (ap is_some found) ended.1))
+
+    halts : walk_halts (length f) f (parent_of f n) ≡ b
+    halts = same_Some (walk_halts (length f) f (parent_of f n)) b (sym (same_walks (length f) f (parent_of f n) ended.0 ended.1 (ap is_some above)) ∙ above)
+
+    told : (o : Option Halt) → halt_by f (parent_of f n) ≡ o → first (o ∷ so b Ancestor ∷ []) ≡ halt_of f n
+    told None is = sym (by_ancestors f n b (own ∙ is) halts)
+    told (Some halt) is = sym (ap (λ (o : Option Halt). or_else o (or_else (so (has_halted_ancestor f n) Ancestor) None)) (own ∙ is))
+
+-- a name without a namespace isn't halted
+pub nowhere : (f : Forest) (n : List ℕ) → is_there f n ≡ false → None ≡ halt_of f n
+nowhere f n out = sym (ap (λ (o : Option Halt). or_else o (or_else (so (has_halted_ancestor f n) Ancestor) None)) own ∙ ap (λ xs. or_else (so (list_any (λ a. is_some (own_halt_of f a)) (tail_of xs)) Ancestor) None) (chain_missing f n out))
+  where
+    own : own_halt_of f n ≡ None
+    own = own_by f n (ends_apart f n 0 (missing out)) ∙ ap (halt_by f) (no_parent f n out)
+
+-- a walk by nodes that doesn't end
+pub endless : (f : Forest) (n : List ℕ) (node : Node) → node_of f n ≡ Some node → nodes_halt (length f) f (node_at f node.parent) ≡ None → is_some (walk_ends (length f + 1) f (Some n)) ≡ false
+endless f n node found walk =
+    let one_more : length f + 1 ≡ suc (length f) = omega arith in
+    ap (λ k. is_some (walk_ends k f (Some n))) one_more
+    ∙ ap (λ (o : Option Node). is_some (cond (is_some o) (option_map (λ k. suc k) (walk_ends (length f) f (option_and_then (λ node. node.parent) o))) (Some 0))) found
+    ∙ mapped (λ k. suc k) (walk_ends (length f) f node.parent) ∙ sym (halts_end (length f) f node.parent) ∙ ap is_some walk
 
 -- ---- walks in a cycle
 

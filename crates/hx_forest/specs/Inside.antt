@@ -2,10 +2,11 @@
 --     walk_names          the namespaces that a walk up passes
 --     chain_count         how many members a chain has, in a cycle too
 --     halt_under node     the reason that a namespace has by the node of its parent
---     halt_by             the reason that one has by its parent, which may not be there
---     walk_halts_by       whether a walk up passes a namespace that has such a reason
+--     halt_by, halt_at    the reason that one has by its parent, which may not be there
+--     nodes_end           how many a walk up from a node passes, where it has ended by then
+--     nodes_halt          whether it passes one that has such a reason
 --     is_over, goes_deeper      whether the way down from a name goes on for more than so many steps
-use Rattle.std.specs.Prelude.{ℕ, zero, suc, ◌+◌, Bool, false, not, ◌&&◌, ◌||◌, if◌then◌else◌, List, [], ◌∷◌, length, is_some, Option, Some, None}
+use Rattle.std.specs.Prelude.{ℕ, zero, suc, ◌+◌, Bool, false, not, ◌&&◌, ◌||◌, if◌then◌else◌, List, [], ◌∷◌, length, is_some, Option, Some, None, option_map, option_and_then}
 use Rattle.std.specs.List.{list_any}
 use Rattle.std.specs.Option.{option_map_or}
 use Rattle.std.specs.Str.{bytes_eq}
@@ -32,16 +33,30 @@ chain_count (suc left) f n = if is_there f n then option_map_or (λ p. option_ma
 abbrev pub halt_under : Node → Option Halt
 halt_under node = first (so node.terminating ParentMissing ∷ so node.excluded IllegalParent ∷ [])
 
--- the reason that a namespace has by its parent, which may not be there
-abbrev pub halt_by : Forest → Option (List ℕ) → Option Halt
-halt_by f None = None
-halt_by f (Some p) = option_map_or halt_under (node_of f p) (Some ParentMissing)
+-- the reason that a namespace has by its parent, whose node may not be there
+abbrev pub halt_at : Option (List ℕ) → Option Node → Option Halt
+halt_at None above = None
+halt_at (Some p) above = option_map_or halt_under above (Some ParentMissing)
 
--- whether a walk up passes a namespace that has such a reason
-abbrev pub walk_halts_by : ℕ → Forest → Option (List ℕ) → Bool
-walk_halts_by zero f next = false
-walk_halts_by (suc left) f None = false
-walk_halts_by (suc left) f (Some n) = is_there f n && (is_some (halt_by f (parent_of f n)) || walk_halts_by left f (parent_of f n))
+-- the node of a name that may be none
+abbrev pub node_at : Forest → Option (List ℕ) → Option Node
+node_at f next = option_and_then (node_of f) next
+
+-- the reason by a parent
+abbrev pub halt_by : Forest → Option (List ℕ) → Option Halt
+halt_by f parent = halt_at parent (node_at f parent)
+
+-- how many nodes a walk up from a node passes, where it has ended by then
+abbrev pub nodes_end : ℕ → Forest → Option Node → Option ℕ
+nodes_end zero f next = None
+nodes_end (suc left) f None = Some 0
+nodes_end (suc left) f (Some node) = option_map (λ k. suc k) (nodes_end left f (node_at f node.parent))
+
+-- whether a walk up from a node passes one that has such a reason, where it ends in so many steps
+abbrev pub nodes_halt : ℕ → Forest → Option Node → Option Bool
+nodes_halt zero f next = None
+nodes_halt (suc left) f None = Some false
+nodes_halt (suc left) f (Some node) = option_map (λ has. is_some (halt_by f node.parent) || has) (nodes_halt left f (node_at f node.parent))
 
 -- c isn't top, and the way down from it goes on for so many steps more, where it doesn't come back to top
 abbrev pub is_over : ℕ → Forest → List ℕ → List ℕ → Bool

@@ -1,4 +1,5 @@
 pub mod Names
+pub mod Ways
 pub mod Children
 pub mod Inside
 pub mod Kept

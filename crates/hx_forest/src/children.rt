@@ -10,12 +10,16 @@ use crate::names::Names;
 use hx_object::{NoMemory, Text};
 use indexmap::IndexMap;
 use std::alloc::Global;
+use std::hash::RandomState;
+
+/// A map by names. It hashes with keys that are handed in, since strangers choose the names.
+pub(crate) type NameMap<V> = IndexMap<Text, V, RandomState>;
 
 /// A map by names without entries. All maps of a forest are made here.
-pub(crate) fn map_by_name<V>(alloc: Global) -> IndexMap<Text, V>
+pub(crate) fn map_by_name<V>(alloc: Global, keys: RandomState) -> NameMap<V>
     ensures { result.entries ≡ [] }
 {
-    IndexMap::new(alloc)
+    IndexMap::with_hasher(alloc, keys)
 }
 
 /// A child that is ready to be kept under its parent, with a list to begin where the parent has none.
@@ -50,16 +54,16 @@ impl Link {
 /// The names of children, by the name of the parent.
 #[derive(Drop)]
 pub(crate) struct Children {
-    lists: IndexMap<Text, Names>,
+    lists: NameMap<Names>,
 }
 
 impl Children {
     /// No children. It takes no memory.
-    pub(crate) fn new(alloc: Global) -> Children
+    pub(crate) fn new(alloc: Global, keys: RandomState) -> Children
         ensures { result.lists.entries ≡ [] }
     {
         Children {
-            lists: map_by_name(alloc),
+            lists: map_by_name(alloc, keys),
         }
     }
 

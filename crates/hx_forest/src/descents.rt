@@ -13,7 +13,7 @@ impl Forest {
     pub fn below(&self, name: &Text) -> Result<Vec<Text>, NoMemory>
         ensures { IfOk result (λ names. names.items ≡ subtree_of self.now.nodes name.now) }
     {
-        let mut names = Vec::new(*self.nodes.allocator());
+        let mut names = Vec::new(self.nodes.allocator());
         let Some(_node) = self.node(name) else {
             return Ok(names);
         };

@@ -6,12 +6,13 @@ ghost use Rattle.hx_forest.specs.Children.{children_of};
 ghost use Rattle.hx_forest.specs.Kept.{changed_by_all, MayChangeAll};
 
 use crate::change::Change;
-use crate::children::{Children, map_by_name};
+use crate::children::Children;
+use crate::places::Nodes;
 use crate::prepared::{Prepared, make, prepare, reserve};
 use hx_model::Node;
 use hx_object::{NoMemory, Text};
-use indexmap::IndexMap;
 use std::alloc::Global;
+use std::hash::RandomState;
 use std::marker::Model;
 use std::mem;
 
@@ -20,14 +21,14 @@ use std::mem;
 /// It keeps a node for each namespace, and the children of each name in ascending order, also of one that isn't there. Changes are staged first, with all that they need, and made later without taking memory.
 #[derive(Drop)]
 pub struct Forest {
-    pub(crate) nodes: IndexMap<Text, Node>,
+    pub(crate) nodes: Nodes,
     children: Children,
     staged: Vec<Prepared>,
 }
 
 impl Model for Forest {
-    ghost use Rattle.hx_model.specs.ForestChanges.{forest_from};
     ghost use Rattle.hx_forest.specs.Kept.{ForestView, view_code};
+    ghost use Rattle.hx_forest.specs.Ways.{forest_of};
     ghost use Rattle.hx_forest.specs.Staged.{changes_of};
 
     ghost Value = { ForestView };
@@ -36,20 +37,20 @@ impl Model for Forest {
 
     ghost use Rattle.hx_forest.specs.Invariant.{IsKept};
 
-    ghost view = { λ f. record { nodes = forest_from f.nodes.entries; staged = changes_of f.staged.items } };
+    ghost view = { λ f. record { nodes = forest_of f.nodes; staged = changes_of f.staged.items } };
 
     ghost invariant = { IsKept };
 }
 
 impl Forest {
-    /// A forest without namespaces. It takes no memory.
-    pub fn new(alloc: Global) -> Forest
+    /// A forest without namespaces, whose maps hash with these keys. It takes no memory.
+    pub fn new(alloc: Global, keys: RandomState) -> Forest
         ensures nodes { result.nodes ≡ [] }
         ensures staged { result.staged ≡ [] }
     {
         Forest {
-            nodes: map_by_name(alloc),
-            children: Children::new(alloc),
+            nodes: Nodes::new(alloc, keys),
+            children: Children::new(alloc, keys),
             staged: Vec::new(alloc),
         }
     }
@@ -63,7 +64,7 @@ impl Forest {
         ensures staged { self.new.staged ≡ (if is_ok result then changes.items else []) }
     {
         self.staged.clear();
-        let staged = prepare(*self.nodes.allocator(), changes)?;
+        let staged = prepare(self.nodes.allocator(), changes)?;
         reserve(&mut self.nodes, &mut self.children, staged.as_slice())?;
         self.staged = staged;
         Ok(())
@@ -82,7 +83,7 @@ impl Forest {
         ensures nodes { self.new.nodes ≡ changed_by_all self.old.staged self.old.nodes }
         ensures staged { self.new.staged ≡ [] }
     {
-        let none = Vec::new(*self.nodes.allocator());
+        let none = Vec::new(self.nodes.allocator());
         for prepared in mem::replace(&mut self.staged, none) {
             make(&mut self.nodes, &mut self.children, prepared);
         }
@@ -115,7 +116,7 @@ impl Forest {
     pub fn node(&self, name: &Text) -> Option<&Node>
         ensures { option_copied result ≡ node_of self.now.nodes name.now }
     {
-        self.nodes.get(name)
+        self.nodes.node(name)
     }
 
     /// What a namespace names as its parent.

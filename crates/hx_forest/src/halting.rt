@@ -1,10 +1,14 @@
 // Why namespaces are halted.
-ghost use Rattle.std.specs.Prelude.{◌≡◌, ◌+◌, true, false, Some, is_some, length};
-ghost use Rattle.hx_model.specs.Forest.{own_halt_of, parent_of, halt_of};
+ghost use Rattle.std.specs.Prelude.{◌≡◌, ◌+◌, false, Some, [], ◌∷◌, is_some, length, option_copied, IfSome};
+ghost use Rattle.hx_model.specs.First.{so, first};
+ghost use Rattle.hx_model.specs.Forest.{own_halt_of, halt_of};
 ghost use Rattle.hx_model.specs.Walks.{walk_ends};
-ghost use Rattle.hx_forest.specs.Inside.{halt_by, halt_under, walk_halts_by};
+ghost use Rattle.hx_forest.specs.Inside.{halt_at, halt_under, nodes_halt};
+ghost use Rattle.hx_forest.specs.Ways.{forest_of, node_in, place_of, LeadsUp, AllLeadUp};
+ghost use Rattle.hx_model.specs.declared.node.Halt.TheVariants.{Ancestor};
 
 use crate::forest::Forest;
+use crate::places::{Nodes, Place};
 use hx_model::{Halt, Node};
 use hx_object::Text;
 
@@ -13,33 +17,51 @@ impl Forest {
     pub fn halt(&self, name: &Text) -> Option<Halt>
         ensures { result ≡ halt_of self.now.nodes name.now }
     {
-        match self.walk_len(name) {
-            Some(_) => self.halt_on_path(name),
+        self.nodes.halt(name)
+    }
+}
+
+impl Nodes {
+    /// Why a namespace is halted: the first reason that holds. A walk up that ends meets each member once.
+    pub(crate) fn halt(&self, name: &Text) -> Option<Halt>
+        requires { AllLeadUp self.now }
+        ensures { result ≡ halt_of (forest_of self.now) name.now }
+    {
+        let Some(place) = self.place(name) else {
+            return None;
+        };
+        let above = self.above(place);
+        match self.has_halted(above) {
+            Some(is_below) => halt_or_below(halt_by(&place.node, above), is_below),
             None => self.halt_by_ring(name),
         }
     }
 
-    /// Why a namespace is halted whose walk up ends, so that no member of it is in a cycle.
-    fn halt_on_path(&self, name: &Text) -> Option<Halt>
-        requires { is_some (walk_ends (length self.now.nodes + 1) self.now.nodes (Some name.now)) ≡ true }
-        ensures { result ≡ halt_of self.now.nodes name.now }
+    /// Whether a walk up from a place passes one that has a reason by its parent, where the walk ends.
+    fn has_halted<'a>(&'a self, first: Option<&'a Place>) -> Option<bool>
+        requires ways { AllLeadUp self.now }
+        requires up { IfSome first (λ p. LeadsUp (place_of self.now) p.now) }
+        ensures { result ≡ nodes_halt (length (forest_of self.now)) (forest_of self.now) (node_in (option_copied first.entry)) }
     {
-        match self.halt_by_parent(name) {
-            Some(halt) => Some(halt),
-            None => {
-                if self.is_below_halted(name) {
-                    Some(Halt::Ancestor)
-                } else {
-                    None
-                }
-            }
+        let mut has = false;
+        let mut next = first;
+        let mut left = self.len();
+        while left > 0 {
+            left -= 1;
+            let Some(place) = next else {
+                return Some(has);
+            };
+            next = self.above(place);
+            has = has || halt_by(&place.node, next).is_some();
         }
+        None
     }
 
     /// Why a namespace is halted whose walk up comes to a cycle.
     fn halt_by_ring(&self, name: &Text) -> Option<Halt>
-        requires { is_some (walk_ends (length self.now.nodes + 1) self.now.nodes (Some name.now)) ≡ false }
-        ensures { result ≡ halt_of self.now.nodes name.now }
+        requires ways { AllLeadUp self.now }
+        requires ring { is_some (walk_ends (length (forest_of self.now) + 1) (forest_of self.now) (Some name.now)) ≡ false }
+        ensures { result ≡ halt_of (forest_of self.now) name.now }
     {
         match self.own_halt(name) {
             Some(halt) => Some(halt),
@@ -49,7 +71,8 @@ impl Forest {
 
     /// The reason that a namespace has by itself.
     fn own_halt(&self, name: &Text) -> Option<Halt>
-        ensures { result ≡ own_halt_of self.now.nodes name.now }
+        requires { AllLeadUp self.now }
+        ensures { result ≡ own_halt_of (forest_of self.now) name.now }
     {
         let Some(parent) = self.parent(name) else {
             return None;
@@ -62,40 +85,29 @@ impl Forest {
             Some(node) => halt_under(node),
         }
     }
+}
 
-    /// The reason that a namespace has by its parent, which may be in a cycle with it.
-    fn halt_by_parent(&self, name: &Text) -> Option<Halt>
-        ensures { result ≡ halt_by self.now.nodes (parent_of self.now.nodes name.now) }
-    {
-        let Some(parent) = self.parent(name) else {
-            return None;
-        };
-        match self.node(parent) {
-            None => Some(Halt::ParentMissing),
-            Some(node) => halt_under(node),
-        }
+/// The reason that a namespace has by its parent, whose place is `above` where it is there.
+fn halt_by(node: &Node, above: Option<&Place>) -> Option<Halt>
+    ensures { result ≡ halt_at node.now.parent (node_in (option_copied above.entry)) }
+{
+    if node.parent.is_none() {
+        return None;
     }
+    match above {
+        Some(parent) => halt_under(&parent.node),
+        None => Some(Halt::ParentMissing),
+    }
+}
 
-    /// Whether the walk up from the parent passes a namespace that has a reason by its parent.
-    fn is_below_halted(&self, name: &Text) -> bool
-        ensures { result ≡ walk_halts_by (length self.now.nodes) self.now.nodes (parent_of self.now.nodes name.now) }
-    {
-        let mut next = self.parent(name);
-        let mut left = self.len();
-        while left > 0 {
-            left -= 1;
-            let Some(member) = next else {
-                return false;
-            };
-            let Some(node) = self.node(member) else {
-                return false;
-            };
-            if self.halt_by_parent(member).is_some() {
-                return true;
-            }
-            next = node.parent.as_ref();
-        }
-        false
+/// The reason of a namespace that has one by its parent, or else may be below a halted one.
+fn halt_or_below(halt: Option<Halt>, is_below: bool) -> Option<Halt>
+    ensures { result ≡ first (halt ∷ so is_below Ancestor ∷ []) }
+{
+    if halt.is_none() && is_below {
+        Some(Halt::Ancestor)
+    } else {
+        halt
     }
 }
 

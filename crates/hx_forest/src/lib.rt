@@ -9,6 +9,7 @@ mod descents;
 mod forest;
 mod halting;
 mod names;
+mod places;
 mod prepared;
 mod walks;
 

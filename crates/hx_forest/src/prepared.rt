@@ -2,19 +2,16 @@
 ghost use Rattle.std.specs.Prelude.{◌≡◌, ℕ, ◌+◌, ◌≤◌, true, List, length, option_map, IfOk, OnOk, option_copied};
 ghost use Rattle.std.specs.List.{AllByRecursion};
 ghost use Rattle.indexmap.specs.IndexMap.{spare};
-ghost use Rattle.hx_model.specs.Forest.{is_there, parent_of, with_parent};
-ghost use Rattle.hx_model.specs.ForestChanges.{forest_from, with_terminating, without_node};
 ghost use Rattle.hx_forest.specs.Children.{list_of, IsIndex, Fits};
 ghost use Rattle.hx_forest.specs.Kept.{changed_by, MayChange};
+ghost use Rattle.hx_forest.specs.Ways.{forest_of, AllLeadUp};
 ghost use Rattle.hx_forest.specs.Staged.{left_by, joined_by, place_of, changes_of, IsLeft, IsJoined, StartsEmpty, FitsUnder, IsLinked, IsPrepared};
 
 use crate::change::Change;
 use crate::children::{Children, Link};
-use hx_model::Node;
+use crate::places::Nodes;
 use hx_object::{NoMemory, Text};
-use indexmap::IndexMap;
 use std::alloc::Global;
-use std::mem;
 
 /// A change, with the child that gets a parent by it.
 #[derive(Drop)]
@@ -66,13 +63,14 @@ fn link_to(
 
 /// Makes room for the prepared changes: in both maps, and in each list that a child joins. Where no memory is left, what there is stays.
 pub(crate) fn reserve(
-    nodes: &mut IndexMap<Text, Node>,
+    nodes: &mut Nodes,
     children: &mut Children,
     prepared: &[Prepared],
 ) -> Result<(), NoMemory>
-    ensures nodes { forest_from nodes.new.entries ≡ forest_from nodes.old.entries }
+    ensures nodes { forest_of nodes.new ≡ forest_of nodes.old }
+    ensures ways { AllLeadUp nodes.old → AllLeadUp nodes.new }
     ensures names { (q : List ℕ) → option_map (λ n. n.names) (list_of children.new.lists.entries q) ≡ option_map (λ n. n.names) (list_of children.old.lists.entries q) }
-    ensures node_room { OnOk result (length prepared.now ≤ spare nodes.new) }
+    ensures node_room { OnOk result (length prepared.now ≤ spare nodes.new.places) }
     ensures list_room { OnOk result (length prepared.now ≤ spare children.new.lists) }
     ensures fits { OnOk result (AllByRecursion (λ p. FitsUnder (length prepared.now) children.new.lists.entries p.link) prepared.now) }
 {
@@ -108,22 +106,50 @@ fn reserve_for(children: &mut Children, link: &Option<Link>, room: usize) -> Res
 }
 
 /// Makes a change of nodes, and of the children that follow from them. It takes no memory.
-pub(crate) fn make(nodes: &mut IndexMap<Text, Node>, children: &mut Children, prepared: Prepared)
-    requires may { MayChange prepared.change (forest_from nodes.old.entries) }
-    requires index { IsIndex children.old.lists.entries (forest_from nodes.old.entries) }
+pub(crate) fn make(nodes: &mut Nodes, children: &mut Children, prepared: Prepared)
+    requires may { MayChange prepared.change (forest_of nodes.old) }
+    requires index { IsIndex children.old.lists.entries (forest_of nodes.old) }
     requires ready { IsPrepared 1 children.old.lists.entries prepared }
-    requires node_room { 1 ≤ spare nodes.old }
+    requires node_room { 1 ≤ spare nodes.old.places }
     requires list_room { 1 ≤ spare children.old.lists }
-    ensures nodes { forest_from nodes.new.entries ≡ changed_by prepared.change (forest_from nodes.old.entries) }
-    ensures index { IsIndex children.new.lists.entries (forest_from nodes.new.entries) }
-    ensures node_room { spare nodes.old ≤ spare nodes.new + 1 }
+    ensures nodes { forest_of nodes.new ≡ changed_by prepared.change (forest_of nodes.old) }
+    ensures ways { AllLeadUp nodes.old → AllLeadUp nodes.new }
+    ensures index { IsIndex children.new.lists.entries (forest_of nodes.new) }
+    ensures node_room { spare nodes.old.places ≤ spare nodes.new.places + 1 }
     ensures list_room { spare children.old.lists ≤ spare children.new.lists + 1 }
     ensures fits { (k : ℕ) (q : List ℕ) → StartsEmpty (k + 1) prepared.link → Fits (k + 1) (list_of children.old.lists.entries q) → Fits k (list_of children.new.lists.entries q) }
 {
     let Prepared { change, link } = prepared;
+    let index = index_after(nodes, &change);
     let left = change_nodes(nodes, change);
+    find_ways_to(nodes, children, index);
     unlink(children, left);
     join(children, link);
+}
+
+/// Where a change puts a node: the one that it adds, or the one that fills a gap.
+fn index_after(nodes: &Nodes, change: &Change) -> Option<usize> {
+    match change {
+        Change::Add { name: _, node: _ } => Some(nodes.len()),
+        Change::Remove { name } => nodes.index_of(name),
+        Change::SetParent { name: _, parent: _ } | Change::SetTerminating { name: _ } => None,
+    }
+}
+
+/// Looks up the ways to the node at an index anew. It takes no memory.
+fn find_ways_to(nodes: &mut Nodes, children: &Children, index: Option<usize>)
+    ensures nodes { forest_of nodes.new ≡ forest_of nodes.old }
+    ensures ways { AllLeadUp nodes.old → AllLeadUp nodes.new }
+    ensures room { spare nodes.old.places ≤ spare nodes.new.places }
+{
+    let Some(index) = index else {
+        return;
+    };
+    let Some(name) = nodes.name_at(index) else {
+        return;
+    };
+    let names = children.of(name);
+    nodes.find_ways(names);
 }
 
 /// Takes a child away from a parent. It takes no memory.
@@ -152,60 +178,30 @@ fn join(children: &mut Children, link: Option<Link>)
 }
 
 /// Makes a change of nodes. A child that had a parent and has it no more comes back, after that parent.
-fn change_nodes(nodes: &mut IndexMap<Text, Node>, change: Change) -> Option<(Text, Text)>
-    requires may { MayChange change (forest_from nodes.old.entries) }
-    requires room { 1 ≤ spare nodes.old }
-    ensures nodes { forest_from nodes.new.entries ≡ changed_by change (forest_from nodes.old.entries) }
-    ensures left { result ≡ left_by change (forest_from nodes.old.entries) }
-    ensures room { spare nodes.old ≤ spare nodes.new + 1 }
+fn change_nodes(nodes: &mut Nodes, change: Change) -> Option<(Text, Text)>
+    requires may { MayChange change (forest_of nodes.old) }
+    requires room { 1 ≤ spare nodes.old.places }
+    ensures nodes { forest_of nodes.new ≡ changed_by change (forest_of nodes.old) }
+    ensures ways { AllLeadUp nodes.old → AllLeadUp nodes.new }
+    ensures left { result ≡ left_by change (forest_of nodes.old) }
+    ensures room { spare nodes.old.places ≤ spare nodes.new.places + 1 }
 {
     match change {
         Change::Add { name, node } => {
-            let _none = nodes.insert(name, node).unwrap();
+            nodes.add(name, node);
             None
         }
         Change::SetParent { name, parent } => {
-            let old = set_parent(nodes, &name, parent)?;
+            let old = nodes.set_parent(&name, parent)?;
             Some((old, name))
         }
         Change::SetTerminating { name } => {
-            set_terminating(nodes, &name);
+            nodes.set_terminating(&name);
             None
         }
         Change::Remove { name } => {
-            let old = remove(nodes, &name)?;
+            let old = nodes.remove(&name)?;
             Some((old, name))
         }
     }
-}
-
-/// Gives a namespace another parent, or none, and gives back the one that it had.
-fn set_parent(nodes: &mut IndexMap<Text, Node>, name: &Text, parent: Option<Text>) -> Option<Text>
-    requires { is_there (forest_from nodes.old.entries) name.now ≡ true }
-    ensures nodes { forest_from nodes.new.entries ≡ with_parent name.now parent (forest_from nodes.old.entries) }
-    ensures old { result ≡ parent_of (forest_from nodes.old.entries) name.now }
-    ensures room { spare nodes.old ≤ spare nodes.new }
-{
-    let node = nodes.get_mut(name)?;
-    mem::replace(&mut node.parent, parent)
-}
-
-/// Marks a namespace as terminating.
-fn set_terminating(nodes: &mut IndexMap<Text, Node>, name: &Text)
-    requires { is_there (forest_from nodes.old.entries) name.now ≡ true }
-    ensures nodes { forest_from nodes.new.entries ≡ with_terminating name.now (forest_from nodes.old.entries) }
-    ensures room { spare nodes.old ≤ spare nodes.new }
-{
-    if let Some(node) = nodes.get_mut(name) {
-        node.terminating = true;
-    }
-}
-
-/// Takes a namespace out, and gives back the parent that it had.
-fn remove(nodes: &mut IndexMap<Text, Node>, name: &Text) -> Option<Text>
-    ensures nodes { forest_from nodes.new.entries ≡ without_node name.now (forest_from nodes.old.entries) }
-    ensures old { result ≡ parent_of (forest_from nodes.old.entries) name.now }
-    ensures room { spare nodes.old ≤ spare nodes.new }
-{
-    nodes.swap_remove(name)?.parent
 }

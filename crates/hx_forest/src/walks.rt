@@ -3,8 +3,10 @@ ghost use Rattle.std.specs.Prelude.{◌≡◌, ◌+◌, IfOk, Some, length};
 ghost use Rattle.std.specs.Iterator.{YieldsFirstRef, item_count};
 ghost use Rattle.hx_model.specs.Forest.{depth_of, in_chain, chain_of};
 ghost use Rattle.hx_model.specs.Walks.{walk_to, walk_ends};
+ghost use Rattle.hx_forest.specs.Ways.{forest_of, AllLeadUp};
 
 use crate::forest::Forest;
+use crate::places::Nodes;
 use hx_object::{NoMemory, Text};
 use std::marker::Model;
 
@@ -60,7 +62,7 @@ impl Forest {
     pub fn chain(&self, name: &Text) -> Result<Vec<Text>, NoMemory>
         ensures { IfOk result (λ names. names.items ≡ chain_of self.now.nodes name.now) }
     {
-        let mut names = Vec::new(*self.nodes.allocator());
+        let mut names = Vec::new(self.nodes.allocator());
         for member in self.ancestors(name) {
             names.push(member.clone()?)?;
         }
@@ -78,6 +80,23 @@ impl Forest {
     pub(crate) fn chain_len(&self, name: &Text) -> usize
         ensures { result ≡ length (chain_of self.now.nodes name.now) }
     {
+        self.nodes.chain_len(name)
+    }
+
+    /// Whether a namespace is in the chain of another, which begins with that one itself.
+    pub fn in_chain(&self, name: &Text, above: &Text) -> bool
+        ensures { result ≡ in_chain self.now.nodes name.now above.now }
+    {
+        self.nodes.in_chain(name, above)
+    }
+}
+
+impl Nodes {
+    /// How many members the chain of a namespace has.
+    pub(crate) fn chain_len(&self, name: &Text) -> usize
+        requires { AllLeadUp self.now }
+        ensures { result ≡ length (chain_of (forest_of self.now) name.now) }
+    {
         match self.walk_len(name) {
             Some(len) => len,
             None => self.len_to_ring(name),
@@ -86,7 +105,8 @@ impl Forest {
 
     /// How many members the chain of a namespace has that comes to a cycle: those before the cycle, and those in it.
     fn len_to_ring(&self, name: &Text) -> usize
-        ensures { result ≡ length (chain_of self.now.nodes name.now) }
+        requires { AllLeadUp self.now }
+        ensures { result ≡ length (chain_of (forest_of self.now) name.now) }
     {
         let mut member = name;
         let mut passed = 0;
@@ -110,49 +130,51 @@ impl Forest {
 
     /// How many namespaces the walk up passes until it ends. None where it goes in a cycle.
     pub(crate) fn walk_len(&self, name: &Text) -> Option<usize>
-        ensures { result ≡ walk_ends (length self.now.nodes + 1) self.now.nodes (Some name.now) }
+        requires { AllLeadUp self.now }
+        ensures { result ≡ walk_ends (length (forest_of self.now) + 1) (forest_of self.now) (Some name.now) }
     {
-        let mut next = Some(name);
+        let mut next = self.place(name);
         let mut passed = 0;
         let mut left = self.len() + 1;
         while left > 0 {
             left -= 1;
-            let Some(member) = next else {
-                return Some(passed);
-            };
-            let Some(node) = self.node(member) else {
+            let Some(place) = next else {
                 return Some(passed);
             };
             passed += 1;
-            next = node.parent.as_ref();
+            next = self.above(place);
         }
         None
     }
 
     /// Whether a namespace is in the chain of another, which begins with that one itself.
-    pub fn in_chain(&self, name: &Text, above: &Text) -> bool
-        ensures { result ≡ in_chain self.now.nodes name.now above.now }
+    pub(crate) fn in_chain(&self, name: &Text, above: &Text) -> bool
+        requires { AllLeadUp self.now }
+        ensures { result ≡ in_chain (forest_of self.now) name.now above.now }
     {
         self.steps_to(name, above).is_some()
     }
 
     /// After how many steps the walk up comes to a namespace.
     pub(crate) fn steps_to(&self, name: &Text, above: &Text) -> Option<usize>
-        ensures { result ≡ walk_to (length self.now.nodes) self.now.nodes (Some name.now) above.now }
+        requires { AllLeadUp self.now }
+        ensures { result ≡ walk_to (length (forest_of self.now)) (forest_of self.now) (Some name.now) above.now }
     {
         let count = self.len();
         let mut next = Some(name);
+        let mut at = self.place(name);
         for steps in 0..count {
             let Some(member) = next else {
                 return None;
             };
-            let Some(node) = self.node(member) else {
+            let Some(place) = at else {
                 return None;
             };
             if member.as_str() == above.as_str() {
                 return Some(steps);
             }
-            next = node.parent.as_ref();
+            next = place.node.parent.as_ref();
+            at = self.above(place);
         }
         None
     }

@@ -1,7 +1,7 @@
-use Rattle.std.proofs.Common.{◌+◌, sym, subst, Option}
+use Rattle.std.proofs.Common.{◌+◌, ◌∙◌, sym, subst, Option}
 use Rattle.hx_model.specs.Forest.{Forest}
-use Rattle.hx_model.specs.ForestChanges.{forest_from}
 use Rattle.hx_forest.specs.Children.{IsIndex}
+use Rattle.hx_forest.specs.Ways.{nodes_of, forest_of}
 use Rattle.hx_forest.specs.Staged.{Place, IsLeft, IsJoined}
 use Rattle.hx_forest.proofs.Nodes.{ascends-forest}
 use Rattle.hx_forest.proofs.Changing.{index_changed}
@@ -10,12 +10,12 @@ use Rattle.hx_forest.proofs.prepared.make.Goals as goal
 
 pub returns-clause-index : goal.returns-clause-index
 returns-clause-index c =
-    let f = forest_from c.args.nodes.now.entries in
+    let f = forest_of c.args.nodes.now in
     let old = c.args.children.now.lists.entries in
     let mid = c.unlink.new.children.lists.entries in
     let new = c.join.new.children.lists.entries in
-    subst (λ (g : Forest). IsIndex new g) (sym c.change_nodes-left.ensures.nodes)
-    (index_changed c.args.prepared.change f old mid new (ascends-forest c.args.nodes.now.entries) c.requires.may c.requires.index
+    subst (λ (g : Forest). IsIndex new g) (sym (c.find_ways_to.ensures.nodes ∙ c.change_nodes-left.ensures.nodes))
+    (index_changed c.args.prepared.change f old mid new (ascends-forest (nodes_of c.args.nodes.now.places.entries)) c.requires.may c.requires.index
     (subst (λ (o : Option Place). IsLeft o old mid) c.change_nodes-left.ensures.left c.unlink.ensures.list)
     (subst (λ (o : Option Place). IsJoined o mid new) c.requires.ready.0.0 c.join.ensures.list))
 

@@ -1,16 +1,17 @@
 use Rattle.std.proofs.Common.{◌≡◌, []}
 use Rattle.std.specs.Vec.Iter.{into_iter_items}
 use Rattle.indexmap.specs.IndexMap.{spare}
-use Rattle.hx_model.specs.ForestChanges.{forest_from}
 use Rattle.hx_forest.specs.Kept.{changed_by_all}
+use Rattle.hx_forest.specs.Ways.{forest_of, AllLeadUp}
 use Rattle.hx_forest.specs.Staged.{changes_of}
 use Rattle.hx_forest.specs.Invariant.{IsReady}
 use Rattle.hx_forest.proofs.forest.Forest.apply.Given as goal
 
--- the changes that are left lead to the same nodes, and are ready
+-- the changes that are left lead to the same nodes, and are ready; each way up comes to a parent
 abbrev pub invariant-loop-prepared : goal.invariant-loop-prepared
 invariant-loop-prepared l = record {
-  nodes : changed_by_all (changes_of (into_iter_items l.prepared-iterator)) (forest_from l.self-inside.nodes.entries) ≡ changed_by_all l.fn.self.staged l.fn.self.nodes;
+  nodes : changed_by_all (changes_of (into_iter_items l.prepared-iterator)) (forest_of l.self-inside.nodes) ≡ changed_by_all l.fn.self.staged l.fn.self.nodes;
   none : l.self-inside.staged.items ≡ [];
-  ready : IsReady (forest_from l.self-inside.nodes.entries) l.self-inside.children.lists.entries (spare l.self-inside.nodes) (spare l.self-inside.children.lists) (into_iter_items l.prepared-iterator);
+  ready : IsReady (forest_of l.self-inside.nodes) l.self-inside.children.lists.entries (spare l.self-inside.nodes.places) (spare l.self-inside.children.lists) (into_iter_items l.prepared-iterator);
+  ways : AllLeadUp l.self-inside.nodes;
 }

@@ -3,6 +3,7 @@ use Rattle.std.proofs.lemmas.List.{take_all}
 use Rattle.std.specs.Str.{bytes_eq}
 use Rattle.hx_model.specs.Forest.{Forest, is_there}
 use Rattle.hx_forest.specs.Children.{children_of}
+use Rattle.hx_forest.specs.Ways.{nodes_of}
 use Rattle.hx_forest.proofs.Nodes.{ascends, ascends-forest}
 use Rattle.hx_forest.proofs.Descending.{IsDescent, descent_start, descent_on, descent_end, few_found, nothing_below}
 use Rattle.hx_forest.proofs.forest.Forest.below.Goals as goal
@@ -35,7 +36,7 @@ loop-at-preserved c =
     let a = c.args.name.now in
     let q = c.index.result.now in
     let names = c.loop-at.names.items in
-    let up : ascends f ≡ true = subst (λ (g : Forest). ascends g ≡ true) (ap (λ k. k.nodes) c.self.view_is) (ascends-forest c.self.inside.nodes.entries) in
+    let up : ascends f ≡ true = subst (λ (g : Forest). ascends g ≡ true) (ap (λ k. k.nodes) c.self.view_is) (ascends-forest (nodes_of c.self.inside.nodes.places.entries)) in
     let within : c.loop-at.at < length names = search rules in
     let new : c.push_others.new.names.items ≡ names ++ filter (λ m. not (bytes_eq m a)) (children_of f q) =
     c.in_ok-push_others.ensures ∙ ap (λ (xs : List (List ℕ)). names ++ filter (λ m. not (bytes_eq m a)) xs) c.children-children.ensures.names in
@@ -45,6 +46,6 @@ pub returns : goal.returns
 returns c =
     let f = c.args.self.now.nodes in
     let names = c.loop-at.names.items in
-    let up : ascends f ≡ true = subst (λ (g : Forest). ascends g ≡ true) (ap (λ k. k.nodes) c.self.view_is) (ascends-forest c.self.inside.nodes.entries) in
+    let up : ascends f ≡ true = subst (λ (g : Forest). ascends g ≡ true) (ap (λ k. k.nodes) c.self.view_is) (ascends-forest (nodes_of c.self.inside.nodes.places.entries)) in
     let past : length names ≤ c.loop-at.at = search rules in
     descent_end f c.args.name.now c.loop-at.at names c.sort_unstable.new.self.items up past (take_all c.loop-at.at names past) c.loop-at.invariant.0 c.loop-at.invariant.1 c.sort_unstable.ensures.permutation c.sort_unstable.ensures.sorted

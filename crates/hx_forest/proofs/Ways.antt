@@ -1,0 +1,180 @@
+-- Ways up, after a place has changed.
+--     ways_set, ways_add, ways_cut            one is changed, added, taken out
+--     up_by_number                            a way that was just found
+--     node_there, node_at_there               the node of a name is that of its place
+--     up_above                                what a step comes to may be stepped from
+--     put_nodes, cut_nodes, changed_nodes     the forest then
+use Rattle.std.specs.Prelude.{is_some, option_and_then, option_copied, IfSome}
+use Rattle.std.specs.Borrow.{Bor}
+use Rattle.std.proofs.Common.{◌≡◌, ℕ, suc, ◌<◌, ◌≤◌, Bool, true, false, cond, List, [], ◌∷◌, length, Option, Some, None, option_map, refl, sym, ap, subst, ◌∙◌, arith, true≢false}
+use Rattle.std.specs.Map.{keys_of, lookup}
+use Rattle.std.specs.Option.{option_map_or}
+use Rattle.std.specs.Str.{bytes_eq}
+use Rattle.std.proofs.lemmas.Option.{same_Some, none-some}
+use Rattle.hx_model.specs.declared.node.Node.{Node}
+use Rattle.hx_model.specs.Forest.{is_there, node_of, with_changed}
+use Rattle.hx_model.specs.ForestChanges.{with_node, without_node, forest_from}
+use Rattle.hx_model.proofs.Climbing.{is_same}
+use Rattle.hx_forest.specs.declared.places.Place.{Place}
+use Rattle.hx_forest.specs.declared.places.Nodes.{Nodes}
+use Rattle.hx_forest.specs.Inside.{node_at}
+use Rattle.hx_forest.specs.Ways.{nodes_of, place_of, place_at, node_in, forest_of, LeadsUp, LeadUp, AllLeadUp}
+use Rattle.hx_forest.proofs.Nodes.{ascends-forest, same_forests, forest-put, forest-cut, forest-changed, node_of-forest}
+
+-- ---- ways
+
+module _ (old new : List ℕ → Option Place) (n : List ℕ) (w : Option Place) (is : (q : List ℕ) → new q ≡ cond (bytes_eq n q) w (old q)) where
+  -- a place is the one that changed, or is as it was
+  either : {P : Type 0} (b : List ℕ) (q : Place) → new b ≡ Some q → (n ≡ b → w ≡ Some q → P) → (old b ≡ Some q → P) → P
+  either {P} b q e here there = by (bytes_eq n b) refl (sym (is b) ∙ e)
+    where
+      by : (t : Bool) → bytes_eq n b ≡ t → cond t w (old b) ≡ Some q → P
+      by true same h = here (is_same n b same) h
+      by false _ h = there h
+
+  ways_by : (d e : ℕ) → LeadUp old d → d ≤ e → ((p : Place) → p.up.number ≤ d → LeadsUp old p → LeadsUp new p)
+      → ((q : Place) → w ≡ Some q → (q.number ≤ e) × (q.up.number ≤ d) × LeadsUp old q)
+      → ((b : List ℕ) (p q : Place) → w ≡ Some p → old b ≡ Some q → 0 < p.number → p.number ≡ q.number → n ≡ b)
+      → LeadUp new e
+  ways_by d e links more onward fine mine = record {
+    ups = λ a p h. either a p h (λ _ g. onward p (fine p g).1 (fine p g).2) (λ g. onward p (links.ways a p g) (links.ups a p g));
+    own = λ a b p q h k pos same. either a p h
+        (λ na g. either b q k (λ nb _. sym na ∙ nb) (λ m. sym na ∙ mine b p q g m pos same))
+        (λ g. either b q k (λ nb m. sym (mine a q p m g (subst (λ (i : ℕ). 0 < i) same pos) (sym same)) ∙ nb) (λ m. links.own a b p q g m pos same));
+    numbers = λ a p h. either a p h (λ _ g. (fine p g).0) (λ g. let few = links.numbers a p g in omega (arith, few));
+    ways = λ a p h. either a p h (λ _ g. let few = (fine p g).1 in omega (arith, few)) (λ g. let few = links.ways a p g in omega (arith, few));
+  }
+
+-- a place that keeps its number
+pub ways_set : (old new : List ℕ → Option Place) (d : ℕ) (n : List ℕ) (was place : Place) → ((q : List ℕ) → new q ≡ cond (bytes_eq n q) (Some place) (old q)) → old n ≡ Some was → place.number ≡ was.number
+    → place.up.number ≤ d → LeadsUp old place → LeadUp old d → LeadUp new d
+ways_set old new d n was place is there number small up links = ways_by old new n (Some place) is d d links (omega arith) onward fine mine
+  where
+    onward : (p : Place) → p.up.number ≤ d → LeadsUp old p → LeadsUp new p
+    onward p _ h b q e pos way = either old new n (Some place) is b q e
+        (λ nb g.
+        let same : was.number ≡ q.number = sym number ∙ ap (λ (x : Place). x.number) (same_Some place q g) in
+        h n was there (subst (λ (i : ℕ). 0 < i) (sym same) pos) (way ∙ sym same) ∙ ap Some nb)
+        (λ g. h b q g pos way)
+
+    fine : (q : Place) → Some place ≡ Some q → (q.number ≤ d) × (q.up.number ≤ d) × LeadsUp old q
+    fine q e =
+        let few : place.number ≤ d = subst (λ (i : ℕ). i ≤ d) (sym number) (links.numbers n was there) in
+        subst (λ (x : Place). (x.number ≤ d) × (x.up.number ≤ d) × LeadsUp old x) (same_Some place q e) (few, small, up)
+
+    mine : (b : List ℕ) (p q : Place) → Some place ≡ Some p → old b ≡ Some q → 0 < p.number → p.number ≡ q.number → n ≡ b
+    mine b p q e h pos same =
+        let mark : p.number ≡ was.number = ap (λ (x : Place). x.number) (sym (same_Some place p e)) ∙ number in
+        links.own n b was q there h (subst (λ (i : ℕ). 0 < i) mark pos) (sym mark ∙ same)
+
+-- one with a new number
+pub ways_add : (old new : List ℕ → Option Place) (d e : ℕ) (n : List ℕ) (place : Place) → ((q : List ℕ) → new q ≡ cond (bytes_eq n q) (Some place) (old q)) → d ≤ e → place.number ≤ e → (0 < place.number → d < place.number)
+    → place.up.number ≤ d → LeadsUp old place → LeadUp old d → LeadUp new e
+ways_add old new d e n place is more few fresh small up links = ways_by old new n (Some place) is d e links more onward fine mine
+  where
+    onward : (p : Place) → p.up.number ≤ d → LeadsUp old p → LeadsUp new p
+    onward p less h b q e pos way = either old new n (Some place) is b q e
+        (λ nb g.
+        let same : place.number ≡ q.number = ap (λ (x : Place). x.number) (same_Some place q g) in
+        let late = fresh (subst (λ (i : ℕ). 0 < i) (sym same) pos) in
+        absurd (omega (arith, less, way, same, late)))
+        (λ g. h b q g pos way)
+
+    fine : (q : Place) → Some place ≡ Some q → (q.number ≤ e) × (q.up.number ≤ d) × LeadsUp old q
+    fine q h = subst (λ (x : Place). (x.number ≤ e) × (x.up.number ≤ d) × LeadsUp old x) (same_Some place q h) (few, small, up)
+
+    mine : (b : List ℕ) (p q : Place) → Some place ≡ Some p → old b ≡ Some q → 0 < p.number → p.number ≡ q.number → n ≡ b
+    mine b p q h g pos same =
+        let mark : place.number ≡ p.number = ap (λ (x : Place). x.number) (same_Some place p h) in
+        let late = fresh (subst (λ (i : ℕ). 0 < i) (sym mark) pos) in
+        let early = links.numbers b q g in
+        absurd (omega (arith, mark, late, early, same))
+
+pub ways_cut : (old new : List ℕ → Option Place) (d : ℕ) (n : List ℕ) → ((q : List ℕ) → new q ≡ cond (bytes_eq n q) None (old q)) → LeadUp old d → LeadUp new d
+ways_cut old new d n is links = ways_by old new n None is d d links (omega arith)
+    (λ p _ h b q e pos way. either old new n None is b q e (λ _ g. absurd (none-some q g)) (λ g. h b q g pos way))
+    (λ q g. absurd (none-some q g)) (λ b p q g. absurd (none-some p g))
+
+-- a way that was just found
+pub up_by_number : (at : List ℕ → Option Place) (d : ℕ) (p : Place) → p.up.number ≡ option_map_or (λ q. q.number) (option_and_then at p.node.parent) 0 → LeadUp at d → LeadsUp at p × (p.up.number ≤ d)
+up_by_number at d p is links = by p.node.parent refl
+  where
+    by : (o : Option (List ℕ)) → p.node.parent ≡ o → LeadsUp at p × (p.up.number ≤ d)
+    by None none =
+        let zero_way : p.up.number ≡ 0 = is ∙ ap (λ (o : Option (List ℕ)). option_map_or (λ q. q.number) (option_and_then at o) 0) none in
+        ((λ b q h pos way. absurd (omega (arith, zero_way, way, pos))), omega (arith, zero_way))
+    by (Some n) some = found (at n) refl
+      where
+        found : (o : Option Place) → at n ≡ o → LeadsUp at p × (p.up.number ≤ d)
+        found None none =
+            let zero_way : p.up.number ≡ 0 = is ∙ ap (λ (o : Option (List ℕ)). option_map_or (λ q. q.number) (option_and_then at o) 0) some ∙ ap (λ (o : Option Place). option_map_or (λ q. q.number) o 0) none in
+            ((λ b q h pos way. absurd (omega (arith, zero_way, way, pos))), omega (arith, zero_way))
+        found (Some r) there =
+            let way_to : p.up.number ≡ r.number = is ∙ ap (λ (o : Option (List ℕ)). option_map_or (λ q. q.number) (option_and_then at o) 0) some ∙ ap (λ (o : Option Place). option_map_or (λ q. q.number) o 0) there in
+            let few = links.numbers n r there in
+            ((λ b q h pos way. some ∙ ap Some (links.own n b r q there h (omega (arith, way_to, way, pos)) (sym way_to ∙ way))), omega (arith, way_to, few))
+
+-- ---- the forest
+
+pub node_among : (es : List (List ℕ × Place)) (q : List ℕ) → lookup (bytes_eq q) (nodes_of es) ≡ option_map (λ p. p.node) (lookup (bytes_eq q) es)
+node_among [] q = refl
+node_among (e ∷ es) q = elim (bytes_eq q e.0) as (λ b. cond b (Some e.1.node) (lookup (bytes_eq q) (nodes_of es)) ≡ option_map (λ (p : Place). p.node) (cond b (Some e.1) (lookup (bytes_eq q) es))) [
+  | true ↦ refl
+  | false ↦ node_among es q
+]
+
+-- the node of a name is that of its place
+pub node_there : (nodes : Nodes) (n : List ℕ) → node_of (forest_of nodes) n ≡ option_map (λ p. p.node) (place_of nodes n)
+node_there nodes n = node_of-forest (nodes_of nodes.places.entries) n ∙ node_among nodes.places.entries n
+
+pub among_places : (nodes : Nodes) (n : List ℕ) → is_there (forest_of nodes) n ≡ true → place_of nodes n ≡ None → ⊥
+among_places nodes n there none = true≢false (sym there ∙ ap is_some (node_there nodes n ∙ ap (option_map (λ (p : Place). p.node)) none))
+
+-- what is above may be stepped from
+pub up_above : (nodes : Nodes) (next : Option (List ℕ)) (r : Option (Bor Place)) → option_copied r ≡ place_at nodes next → AllLeadUp nodes → IfSome r (λ p. LeadsUp (place_of nodes) p.now)
+up_above nodes next None is links = tt
+up_above nodes None (Some p) is links = absurd (none-some p.now (sym is))
+up_above nodes (Some n) (Some p) is links = links.ups n p.now (sym is)
+
+pub same_keys : (es : List (List ℕ × Place)) → keys_of (nodes_of es) ≡ keys_of es
+same_keys [] = refl
+same_keys (e ∷ es) = ap (λ ks. e.0 ∷ ks) (same_keys es)
+
+pub same_count : (es : List (List ℕ × Place)) → length (nodes_of es) ≡ length es
+same_count [] = refl
+same_count (e ∷ es) = ap (λ k. suc k) (same_count es)
+
+module _ (new old : List (List ℕ × Place)) (n : List ℕ) where
+  look : (w : Option Place) → ((q : List ℕ) → lookup (bytes_eq q) new ≡ cond (bytes_eq n q) w (lookup (bytes_eq q) old))
+      → (q : List ℕ) → lookup (bytes_eq q) (nodes_of new) ≡ cond (bytes_eq n q) (option_map (λ p. p.node) w) (lookup (bytes_eq q) (nodes_of old))
+  look w is q = node_among new q ∙ ap (option_map (λ (p : Place). p.node)) (is q) ∙ by (bytes_eq n q)
+    where
+      by : (b : Bool) → option_map (λ (p : Place). p.node) (cond b w (lookup (bytes_eq q) old)) ≡ cond b (option_map (λ p. p.node) w) (lookup (bytes_eq q) (nodes_of old))
+      by true = refl
+      by false = sym (node_among old q)
+
+  pub put_nodes : (place : Place) → ((q : List ℕ) → lookup (bytes_eq q) new ≡ cond (bytes_eq n q) (Some place) (lookup (bytes_eq q) old)) → forest_from (nodes_of new) ≡ with_node n place.node (forest_from (nodes_of old))
+  put_nodes place is = forest-put (nodes_of new) (nodes_of old) n place.node (look (Some place) is)
+
+  pub cut_nodes : ((q : List ℕ) → lookup (bytes_eq q) new ≡ cond (bytes_eq n q) None (lookup (bytes_eq q) old)) → forest_from (nodes_of new) ≡ without_node n (forest_from (nodes_of old))
+  cut_nodes is = forest-cut (nodes_of new) (nodes_of old) n (look None is)
+
+  -- a place whose node stays
+  pub same_nodes : (was place : Place) → lookup (bytes_eq n) old ≡ Some was → place.node ≡ was.node → ((q : List ℕ) → lookup (bytes_eq q) new ≡ cond (bytes_eq n q) (Some place) (lookup (bytes_eq q) old))
+      → forest_from (nodes_of new) ≡ forest_from (nodes_of old)
+  same_nodes was place there node is = same_forests (forest_from (nodes_of new)) (forest_from (nodes_of old)) (ascends-forest (nodes_of new)) (ascends-forest (nodes_of old)) (λ q.
+      node_of-forest (nodes_of new) q ∙ look (Some place) is q ∙ at q (bytes_eq n q) refl ∙ sym (node_of-forest (nodes_of old) q))
+    where
+      at : (q : List ℕ) (b : Bool) → bytes_eq n q ≡ b → cond b (Some place.node) (lookup (bytes_eq q) (nodes_of old)) ≡ lookup (bytes_eq q) (nodes_of old)
+      at q true same = ap Some node ∙ sym (ap (λ (m : List ℕ). lookup (bytes_eq m) (nodes_of old)) (sym (is_same n q same)) ∙ node_among old n ∙ ap (option_map (λ (p : Place). p.node)) there)
+      at q false out = refl
+
+  pub changed_nodes : (change : Node → Node) (was place : Place) → lookup (bytes_eq n) old ≡ Some was → place.node ≡ change was.node
+      → ((q : List ℕ) → lookup (bytes_eq q) new ≡ cond (bytes_eq n q) (Some place) (lookup (bytes_eq q) old)) → forest_from (nodes_of new) ≡ with_changed n change (forest_from (nodes_of old))
+  changed_nodes change was place there node is = forest-changed (nodes_of new) (nodes_of old) n change was.node (node_among old n ∙ ap (option_map (λ (p : Place). p.node)) there)
+      (λ q. look (Some place) is q ∙ ap (λ (x : Node). cond (bytes_eq n q) (Some x) (lookup (bytes_eq q) (nodes_of old))) node)
+
+-- the node of a name that may be none
+pub node_at_there : (nodes : Nodes) (next : Option (List ℕ)) → node_at (forest_of nodes) next ≡ node_in (place_at nodes next)
+node_at_there nodes None = refl
+node_at_there nodes (Some n) = node_there nodes n
