@@ -1,11 +1,12 @@
 -- The numbers of what is limited, write by write.
 --     stored_found     what is found is stored
+--     agrees_seen      the agreement of what is inside, as it is seen
 --     small_legal      a legal object isn't too large
 --     is_part          the numbers have those of what is found
 --     valid_agrees     objects with which indexes agree are valid
 --     counted          the numbers after a write
 --     listed_legal     what is listed is legal
-use Rattle.std.proofs.Common.{◌≡◌, ◌≤◌, ◌+◌, ℕ, Bool, true, false, cond, not, nat_lt, [], ◌∷◌, None, Some, Option, refl, sym, ap, subst, ◌∙◌, arith, sum_by, ltb-false, filter, length}
+use Rattle.std.proofs.Common.{◌≡◌, ◌≤◌, ◌+◌, ℕ, Bool, true, false, cond, not, nat_lt, List, [], ◌∷◌, None, Some, Option, refl, sym, ap, subst, ◌∙◌, arith, sum_by, ltb-false, filter, length}
 use Rattle.std.specs.Prelude.{if◌then◌else◌}
 use Rattle.std.specs.List.{AllByRecursion}
 use Rattle.hx_object.specs.Faults.{IsLegal, object_fault, has_legal_names, has_legal_labels, most_labels}
@@ -27,7 +28,7 @@ use Rattle.hx_model.proofs.Objects.{sum-put, sum-cut}
 use Rattle.hx_model.proofs.Storing.{All-found}
 use Rattle.hx_store.specs.Changes.{id_of, object_of}
 use Rattle.hx_admit.specs.Counting.{Counts, IsPart, counts_of}
-use Rattle.hx_admit.specs.StateView.{Agrees}
+use Rattle.hx_admit.specs.StateView.{StateView, Agrees, state_in}
 use Rattle.hx_admit.specs.declared.limits.LimitCounts.{LimitCounts}
 
 -- ---- stored objects
@@ -57,6 +58,11 @@ module _ (config : RunConfig) (objects : Objects) (last : ℕ) (counts : LimitCo
       filtered : (xs : Objects) → AllByRecursion IsServed xs → AllByRecursion IsLegal (filter p xs)
       filtered [] all = tt
       filtered (x ∷ xs) all = elim (p x) as (λ b. AllByRecursion IsLegal (cond b (x ∷ filter p xs) (filter p xs))) [ true ↦ (all.0.legal, filtered xs all.1) | false ↦ filtered xs all.1 ]
+
+-- the agreement of what is inside, as it is seen
+pub agrees_seen : {config : RunConfig} {objects : Objects} {last : ℕ} {staged : List Write} {counts : LimitCounts} {nodes : Forest} {seen : StateView} → record { state = state_in config objects last; staged = staged } ≡ seen → Agrees config objects last counts nodes
+    → Agrees seen.state.config seen.state.objects seen.state.last counts nodes
+agrees_seen {counts = counts} {nodes = nodes} same agrees = subst (λ (v : StateView). Agrees v.state.config v.state.objects v.state.last counts nodes) same agrees
 
 -- ---- sizes
 

@@ -29,7 +29,7 @@ use Rattle.hx_model.specs.declared.rule.Rule.TheVariants.{L1, L2, L3, L4}
 use Rattle.hx_model.proofs.Counting.{no_anchor, no_anchor_named}
 use Rattle.hx_model.proofs.Objects.{sum-put, sum-cut}
 use Rattle.hx_model.proofs.Planting.{namespace_is_homed}
-use Rattle.hx_admit.specs.Inside.{place_refusals, growth_refusals, objects_with}
+use Rattle.hx_admit.specs.Inside.{IsReplacement, place_refusals, growth_refusals, objects_with}
 use Rattle.hx_admit.specs.Limiting.{count_denials, growth_denials, rises_over}
 use Rattle.hx_model.specs.Denials.{refusal_by}
 use Rattle.hx_admit.specs.Refusing.{fault_in}
@@ -38,6 +38,7 @@ use Rattle.hx_model.specs.declared.denial.Denial.{Denial}
 use Rattle.hx_model.specs.declared.denial.Denial.TheVariants.{Broken}
 use Rattle.hx_admit.specs.declared.limits.LimitCounts.{LimitCounts}
 use Rattle.hx_admit.proofs.Counting.{agrees_served, stored_found, small_legal, is_part}
+use Rattle.hx_admit.proofs.Sameness.{same_object_is, differs}
 
 -- ---- the order of the refusals
 
@@ -200,29 +201,29 @@ replace_rest s x old expected skip there passes =
 not_less : (n : ℕ) → nat_lt n n ≡ false
 not_less n = le-ltb n n (omega arith)
 
--- a PUT that changes nothing
-pub replace_unchanged : (s : State) (x old : Object) (expected : Option ℕ) (skip : Bool) → object_at s.objects x.id ≡ Some old → first (version_refusal s (Replace x expected skip) ∷ rule_refusal s (Replace x expected skip) ∷ []) ≡ None → same_object (replaced_by old x) old ≡ true
-    → (refusal_of s (Replace x expected skip) ≡ None) × (writes_of s (Replace x expected skip) ≡ [])
-replace_unchanged s x old expected skip there passes same =
-    let writes : replacing (object_at s.objects x.id) x (s.last + 1) ≡ [] = rw (there, same) refl in
-    let limits : first (limit_refusals s (Replace x expected skip)) ≡ None = rw (writes, not_less (bytes_in s.objects)) refl in
-    (replace_rest s x old expected skip there passes ∙ limits, writes)
+module _ (s : State) (x old next : Object) (expected : Option ℕ) (skip : Bool) (r : IsReplacement s x old expected skip next) where
+  -- a PUT that changes nothing
+  pub replace_unchanged : next ≡ old → (refusal_of s (Replace x expected skip) ≡ None) × (writes_of s (Replace x expected skip) ≡ [])
+  replace_unchanged same =
+      let there : object_at s.objects x.id ≡ Some old = r.there in
+      let alike : same_object (replaced_by old x) old ≡ true = same_object_is (replaced_by old x) old (sym r.gives ∙ same) in
+      let writes : replacing (object_at s.objects x.id) x (s.last + 1) ≡ [] = rw (there, alike) refl in
+      let limits : first (limit_refusals s (Replace x expected skip)) ≡ None = rw (writes, not_less (bytes_in s.objects)) refl in
+      (replace_rest s x old expected skip there r.passes ∙ limits, writes)
 
--- one that changes an object
-replace_changed : (s : State) (x old : Object) (expected : Option ℕ) (skip : Bool) → object_at s.objects x.id ≡ Some old → first (version_refusal s (Replace x expected skip) ∷ rule_refusal s (Replace x expected skip) ∷ []) ≡ None → same_object (replaced_by old x) old ≡ false
-    → refusal_of s (Replace x expected skip) ≡ first (growth_refusals s (put (with_version (replaced_by old x) (s.last + 1)) s.objects))
-replace_changed s x old expected skip there passes apart =
-    let writes : replacing (object_at s.objects x.id) x (s.last + 1) ≡ Put (with_version (replaced_by old x) (s.last + 1)) ∷ [] = rw (there, apart) refl in
-    let limits : first (limit_refusals s (Replace x expected skip)) ≡ first (growth_refusals s (put (with_version (replaced_by old x) (s.last + 1)) s.objects)) = rw writes refl in
-    replace_rest s x old expected skip there passes ∙ limits
+  -- one that changes an object
+  replace_changed : (next ≡ old → ⊥) → refusal_of s (Replace x expected skip) ≡ first (growth_refusals s (put (with_version next (s.last + 1)) s.objects))
+  replace_changed apart =
+      let there : object_at s.objects x.id ≡ Some old = r.there in
+      let unlike : same_object (replaced_by old x) old ≡ false = differs (replaced_by old x) old (λ e. apart (r.gives ∙ e)) in
+      let writes : replacing (object_at s.objects x.id) x (s.last + 1) ≡ Put (with_version (replaced_by old x) (s.last + 1)) ∷ [] = rw (there, unlike) refl in
+      let limits : first (limit_refusals s (Replace x expected skip)) ≡ first (growth_refusals s (put (with_version (replaced_by old x) (s.last + 1)) s.objects)) = rw writes refl in
+      replace_rest s x old expected skip there r.passes ∙ limits ∙ ap (λ (y : Object). first (growth_refusals s (put (with_version y (s.last + 1)) s.objects))) (sym r.gives)
 
--- what is left of one that does, as it was checked
-pub replace_grown : {A : Type 0} (s : State) (x old next : Object) (expected : Option ℕ) (skip : Bool) (result : Result A Denial) (found : Option Denial) → next ≡ replaced_by old x → object_at s.objects x.id ≡ Some old
-    → first (version_refusal s (Replace x expected skip) ∷ rule_refusal s (Replace x expected skip) ∷ []) ≡ None → same_object (replaced_by old x) old ≡ false
-    → option_map (refusal_by next.id) (fault_in result) ≡ first (growth_refusals s (put (with_version next (s.last + 1)) s.objects)) → fault_in result ≡ found → refusal_of s (Replace x expected skip) ≡ option_map (refusal_by x.id) found
-replace_grown s x old next expected skip result found is there passes apart checked finds =
-    let checked_so = subst (λ (y : Object). option_map (refusal_by y.id) (fault_in result) ≡ first (growth_refusals s (put (with_version y (s.last + 1)) s.objects))) is checked in
-    replace_changed s x old expected skip there passes apart ∙ sym checked_so ∙ ap (option_map (refusal_by x.id)) finds
+  -- what is left of one that does, as it was checked
+  pub replace_grown : {A : Type 0} (result : Result A Denial) (found : Option Denial) → (next ≡ old → ⊥) → option_map (refusal_by next.id) (fault_in result) ≡ first (growth_refusals s (put (with_version next (s.last + 1)) s.objects)) → fault_in result ≡ found
+      → refusal_of s (Replace x expected skip) ≡ option_map (refusal_by next.id) found
+  replace_grown result found apart checked finds = replace_changed apart ∙ sym checked ∙ ap (option_map (refusal_by next.id)) finds
 
 -- ---- DELETE
 

@@ -1,23 +1,24 @@
 -- What a review promises, by how it ends.
 --     refused_by         what stands against an ask
+--     passed_on          an error that `?` passes on
 --     passes_get, passes_list, passes_unchanged    asks that write nothing
 --     may_none, may_one  no write, and one, may be made
+--     served_replacement     what a PUT gives is served
 --     may_put, may_replace      an object with the next version, and that of a PUT, may be put
 --     passes_create, passes_replace     asks of one write
 use Rattle.std.proofs.Common.{◌≡◌, ◌<◌, ◌+◌, ℕ, Bool, true, false, ◌&&◌, List, [], ◌∷◌, None, Some, Option, refl, sym, ap, subst, ◌∙◌, inl, inr, ◌⊎◌, filter, nat_lt, le-ltb, arith, IfSome}
 use Rattle.std.specs.List.{AllByRecursion, IsDistinct}
+use Rattle.std.specs.Prelude.{Result, Ok, Err, IfErr, IsErrAnd}
 use Rattle.std.specs.Str.{bytes_eq}
 use Rattle.hx_object.specs.Faults.{IsLegal}
 use Rattle.hx_object.specs.declared.kind.Kind.{Kind}
 use Rattle.hx_object.specs.declared.kind.Kind.TheVariants.{Namespace}
 use Rattle.hx_object.specs.declared.object.Id.{Id}
 use Rattle.hx_object.specs.declared.object.Object.{Object}
-use Rattle.hx_model.specs.Answers.{refusal_of, writes_of, success, answer_found, is_listed, same_object, replaced_by, version_refusal, rule_refusal}
-use Rattle.hx_model.specs.First.{first}
+use Rattle.hx_model.specs.Answers.{refusal_of, writes_of, success, answer_found, is_listed, same_object, replaced_by}
 use Rattle.hx_model.specs.Limits.{is_namespace, is_hierarchy, bytes_in, greatest_version}
 use Rattle.hx_model.specs.Serving.{IsServed, IsLegalAnswer}
 use Rattle.hx_model.specs.State.{State, object_at, with_version, state_after}
-use Rattle.hx_model.specs.Valid.{IsValid}
 use Rattle.hx_model.specs.declared.ask.Ask.{Ask}
 use Rattle.hx_model.specs.declared.ask.Ask.TheVariants.{Get, List as ListOf, Create, Replace}
 use Rattle.hx_model.specs.declared.ask.Answer.{Answer}
@@ -30,13 +31,15 @@ use Rattle.hx_model.proofs.Legality.{legal_with_version, legal_replaced}
 use Rattle.hx_model.proofs.Objects.{found_id}
 use Rattle.hx_model.proofs.Planting.{terminating-replaced}
 use Rattle.hx_model.proofs.Storing.{All-found}
-use Rattle.hx_admit.specs.Inside.{IsRefusal, IsReviewed}
+use Rattle.hx_admit.specs.Inside.{IsRefusal, IsReplacement, IsReviewed}
 use Rattle.hx_model.specs.Denials.{refusal_by}
 use Rattle.hx_admit.specs.Reviewing.{Passes}
 use Rattle.hx_model.specs.Writes.{MayPut, MayWrite, MayWriteAll, KeepsItsPlace, id_written}
 use Rattle.hx_model.specs.declared.denial.Denial.{Denial}
 use Rattle.hx_admit.proofs.Counting.{valid_served}
 use Rattle.hx_admit.proofs.Homes.{same_annotation}
+use Rattle.hx_admit.proofs.Refusing.{replace_unchanged}
+use Rattle.hx_admit.proofs.Sameness.{differs}
 use Rattle.hx_model.proofs.Objects.{object_at-put_itself}
 
 -- ---- refusals
@@ -44,6 +47,11 @@ use Rattle.hx_model.proofs.Objects.{object_at-put_itself}
 pub refused_by : (s : State) (ask : Ask) (id : Id) (denial : Denial) (refusal : Refusal) → refusal_of s ask ≡ Some (refusal_by id denial) → (refusal ≡ refusal_by id denial) ⊎ (refusal ≡ NoMemory) → IsRefusal s ask refusal
 refused_by s ask id denial refusal e (inl is) = inr (e ∙ ap Some (sym is))
 refused_by s ask id denial refusal e (inr is) = inl is
+
+-- an error that `?` passes on
+pub passed_on : {A E : Type 0} (P : E → Type 0) (result : Result A E) (error : E) → IsErrAnd result (λ found. found ≡ error) → P error → IfErr result P
+passed_on P (Ok x) error is p = tt
+passed_on P (Err found) error is p = subst P (sym is) p
 
 -- ---- asks that write nothing
 
@@ -59,14 +67,14 @@ passes_list s kind ns writes says legal none is =
     subst (λ ws. Passes s (ListOf kind ns) ws says) (sym none) (subst (λ a. Passes s (ListOf kind ns) [] a) (sym is)
     (record { passes = rw (not_less (bytes_in s.objects)) refl; changes = refl; says = refl; legal = legal (is_listed kind ns) }))
 
-pub passes_unchanged : (s : State) (x old next : Object) (expected : Option ℕ) (skip : Bool) (writes : List Write) (says : Answer) → object_at s.objects x.id ≡ Some old → IsServed x
-    → (refusal_of s (Replace x expected skip) ≡ None) × (writes_of s (Replace x expected skip) ≡ []) → next ≡ replaced_by old x → next ≡ old → writes ≡ [] → says ≡ One next false → Passes s (Replace x expected skip) writes says
-passes_unchanged s x old next expected skip writes says there served quiet is same none answers =
+pub passes_unchanged : (s : State) (x old next : Object) (expected : Option ℕ) (skip : Bool) (writes : List Write) (says : Answer) → IsReplacement s x old expected skip next → next ≡ old → writes ≡ [] → says ≡ One old false → Passes s (Replace x expected skip) writes says
+passes_unchanged s x old next expected skip writes says r same none answers =
+    let quiet = replace_unchanged s x old next expected skip r same in
     subst (λ ws. Passes s (Replace x expected skip) ws says) (sym none) (subst (λ a. Passes s (Replace x expected skip) [] a) (sym answers) (record {
       passes = quiet.0;
       changes = quiet.1;
-      says = ap (λ o. answer_found o false x.id) there ∙ ap (λ (y : Object). One y false) (sym same);
-      legal = subst (λ (y : Object). IsLegalAnswer (One y false)) (sym is) (legal_replaced old x served.legal);
+      says = ap (λ o. answer_found o false x.id) r.there;
+      legal = subst (λ (y : Object). IsLegalAnswer (One y false)) (sym r.gives ∙ same) (legal_replaced old x r.served.legal);
     }))
 
 -- ---- writes that may be made
@@ -97,12 +105,15 @@ may_put s x served later = record {
     each (Some old) p = record { annotation = p.annotation; phase = p.phase }
 
 -- the object that a PUT gives
-pub may_replace : (s : State) (x old : Object) (expected : Option ℕ) (skip : Bool) → IsValid s → object_at s.objects x.id ≡ Some old → first (version_refusal s (Replace x expected skip) ∷ rule_refusal s (Replace x expected skip) ∷ []) ≡ None → IsServed x
-    → MayPut s (with_version (replaced_by old x) (s.last + 1))
-may_replace s x old expected skip valid there passes served =
-    may_put s (replaced_by old x) (record { legal = legal_replaced old x served.legal; written = served.written }) (λ is.
-    subst (λ (o : Option Object). IfSome o (λ found. KeepsItsPlace found (replaced_by old x))) (sym there)
-    (record { annotation = same_annotation s x old expected skip there passes is; phase = λ gone. terminating-replaced old x (sym (found_id s.objects x.id old there)) is (All-found IsServed x.id old s.objects (valid_served s valid) there) served ∙ gone }))
+pub served_replacement : (s : State) (x old next : Object) (expected : Option ℕ) (skip : Bool) → IsReplacement s x old expected skip next → IsServed next
+served_replacement s x old next expected skip r = subst IsServed (sym r.gives) (record { legal = legal_replaced old x r.served.legal; written = r.served.written })
+
+pub may_replace : (s : State) (x old next : Object) (expected : Option ℕ) (skip : Bool) → IsReplacement s x old expected skip next → MayPut s (with_version next (s.last + 1))
+may_replace s x old next expected skip r =
+    subst (λ (y : Object). MayPut s (with_version y (s.last + 1))) (sym r.gives)
+    (may_put s (replaced_by old x) (record { legal = legal_replaced old x r.served.legal; written = r.served.written }) (λ is.
+    subst (λ (o : Option Object). IfSome o (λ found. KeepsItsPlace found (replaced_by old x))) (sym r.there)
+    (record { annotation = same_annotation s x old expected skip r.there r.passes is; phase = λ gone. terminating-replaced old x (sym (found_id s.objects x.id old r.there)) is (All-found IsServed x.id old s.objects (valid_served s r.valid) r.there) r.served ∙ gone })))
 
 -- ---- asks of one write
 
@@ -116,8 +127,11 @@ pub passes_create : (s : State) (x : Object) (skip : Bool) (writes : List Write)
 passes_create s x skip writes says served passes reviewed =
     passes_write s (Create x skip) (Put (with_version x (s.last + 1))) (One (with_version x (s.last + 1)) true) writes says passes refl (ap (λ o. answer_found o true x.id) (object_at-put_itself (with_version x (s.last + 1)) s.objects)) (legal_with_version x (s.last + 1) served.legal) reviewed
 
-pub passes_replace : (s : State) (x old : Object) (expected : Option ℕ) (skip : Bool) (writes : List Write) (says : Answer) → object_at s.objects x.id ≡ Some old → same_object (replaced_by old x) old ≡ false → IsServed x
-    → refusal_of s (Replace x expected skip) ≡ None → IsReviewed (Put (with_version (replaced_by old x) (s.last + 1))) (One (with_version (replaced_by old x) (s.last + 1)) false) writes says → Passes s (Replace x expected skip) writes says
-passes_replace s x old expected skip writes says there differs served passes reviewed =
+pub passes_replace : (s : State) (x old next : Object) (expected : Option ℕ) (skip : Bool) (writes : List Write) (says : Answer) → IsReplacement s x old expected skip next → (next ≡ old → ⊥) → refusal_of s (Replace x expected skip) ≡ None
+    → IsReviewed (Put (with_version next (s.last + 1))) (One (with_version next (s.last + 1)) false) writes says → Passes s (Replace x expected skip) writes says
+passes_replace s x old next expected skip writes says r apart passes reviewed =
+    let unlike : same_object (replaced_by old x) old ≡ false = differs (replaced_by old x) old (λ e. apart (r.gives ∙ e)) in
+    let made = subst (λ (y : Object). IsReviewed (Put (with_version y (s.last + 1))) (One (with_version y (s.last + 1)) false) writes says) r.gives reviewed in
     let next = with_version (replaced_by old x) (s.last + 1) in
-    passes_write s (Replace x expected skip) (Put next) (One next false) writes says passes (rw (there, differs) refl) (ap (λ o. answer_found o false x.id) (object_at-put_itself next s.objects)) (legal_with_version (replaced_by old x) (s.last + 1) (legal_replaced old x served.legal)) reviewed
+    let there : object_at s.objects x.id ≡ Some old = r.there in
+    passes_write s (Replace x expected skip) (Put next) (One next false) writes says passes (rw (there, unlike) refl) (ap (λ o. answer_found o false x.id) (object_at-put_itself next s.objects)) (legal_with_version (replaced_by old x) (s.last + 1) (legal_replaced old x r.served.legal)) made

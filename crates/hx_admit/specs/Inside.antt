@@ -1,19 +1,23 @@
 -- What the parts of a review promise one another.
 --     IsRefusal          why an ask is refused
 --     IsHomeOf           the namespace of a HierarchyConfiguration. The rules look at no other object's
+--     IsReplacement      the object that a PUT gives, where neither its version nor a rule stands against it
 --     IsReviewed         the review of one write
 --     place_refusals     the refusals of a POST by its place
 --     growth_refusals    the refusals by the sum of sizes and by the versions
 --     objects_with       the objects once one stands in the place of another
-use Rattle.std.specs.Prelude.{◌≡◌, ◌⊎◌, ◌+◌, true, nat_le, is_some, List, [], ◌∷◌, Option, Some, None}
+use Rattle.std.specs.Prelude.{◌≡◌, ◌⊎◌, ◌+◌, ℕ, Bool, true, nat_le, is_some, List, [], ◌∷◌, Option, Some, None}
 use Rattle.hx_object.specs.declared.kind.Kind.TheVariants.{Namespace}
 use Rattle.hx_object.specs.declared.object.Id.{Id}
 use Rattle.hx_object.specs.declared.object.Object.{Object}
-use Rattle.hx_model.specs.Answers.{refusal_of, exceeds_bytes, lacks_namespace, already_there}
-use Rattle.hx_model.specs.First.{so}
+use Rattle.hx_model.specs.Answers.{refusal_of, version_refusal, rule_refusal, replaced_by, exceeds_bytes, lacks_namespace, already_there}
+use Rattle.hx_model.specs.First.{so, first}
 use Rattle.hx_model.specs.Limits.{is_hierarchy, greatest_version}
 use Rattle.hx_model.specs.State.{State, Objects, object_at, put, cut, with_version, home_in}
+use Rattle.hx_model.specs.Serving.{IsServed}
+use Rattle.hx_model.specs.Valid.{IsValid}
 use Rattle.hx_model.specs.declared.ask.Ask.{Ask}
+use Rattle.hx_model.specs.declared.ask.Ask.TheVariants.{Replace}
 use Rattle.hx_model.specs.declared.ask.Answer.{Answer}
 use Rattle.hx_model.specs.declared.key.Write.{Write}
 use Rattle.hx_model.specs.declared.refusal.Refusal.{Refusal}
@@ -27,6 +31,14 @@ IsRefusal s ask refusal = (refusal ≡ NoMemory) ⊎ (refusal_of s ask ≡ Some 
 -- the namespace of a HierarchyConfiguration, where it is there
 abbrev pub IsHomeOf : State → Id → Option Object → Type 0
 IsHomeOf s id home = is_hierarchy id.kind ≡ true → home ≡ home_in s.objects id
+
+-- the object that a PUT gives in the place of the one that is there, where neither its version nor a rule stands against it
+pub record IsReplacement (s : State) (x old : Object) (expected : Option ℕ) (skip : Bool) (next : Object) : Type 0 where
+  pub valid : IsValid s
+  pub served : IsServed x
+  pub there : object_at s.objects x.id ≡ Some old
+  pub passes : first (version_refusal s (Replace x expected skip) ∷ rule_refusal s (Replace x expected skip) ∷ []) ≡ None
+  pub gives : next ≡ replaced_by old x
 
 -- the review of one write, and its answer
 pub record IsReviewed (write : Write) (answer : Answer) (writes : List Write) (says : Answer) : Type 0 where

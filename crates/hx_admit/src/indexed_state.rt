@@ -10,6 +10,7 @@ use hx_model::RunConfig;
 use hx_object::NoMemory;
 use hx_store::{Change, Store};
 use std::alloc::Global;
+use std::hash::RandomState;
 use std::marker::Model;
 
 /// The objects of a state, with their tree and their running numbers.
@@ -39,15 +40,15 @@ impl Model for IndexedState {
 }
 
 impl IndexedState {
-    /// A state without objects. It takes no memory.
-    pub fn new(alloc: Global, version: u64, config: RunConfig) -> IndexedState
+    /// A state without objects, whose maps hash with these keys. It takes no memory.
+    pub fn new(alloc: Global, version: u64, config: RunConfig, keys: RandomState) -> IndexedState
         requires { version ≤ greatest_version }
         ensures state { result.state ≡ opening_state config version }
         ensures staged { result.staged ≡ [] }
     {
         IndexedState {
-            store: Store::new(alloc, version),
-            forest: Forest::new(alloc),
+            store: Store::new(alloc, version, keys),
+            forest: Forest::new(alloc, keys),
             counts: LimitCounts::none(),
             next: LimitCounts::none(),
             config,

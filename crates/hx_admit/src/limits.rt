@@ -1,15 +1,15 @@
 // The limits of a store, and what a store has of what is limited.
-ghost use Rattle.std.specs.Prelude.{◌≡◌, ◌≤◌, ◌+◌, [], IfSome, IfOk, option_copied};
+ghost use Rattle.std.specs.Prelude.{◌≡◌, ◌≤◌, ◌+◌, ◌-◌, ◌^◌, [], None, IfSome, option_copied};
 ghost use Rattle.hx_object.specs.Sizes.{size_of, greatest_size};
 ghost use Rattle.hx_model.specs.First.{first};
 ghost use Rattle.hx_model.specs.Limits.{part_of, namespace_one, counted_one, counted_size, counts, is_copy};
-ghost use Rattle.hx_admit.specs.Counting.{Counts, IsPart, counts_of};
+ghost use Rattle.hx_admit.specs.Counting.{Counts, IsPart, IsTooWide, counts_of};
 ghost use Rattle.hx_admit.specs.Limiting.{count_denials, growth_denials, rises_over};
 ghost use Rattle.hx_admit.specs.Refusing.{fault_in};
 
 use hx_model::{Denial, Rule};
+use hx_object::Object;
 use hx_object::well_known::INHERITED_FROM;
-use hx_object::{NoMemory, Object};
 
 const MOST_NAMES: u64 = 4_096;
 
@@ -43,24 +43,31 @@ impl LimitCounts {
         }
     }
 
-    /// The numbers once `new` stands in the place of `old`, where either may be none. More objects than a number can count find no memory.
-    pub fn after(self, old: Option<&Object>, new: Option<&Object>) -> Result<LimitCounts, NoMemory>
+    /// The numbers once `new` stands in the place of `old`, where either may be none. `None` says that one of them doesn't fit 64 bits.
+    pub fn after(self, old: Option<&Object>, new: Option<&Object>) -> Option<LimitCounts>
         requires small { IfSome (option_copied old) (λ x. size_of x ≤ greatest_size) × IfSome (option_copied new) (λ x. size_of x ≤ greatest_size) }
         requires counted { IsPart (option_copied old) self }
-        ensures { IfOk result (Counts (option_copied old.entry) (option_copied new.entry) self) }
+        ensures numbers { IfSome result (Counts (option_copied old.entry) (option_copied new.entry) self) }
+        ensures wide { result ≡ None → IsTooWide (option_copied old.entry) (option_copied new.entry) self }
     {
-        Ok(LimitCounts {
-            names: add(self.names, names_of(new))? - names_of(old),
-            objects: add(self.objects, objects_of(new))? - objects_of(old),
-            bytes: add(self.bytes, bytes_of(new))? - bytes_of(old),
+        let names = replaced(self.names, names_of(old), names_of(new))?;
+        let objects = replaced(self.objects, objects_of(old), objects_of(new))?;
+        let bytes = replaced(self.bytes, bytes_of(old), bytes_of(new))?;
+        Some(LimitCounts {
+            names,
+            objects,
+            bytes,
         })
     }
 }
 
-fn add(count: u64, more: u64) -> Result<u64, NoMemory>
-    ensures { IfOk result (λ sum. sum ≡ count + more) }
+/// A number once one part of it stands in the place of another, where it fits 64 bits.
+fn replaced(number: u64, old: u64, new: u64) -> Option<u64>
+    requires { old ≤ number }
+    ensures sum { IfSome result (λ sum. sum + old ≡ number + new) }
+    ensures wide { result ≡ None → 2 ^ 64 ≤ number - old + new }
 {
-    count.checked_add(more).ok_or(NoMemory)
+    (number - old).checked_add(new)
 }
 
 /// Finds the first limit that a name or an object passes, where a request brings one.

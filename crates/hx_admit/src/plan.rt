@@ -1,8 +1,10 @@
 // What writes change beside the objects.
-ghost use Rattle.std.specs.Prelude.{◌≡◌, IfOk, option_copied};
+ghost use Rattle.std.specs.Prelude.{◌≡◌, ◌≤◌, IfOk, IfSome, option_copied};
 ghost use Rattle.hx_model.specs.State.{object_at};
 ghost use Rattle.hx_model.specs.Tree.{node_in};
-ghost use Rattle.hx_store.specs.Changes.{id_of};
+ghost use Rattle.hx_store.specs.Changes.{id_of, object_of};
+ghost use Rattle.hx_object.specs.Sizes.{size_of, greatest_size};
+ghost use Rattle.hx_admit.specs.Counting.{Counts, IsPart};
 ghost use Rattle.hx_admit.specs.Inside.{IsHomeOf};
 ghost use Rattle.hx_admit.specs.Planning.{IsPlan, planting, moving, tree_change};
 ghost use Rattle.hx_model.specs.Writes.{MayWriteAll};
@@ -34,13 +36,20 @@ impl IndexedState {
         let mut counts = self.counts;
         let mut tree = Vec::new(self.store.allocator());
         for write in writes {
-            let old = object_in(self.store.get(write.id()));
-            counts = counts.after(old, object_in(write.object()))?;
+            let old = self.object_before(write);
+            counts = counts_after(counts, old, object_after(write))?;
             if let Some(change) = self.tree_change(write, old)? {
                 tree.push(change)?;
             }
         }
         Ok(Plan { counts, tree })
+    }
+
+    /// The object that is there, of the identity of a write.
+    fn object_before(&self, write: &Change) -> Option<&Object>
+        ensures { option_copied result ≡ object_at self.now.state.objects (id_of write.now) }
+    {
+        object_in(self.store.get(write.id()))
     }
 
     /// What a write changes of the tree.
@@ -53,7 +62,7 @@ impl IndexedState {
         ensures { IfOk result (λ change. change ≡ tree_change self.now.state write.now) }
     {
         let id = write.id();
-        let new = object_in(write.object());
+        let new = object_after(write);
         if id.kind.is_namespace() {
             return self.planting(old, new);
         }
@@ -114,6 +123,26 @@ impl IndexedState {
         }
         object_in(self.store.find(Kind::Namespace, "", id.ns.as_str()))
     }
+}
+
+/// The object that a write stores.
+fn object_after(write: &Change) -> Option<&Object>
+    ensures { option_copied result ≡ object_of write.now }
+{
+    object_in(write.object())
+}
+
+/// The numbers once a write is made. Objects whose sizes together don't fit 64 bits fit no memory, either.
+fn counts_after(
+    counts: LimitCounts,
+    old: Option<&Object>,
+    new: Option<&Object>,
+) -> Result<LimitCounts, NoMemory>
+    requires small { IfSome (option_copied old) (λ x. size_of x ≤ greatest_size) × IfSome (option_copied new) (λ x. size_of x ≤ greatest_size) }
+    requires counted { IsPart (option_copied old) counts }
+    ensures { IfOk result (Counts (option_copied old.entry) (option_copied new.entry) counts) }
+{
+    counts.after(old, new).ok_or(NoMemory)
 }
 
 /// The change by a HierarchyConfiguration, where its namespace is there.

@@ -3,9 +3,9 @@ ghost use Rattle.std.specs.Prelude.{◌≡◌, ◌⊎◌, ◌+◌, ◌<◌, [], 
 ghost use Rattle.hx_model.specs.Answers.{refusal_of};
 ghost use Rattle.hx_model.specs.Limits.{is_namespace, greatest_version};
 ghost use Rattle.hx_model.specs.Serving.{IsServed, IsServedAsk};
-ghost use Rattle.hx_model.specs.State.{with_version};
+ghost use Rattle.hx_model.specs.State.{object_at, with_version};
 ghost use Rattle.hx_model.specs.declared.key.Write.TheVariants as write_of;
-ghost use Rattle.hx_admit.specs.Inside.{IsRefusal, IsReviewed};
+ghost use Rattle.hx_admit.specs.Inside.{IsRefusal, IsReplacement, IsReviewed};
 ghost use Rattle.hx_admit.specs.Reviewing.{Passes};
 ghost use Rattle.hx_model.specs.Writes.{MayWriteAll};
 
@@ -91,10 +91,7 @@ impl IndexedState {
             return Err(Denial::NotFound.refusal(&object.id));
         };
         let found = old.object();
-        if let Err(denial) = self.check_replace(found, &object, expected, skip) {
-            return Err(denial.refusal(&object.id));
-        }
-        let next = replaced_by(found, object)?;
+        let next = self.replacement(found, object, expected, skip)?;
         if next.is_same(found) {
             return Ok(self.unchanged(Answer::One {
                 object: old.share()?,
@@ -105,6 +102,25 @@ impl IndexedState {
             return Err(denial.refusal(&next.id));
         }
         Ok(self.put(next, false)?)
+    }
+
+    /// The object that a PUT gives in the place of the one that is there. What it adds to the sizes isn't looked at yet.
+    fn replacement(
+        &self,
+        old: &Object,
+        object: Object,
+        expected: Option<u64>,
+        skip: bool,
+    ) -> Result<Object, Refusal>
+        requires served { IsServed object }
+        requires there { object_at self.now.state.objects object.id ≡ Some old.now }
+        ensures refused { IfErr result (IsRefusal self.now.state (Ask.Replace object expected skip)) }
+        ensures gives { IfOk result (IsReplacement self.now.state object old.now expected skip) }
+    {
+        if let Err(denial) = self.check_replace(old, &object, expected, skip) {
+            return Err(denial.refusal(&object.id));
+        }
+        Ok(replaced_by(old, object)?)
     }
 
     fn review_delete(&self, id: Id, skip: bool) -> Result<Reviewed, Refusal>

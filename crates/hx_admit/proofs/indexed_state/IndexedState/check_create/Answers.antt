@@ -6,7 +6,7 @@ use Rattle.hx_admit.specs.Inside.{place_refusals}
 use Rattle.hx_admit.specs.Limiting.{count_denials}
 use Rattle.hx_model.specs.Denials.{refusal_by}
 use Rattle.hx_admit.specs.Refusing.{fault_in}
-use Rattle.hx_admit.specs.StateView.{Agrees}
+use Rattle.hx_admit.proofs.Counting.{agrees_seen}
 use Rattle.hx_admit.proofs.Refusing.{create_ruled, create_counted, create_rest}
 use Rattle.hx_admit.proofs.indexed_state.IndexedState.check_create.Goals as goal
 
@@ -19,7 +19,7 @@ returns-in_err-check_case-clause-refusal c =
 
 pub returns-in_err-check_counts-clause-refusal : goal.returns-in_err-check_counts-clause-refusal
 returns-in_err-check_counts-clause-refusal c =
-    let agrees : Agrees c.args.self.now.state.config c.args.self.now.state.objects c.args.self.now.state.last c.self.inside.counts c.self.inside.forest.nodes = rw (← c.self.view_is) c.self.invariant.now in
+    let agrees = agrees_seen c.self.view_is c.self.invariant.now in
     let place : first (place_refusals c.args.self.now.state c.args.object.now.id) ≡ None = sym c.check_place.ensures.refusal ∙ ap (λ r. option_map (refusal_by c.args.object.now.id) (fault_in r)) c.in_ok-check_place.was in
     let ruled = c.check_case.ensures.fault in
     let counted : first (count_denials (is_namespace c.args.object.now.id.kind) (counts c.args.object.now) c.self.inside.counts) ≡ Some c.in_err-check_counts.field-0.0 =
@@ -30,7 +30,7 @@ returns-in_err-check_counts-clause-refusal c =
 
 pub returns-clause-refusal : goal.returns-clause-refusal
 returns-clause-refusal c =
-    let agrees : Agrees c.args.self.now.state.config c.args.self.now.state.objects c.args.self.now.state.last c.self.inside.counts c.self.inside.forest.nodes = rw (← c.self.view_is) c.self.invariant.now in
+    let agrees = agrees_seen c.self.view_is c.self.invariant.now in
     let place : first (place_refusals c.args.self.now.state c.args.object.now.id) ≡ None = sym c.check_place.ensures.refusal ∙ ap (λ r. option_map (refusal_by c.args.object.now.id) (fault_in r)) c.in_ok-check_place.was in
     let ruled = c.check_case.ensures.fault in
     let counted : first (count_denials (is_namespace c.args.object.now.id.kind) (counts c.args.object.now) c.self.inside.counts) ≡ None =

@@ -1,0 +1,11 @@
+use Rattle.std.proofs.Common.{sym}
+use Rattle.hx_model.specs.declared.ask.Ask.TheVariants.{Replace}
+use Rattle.hx_model.specs.Denials.{refusal_by}
+use Rattle.hx_admit.proofs.Refusing.{replace_first}
+use Rattle.hx_admit.proofs.Reviewing.{refused_by}
+use Rattle.hx_admit.proofs.indexed_state.IndexedState.replacement.Goals as goal
+
+pub returns-in-Err-clause-refused : goal.returns-in-Err-clause-refused
+returns-in-Err-clause-refused c =
+    let refused = replace_first c.args.self.now.state c.args.object c.args.old.now c.args.expected c.args.skip (refusal_by c.args.object.id c.in-Err.denial) c.requires.there (sym c.in-Err.ensures.refusal) in
+    refused_by c.args.self.now.state (Replace c.args.object c.args.expected c.args.skip) c.args.object.id c.in-Err.denial _ refused c.refusal.ensures
