@@ -4,35 +4,28 @@
 --     asks_passed        an answer without writes
 --     asks_landed        an answer whose writes landed
 --     asks_lost          an ask whose writes were lost
---     text_written       the first body that is written is the text of the answer
 --     idle_written       an ask that makes a write would change something
-use Rattle.std.proofs.Common.{◌≡◌, ◌≢◌, ◌+◌, ℕ, Bool, true, false, List, [], ◌∷◌, None, Some, Option, refl, sym, ap, subst, ◌∙◌, inl, inr, cond}
-use Rattle.std.specs.Prelude.{◌⊎◌, IfSome}
+use Rattle.std.proofs.Common.{◌≡◌, ◌≢◌, Bool, true, false, List, [], ◌∷◌, None, Some, Option, refl, sym, ap, subst, ◌∙◌, inl, inr}
+use Rattle.std.specs.Prelude.{◌⊎◌}
 use Rattle.hx_object.specs.declared.object.Id.{Id}
 use Rattle.hx_object.specs.declared.object.Object.{Object}
-use Rattle.hx_object.specs.Json.{object_text}
-use Rattle.hx_ports.specs.declared.keeper.Batch.{Batch}
-use Rattle.hx_model.specs.Answers.{refusal_of, answer_to, writes_of, success, answer_found, replacing, replaced_by, same_object, Mutates}
-use Rattle.hx_model.specs.Bodies.{answer_text}
+use Rattle.hx_model.specs.Answers.{refusal_of, answer_to, writes_of, success, answer_found, Mutates}
 use Rattle.hx_model.specs.Machine.{Request, LostRequest, NoMemory, KeeperFault, broken_at}
 use Rattle.hx_model.specs.Requests.{request_entry}
-use Rattle.hx_model.specs.State.{State, state_after, object_at, put, with_version}
+use Rattle.hx_model.specs.State.{State, state_after, object_at}
 use Rattle.hx_model.specs.declared.ask.Ask.{Ask}
 use Rattle.hx_model.specs.declared.ask.Ask.TheVariants.{Get, List as ListOf, Create, Replace, Delete}
 use Rattle.hx_model.specs.declared.ask.Answer.{Answer}
 use Rattle.hx_model.specs.declared.ask.Answer.TheVariants.{Refused as Refusing}
 use Rattle.hx_model.specs.declared.key.Write.{Write}
-use Rattle.hx_model.specs.declared.key.Write.TheVariants.{Put}
 use Rattle.hx_model.specs.declared.refusal.Refusal.{Refusal}
 use Rattle.hx_model.specs.declared.refusal.Refusal.TheVariants.{StoreFailed, NoMemory as NoRoom}
-use Rattle.hx_model.proofs.Objects.{object_at-put_itself}
 use Rattle.hx_model.proofs.Replying.{answer-refused, answer-passed, changes-refused, changes-read}
 use Rattle.hx_admit.specs.Reviewing.{Passes}
 use Rattle.hx_core.specs.Committing.{HasLanded, HasFailed}
 use Rattle.hx_core.specs.Refinement.{ClusterView, HasWorld, Simulates}
 use Rattle.hx_core.specs.declared.commit.CommitFault.{CommitFault}
 use Rattle.hx_core.specs.declared.commit.CommitFault.TheVariants.{KeeperFault as CommitKeeperFault, NoMemory as CommitNoMemory}
-use Rattle.hx_core.specs.Rows.{rows_put, batch_of, first_body}
 use Rattle.hx_core.proofs.Making.{enters_still, enters_landed, enters_failed}
 use Rattle.hx_core.proofs.Refusing.{refusal_entry}
 
@@ -110,36 +103,3 @@ asks_lost old new ask ws answer CommitNoMemory refusal stood passes some memory 
 -- an ask that makes writes isn't idle
 pub idle_written : (A : Type 0) (s : State) (ask : Ask) (ws : List Write) (answer : Answer) → Passes s ask ws answer → ws ≢ [] → (Mutates s ask → ⊥) → A
 idle_written A s ask ws answer passes some idle = absurd (idle (changing s ask ws answer passes some))
-
--- ---- texts
-
--- an object that is put is found, and its text is that of the answer
-put_says : (s : State) (x : Object) (fresh : Bool) (id : Id) (text : List ℕ) → x.id ≡ id → Some (object_text x) ≡ Some text → text ≡ answer_text (answer_found (object_at (put x s.objects) id) fresh id)
-put_says s x fresh id text is e =
-    let same : object_text x ≡ text = cc in
-    let found : object_at (put x s.objects) id ≡ Some x = subst (λ i. object_at (put x s.objects) i ≡ Some x) is (object_at-put_itself x s.objects) in
-    sym same ∙ sym (ap (λ o. answer_text (answer_found o fresh id)) found)
-
-replaced_says : (s : State) (x : Object) (expected : Option ℕ) (skip : Bool) (found : Option Object) (text : List ℕ) → first_body (rows_put (replacing found x (s.last + 1))) ≡ Some text
-    → text ≡ answer_text (success s (state_after s (replacing found x (s.last + 1))) (Replace x expected skip))
-replaced_says s x expected skip None text e = absurd (let h : Some text ≡ None = sym e in cc)
-replaced_says s x expected skip (Some old) text e = by (same_object (replaced_by old x) old) e
-  where
-    by : (b : Bool) → first_body (rows_put (cond b [] (Put (with_version (replaced_by old x) (s.last + 1)) ∷ []))) ≡ Some text
-        → text ≡ answer_text (success s (state_after s (cond b [] (Put (with_version (replaced_by old x) (s.last + 1)) ∷ []))) (Replace x expected skip))
-    by true e = absurd (let h : Some text ≡ None = sym e in cc)
-    by false e = put_says s (with_version (replaced_by old x) (s.last + 1)) false x.id text refl e
-
-first_says : (s : State) (ask : Ask) (text : List ℕ) → first_body (rows_put (writes_of s ask)) ≡ Some text → text ≡ answer_text (success s (state_after s (writes_of s ask)) ask)
-first_says s (Get id) text e = absurd (let h : Some text ≡ None = sym e in cc)
-first_says s (ListOf kind ns) text e = absurd (let h : Some text ≡ None = sym e in cc)
-first_says s (Create x skip) text e = put_says s (with_version x (s.last + 1)) true x.id text refl e
-first_says s (Replace x expected skip) text e = replaced_says s x expected skip (object_at s.objects x.id) text e
-first_says s (Delete id skip) text e = absurd (let h : Some text ≡ None = sym e in cc)
-
--- the first body that is written is the text of the answer
-pub text_written : (s : State) (ask : Ask) (ws : List Write) (answer : Answer) (batch : Batch) (version : ℕ) (text : Option (List ℕ)) → Passes s ask ws answer → batch ≡ batch_of ws version → text ≡ first_body batch.puts → IfSome text (λ t. t ≡ answer_text answer)
-text_written s ask ws answer batch version None passes is first = tt
-text_written s ask ws answer batch version (Some text) passes is first =
-    let body : first_body (rows_put (writes_of s ask)) ≡ Some text = ap (λ vs. first_body (rows_put vs)) passes.changes ∙ sym (first ∙ ap (λ (b : Batch). first_body b.puts) is) in
-    first_says s ask text body ∙ ap (λ vs. answer_text (success s (state_after s vs) ask)) passes.changes ∙ ap answer_text passes.says

@@ -25,7 +25,6 @@ use Rattle.hx_core.specs.Inside.{IsSound, view_of}
 use Rattle.hx_core.specs.Refinement.{ClusterView, kept_of}
 use Rattle.hx_core.specs.declared.commit.CommitFault.{CommitFault}
 use Rattle.hx_core.specs.declared.commit.CommitFault.TheVariants.{KeeperFault, NoMemory}
-use Rattle.hx_core.specs.declared.commit.Landed.{Landed}
 use Rattle.hx_core.proofs.Making.{stands_landed, stands_failed}
 use Rattle.hx_core.proofs.Storing.{landed_held}
 
@@ -85,7 +84,7 @@ fault_of_keeper Fault r memory e = refl
 fault_of_keeper KeepNoMemory r memory e = let h : r ≡ NoMemory = memory refl in cc
 
 -- the fields are sound, however the commit ended
-pub sound_committed : (s r t : State) (ws prepared : List Write) (k k' : KeeperView) (staged staged' : List Write) (result : Result Landed CommitFault) → IsSound s k staged → MayWriteAll s ws → r ≡ s → prepared ≡ ws → staged' ≡ []
+pub sound_committed : {T : Type 0} (s r t : State) (ws prepared : List Write) (k k' : KeeperView) (staged staged' : List Write) (result : Result T CommitFault) → IsSound s k staged → MayWriteAll s ws → r ≡ s → prepared ≡ ws → staged' ≡ []
     → OnOk result (HasLanded (view_of r k) prepared (view_of t k')) → (IsErrOf result NoMemory → view_of t k' ≡ view_of r k) → (IsErrOf result KeeperFault → HasFailed (view_of r k) prepared (view_of t k')) → IsSound t k' staged'
 sound_committed s r t ws prepared k k' staged staged' (Ok l) sound may same all none done memory fault =
     sound_landed s t ws k k' staged staged' sound may none (subst (λ us. HasLanded (view_of s k) us (view_of t k')) all (subst (λ u. HasLanded (view_of u k) prepared (view_of t k')) same done))

@@ -1,4 +1,3 @@
-pub mod Keys
 pub mod Batching
 pub mod Storing
 pub mod Making

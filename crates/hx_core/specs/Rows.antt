@@ -2,10 +2,9 @@
 --     current_schema       the schema of the rows
 --     row_of               the row of an object
 --     batch_of             the batch of writes: rows that are put, and keys that are cut
---     first_body           the body of the first row that is put
 --     IsLegalWrite         an object that is put is legal
 --     IsOfTexts            the keys and the bodies of a batch are texts
-use Rattle.std.specs.Prelude.{ℕ, List, [], ◌∷◌, IsUtf8, Option, Some, None}
+use Rattle.std.specs.Prelude.{ℕ, List, [], ◌∷◌, IsUtf8}
 use Rattle.std.specs.List.{AllByRecursion}
 use Rattle.hx_object.specs.Faults.{IsLegal}
 use Rattle.hx_object.specs.Json.{object_text}
@@ -39,11 +38,6 @@ keys_cut (Cut id ∷ writes) = key_text id ∷ keys_cut writes
 -- the batch of writes
 abbrev pub batch_of : List Write → ℕ → Batch
 batch_of writes version = record { version = version; puts = rows_put writes; cuts = keys_cut writes }
-
--- the body of the first row
-abbrev pub first_body : List Row → Option (List ℕ)
-first_body [] = None
-first_body (row ∷ rows) = Some row.body
 
 -- an object that is put is legal
 abbrev pub IsLegalWrite : Write → Type 0

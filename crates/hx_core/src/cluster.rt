@@ -2,7 +2,6 @@
 ghost use Rattle.std.specs.Prelude.{◌≡◌, ◌≢◌, [], ◌∷◌, IfOk, IfErr, IfSome, IsSome, OnOk, IsErrOf};
 ghost use Rattle.hx_ports.specs.Causes.{Rose};
 ghost use Rattle.hx_model.specs.Answers.{Mutates};
-ghost use Rattle.hx_model.specs.Bodies.{answer_text};
 ghost use Rattle.hx_model.specs.Machine.{opening_world};
 ghost use Rattle.hx_model.specs.Requests.{request_entry};
 ghost use Rattle.hx_model.specs.Serving.{IsServedAsk, IsLegalAnswer};
@@ -10,17 +9,16 @@ ghost use Rattle.hx_model.specs.State.{opening_state};
 ghost use Rattle.hx_model.specs.Writes.{MayWriteAll};
 ghost use Rattle.hx_core.specs.Committing.{HasLanded, HasFailed};
 ghost use Rattle.hx_core.specs.Refinement.{Represents, HasWorld, Simulates};
-ghost use Rattle.hx_core.specs.Rows.{batch_of, IsOfTexts};
 ghost use Rattle.hx_core.specs.Starting.{IsDamaged, IfDamaged, IsUndamaged, IsUntouched};
 
-use crate::commit::{CommitFault, Landed, commit, prepare};
-use crate::rows::{SCHEMA, first_text};
+use crate::commit::{CommitFault, commit, prepare};
+use crate::rows::SCHEMA;
 use hx_admit::{GREATEST_VERSION, IndexedState, Reviewed};
 use hx_model::{Answer, Ask, Refusal, RunConfig};
-use hx_object::Text;
 use hx_ports::{KeepFault, Keeper};
 use hx_store::Change;
 use std::alloc::Global;
+use std::hash::RandomState;
 use std::marker::Model;
 
 /// Objects in memory over a keeper of their rows.
@@ -44,14 +42,6 @@ impl<K: Keeper> Model for Cluster<K> {
     ghost invariant = { λ c. IsSound c.state.state (K.shown c.keeper) c.state.staged };
 }
 
-/// What a request is answered.
-#[derive(Drop)]
-pub struct Response {
-    pub answer: Answer,
-    /// The text of the answer, where the request's write made it. Else it is yet to be made.
-    pub text: Option<Text>,
-}
-
 /// Why a cluster didn't start.
 #[derive(Clone, Copy, Debug, PartialEq, Eq)]
 pub enum StartFault {
@@ -69,11 +59,12 @@ pub struct Unstarted<K> {
 }
 
 impl<K: Keeper> Cluster<K> {
-    /// Starts on a keeper that has its place and no rows, under a configuration that is fixed for the run.
+    /// Starts on a keeper that has its place and no rows, under a configuration that is fixed for the run. What is looked up by texts is hashed with the keys, on which nothing else depends.
     pub fn start(
         alloc: Global,
         mut keeper: K,
         config: RunConfig,
+        keys: RandomState,
     ) -> Result<Cluster<K>, Unstarted<K>>
         requires { IsSome (K.shown keeper).place }
         ensures opens { IfOk result (λ c. Represents c (opening_world c.keeper.broken (opening_state config c.state.last))) }
@@ -94,7 +85,7 @@ impl<K: Keeper> Cluster<K> {
                         keeper,
                     });
                 }
-                let state = IndexedState::new(alloc, meta.version, config);
+                let state = IndexedState::new(alloc, meta.version, config, keys);
                 Ok(Cluster { keeper, state })
             }
             Err(KeepFault::Fault) => Err(Unstarted {
@@ -109,27 +100,23 @@ impl<K: Keeper> Cluster<K> {
     }
 
     /// Answers one ask. All that a write needs is made before the keeper is asked.
-    pub fn request(&mut self, ask: Ask) -> Response
+    pub fn request(&mut self, ask: Ask) -> Answer
         requires { IsServedAsk ask }
-        ensures simulates { Simulates self.old (request_entry ask result.answer ∷ []) self.new }
-        ensures legal { IsLegalAnswer result.answer }
-        ensures text { IfSome result.text (λ text. text ≡ answer_text result.answer) }
+        ensures simulates { Simulates self.old (request_entry ask result ∷ []) self.new }
+        ensures legal { IsLegalAnswer result }
         ensures idle { (Mutates self.old.state ask → ⊥) → self.new.keeper ≡ self.old.keeper }
     {
         match self.state.review(ask) {
-            Err(refusal) => refused(refusal),
+            Err(refusal) => Answer::Refused(refusal),
             Ok(Reviewed { writes, answer }) => {
                 if writes.is_empty() {
-                    return Response { answer, text: None };
+                    return answer;
                 }
                 match self.write(writes) {
-                    Ok(landed) => Response {
-                        answer,
-                        text: first_text(landed.batch),
-                    },
+                    Ok(()) => answer,
                     Err(fault) => {
                         drop(answer);
-                        refused(lost(fault))
+                        Answer::Refused(lost(fault))
                     }
                 }
             }
@@ -153,14 +140,12 @@ impl<K: Keeper> Cluster<K> {
     }
 
     /// Prepares writes, and commits them.
-    fn write(&mut self, writes: Vec<Change>) -> Result<Landed, CommitFault>
+    fn write(&mut self, writes: Vec<Change>) -> Result<(), CommitFault>
         requires may { MayWriteAll self.old.state writes.items }
         requires some { writes.items ≢ [] }
         ensures landed { OnOk result (HasLanded self.old writes.items self.new) }
         ensures memory { IsErrOf result CommitFault.NoMemory → self.new ≡ self.old }
         ensures fault { IsErrOf result CommitFault.KeeperFault → HasFailed self.old writes.items self.new }
-        ensures batch { IfOk result (λ landed. landed.batch ≡ batch_of writes.items self.new.state.last) }
-        ensures texts { IfOk result (λ landed. IsOfTexts landed.batch) }
     {
         let Ok(prepared) = prepare(&mut self.state, writes) else {
             return Err(CommitFault::NoMemory);
@@ -177,16 +162,5 @@ fn lost(fault: CommitFault) -> Refusal
     match fault {
         CommitFault::KeeperFault => Refusal::StoreFailed,
         CommitFault::NoMemory => Refusal::NoMemory,
-    }
-}
-
-/// A refusal, as a response.
-fn refused(refusal: Refusal) -> Response
-    ensures answer { result.answer ≡ Answer.Refused refusal }
-    ensures text { result.text ≡ None }
-{
-    Response {
-        answer: Answer::Refused(refusal),
-        text: None,
     }
 }

@@ -20,13 +20,6 @@ pub struct Prepared {
     pub batch: Batch,
 }
 
-/// Writes that were made.
-#[derive(Drop)]
-pub struct Landed {
-    /// The rows that the keeper took.
-    pub batch: Batch,
-}
-
 /// Why a commit didn't land.
 #[derive(Clone, Copy, Debug, PartialEq, Eq)]
 pub enum CommitFault {
@@ -68,21 +61,20 @@ pub fn commit<K: Keeper>(
     keeper: &mut K,
     state: &mut IndexedState,
     prepared: Prepared,
-) -> Result<Landed, CommitFault>
+) -> Result<(), CommitFault>
     requires valid { IsValid state.old.state }
     requires held { Holds state.old.state (K.shown keeper.old) }
     requires prepared { IsPrepared state.old.state state.old.staged prepared.batch }
     ensures landed { OnOk result (HasLanded (view_of state.old.state (K.shown keeper.old)) state.old.staged (view_of state.new.state (K.shown keeper.new))) }
     ensures memory { IsErrOf result CommitFault.NoMemory → view_of state.new.state (K.shown keeper.new) ≡ view_of state.old.state (K.shown keeper.old) }
     ensures fault { IsErrOf result CommitFault.KeeperFault → HasFailed (view_of state.old.state (K.shown keeper.old)) state.old.staged (view_of state.new.state (K.shown keeper.new)) }
-    ensures batch { IfOk result (λ landed. landed.batch ≡ prepared.batch) }
     ensures staged { state.new.staged ≡ [] }
 {
     let Prepared { batch } = prepared;
-    match keeper.commit(&batch) {
+    match keeper.commit(batch) {
         Ok(()) => {
             state.apply();
-            Ok(Landed { batch })
+            Ok(())
         }
         Err(fault) => {
             state.discard();

@@ -8,5 +8,5 @@ mod cluster;
 mod commit;
 mod rows;
 
-pub use cluster::{Cluster, Response, StartFault, Unstarted};
+pub use cluster::{Cluster, StartFault, Unstarted};
 pub use rows::SCHEMA;
