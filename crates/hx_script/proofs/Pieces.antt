@@ -11,7 +11,7 @@ use Rattle.std.proofs.lemmas.List.Splits.{slice_split_at, slice_split_none}
 use Rattle.hx_core.specs.Refinement.{ClusterView}
 use Rattle.hx_script.specs.Lines.{Line, script_lines, asking, lines_of_parts}
 use Rattle.hx_script.specs.Running.{Does, Cuts, OfScript, HasNoEnd, IsWaiting, EndsAt, most_kept, most_bytes, Feeds, CutsPiece, ReadsOn}
-use Rattle.hx_script.proofs.Kept.{asking-cons, script_lines-kept, HasNoEnd-append, IsWaiting-keep}
+use Rattle.hx_script.proofs.Kept.{asking-cons, asking-kept, script_lines-kept, HasNoEnd-append}
 use Rattle.hx_script.proofs.Running.{Ran-none, Does-then, Does-cuts, Cuts-none, Cuts-more}
 
 -- ---- line feeds
@@ -33,14 +33,18 @@ Feeds-none waiting c x = record { lines = []; splits = λ rest. refl; does = Ran
 behind : (old piece more rest : List ℕ) → old ++ ((piece ++ more) ++ rest) ≡ old ++ (piece ++ (more ++ rest))
 behind old piece more rest = ap (λ l. old ++ l) (append_assoc piece more rest)
 
--- a stretch waits
-Feeds-keep : (old piece now stretch : List ℕ) (a b : ClusterView) (x y : Option (List ℕ)) → Feeds old piece now a b x y → HasNoEnd now → HasNoEnd stretch → Feeds old (piece ++ stretch) (take most_kept (now ++ stretch)) a b x y
-Feeds-keep old piece now stretch a b x y p none more =
+-- a stretch waits, too
+Feeds-more : (old piece now stretch : List ℕ) (a b : ClusterView) (x y : Option (List ℕ)) → Feeds old piece now a b x y → Feeds old (piece ++ stretch) (now ++ stretch) a b x y
+Feeds-more old piece now stretch a b x y p =
     record {
       lines = p.lines;
-      splits = λ rest. ap script_lines (behind old piece stretch rest) ∙ p.splits (stretch ++ rest) ∙ ap (λ l. p.lines ++ script_lines l) (sym (append_assoc now stretch rest)) ∙ ap (λ l. p.lines ++ l) (script_lines-kept (now ++ stretch) rest (HasNoEnd-append now stretch none more));
+      splits = λ rest. ap script_lines (behind old piece stretch rest) ∙ p.splits (stretch ++ rest) ∙ ap (λ l. p.lines ++ script_lines l) (sym (append_assoc now stretch rest));
       does = p.does;
     }
+
+-- what is kept of what waits will do
+Feeds-keep : (old piece now : List ℕ) (a b : ClusterView) (x y : Option (List ℕ)) → Feeds old piece now a b x y → HasNoEnd now → Feeds old piece (take most_kept now) a b x y
+Feeds-keep old piece now a b x y p none = record { lines = p.lines; splits = λ rest. p.splits rest ∙ ap (λ l. p.lines ++ l) (script_lines-kept now rest none); does = p.does }
 
 -- a line ends
 Feeds-end : (old piece now : List ℕ) (a b c : ClusterView) (x y z : Option (List ℕ)) → Feeds old piece now a b x y → HasNoEnd now → Does (asking now) b c y z → Feeds old (piece ++ 10 ∷ []) [] a c x z
@@ -84,22 +88,39 @@ taken piece at end p =
 
 -- a line ends behind the place
 pub Feeds-line : (old piece now : List ℕ) (at end : ℕ) (a b c : ClusterView) (x y z : Option (List ℕ)) → Feeds old (take at piece) now a b x y → IsWaiting now → EndsAt (drop at piece) end
-    → Does (asking (take most_kept (now ++ take end (drop at piece)))) b c y z → Feeds old (take (at + (end + 1)) piece) [] a c x z
+    → Does (asking (now ++ take end (drop at piece))) b c y z → Feeds old (take (at + (end + 1)) piece) [] a c x z
 Feeds-line old piece now at end a b c x y z p waits ends more =
+    let stretch = take end (drop at piece) in
     subst (λ l. Feeds old l [] a c x z) (sym (taken piece at end ends))
-    (Feeds-end old (take at piece ++ take end (drop at piece)) (take most_kept (now ++ take end (drop at piece))) a b c x y z (Feeds-keep old (take at piece) now (take end (drop at piece)) a b x y p waits.no_end ends.before) (IsWaiting-keep now (take end (drop at piece)) waits.no_end ends.before).no_end more)
+    (Feeds-end old (take at piece ++ stretch) (now ++ stretch) a b c x y z (Feeds-more old (take at piece) now stretch a b x y p) (HasNoEnd-append now stretch waits.no_end ends.before) more)
+
+-- nothing waits in front of a line
+pub Does-alone : (now part : List ℕ) (a b : ClusterView) (x y : Option (List ℕ)) → now ≡ [] → Does (asking part) a b x y → Does (asking (now ++ part)) a b x y
+Does-alone now part a b x y none p = subst (λ front. Does (asking (front ++ part)) a b x y) (sym none) p
+
+pub Cuts-alone : (now part : List ℕ) (a b : ClusterView) (x y : Option (List ℕ)) → now ≡ [] → Cuts (asking part) a b x y → Cuts (asking (now ++ part)) a b x y
+Cuts-alone now part a b x y none p = subst (λ front. Cuts (asking (front ++ part)) a b x y) (sym none) p
+
+-- what is kept of a line is answered as the line
+pub Does-kept : (part kept : List ℕ) (a b : ClusterView) (x y : Option (List ℕ)) → kept ≡ take most_kept part → Does (asking kept) a b x y → Does (asking part) a b x y
+Does-kept part kept a b x y is p = subst (λ ls. Does ls a b x y) (ap asking is ∙ asking-kept part) p
+
+pub Cuts-kept : (part kept : List ℕ) (a b : ClusterView) (x y : Option (List ℕ)) → kept ≡ take most_kept part → Cuts (asking kept) a b x y → Cuts (asking part) a b x y
+Cuts-kept part kept a b x y is p = subst (λ ls. Cuts ls a b x y) (ap asking is ∙ asking-kept part) p
 
 -- the rest of a piece waits
 pub Feeds-rest : (old piece now : List ℕ) (at : ℕ) (a b : ClusterView) (x y : Option (List ℕ)) → Feeds old (take at piece) now a b x y → IsWaiting now → HasNoEnd (drop at piece) → Feeds old piece (take most_kept (now ++ drop at piece)) a b x y
 Feeds-rest old piece now at a b x y p waits none =
-    subst (λ l. Feeds old l (take most_kept (now ++ drop at piece)) a b x y) (take-append-drop at piece) (Feeds-keep old (take at piece) now (drop at piece) a b x y p waits.no_end none)
+    subst (λ l. Feeds old l (take most_kept (now ++ drop at piece)) a b x y) (take-append-drop at piece)
+    (Feeds-keep old (take at piece ++ drop at piece) (now ++ drop at piece) a b x y (Feeds-more old (take at piece) now (drop at piece) a b x y p) (HasNoEnd-append now (drop at piece) waits.no_end none))
 
 -- the run was cut short in the line that ends behind the place
 pub Cuts-line : (old piece now : List ℕ) (at end : ℕ) (a b c : ClusterView) (x y z : Option (List ℕ)) → Feeds old (take at piece) now a b x y → IsWaiting now → EndsAt (drop at piece) end
-    → Cuts (asking (take most_kept (now ++ take end (drop at piece)))) b c y z → CutsPiece old piece a c x z
+    → Cuts (asking (now ++ take end (drop at piece))) b c y z → CutsPiece old piece a c x z
 Cuts-line old piece now at end a b c x y z p waits ends cuts =
-    Cuts-feed old piece (take at piece ++ take end (drop at piece)) (drop (suc end) (drop at piece)) (take most_kept (now ++ take end (drop at piece))) a b c x y z
-    (Feeds-keep old (take at piece) now (take end (drop at piece)) a b x y p waits.no_end ends.before) (IsWaiting-keep now (take end (drop at piece)) waits.no_end ends.before).no_end (split_at piece at end ends) cuts
+    let stretch = take end (drop at piece) in
+    Cuts-feed old piece (take at piece ++ stretch) (drop (suc end) (drop at piece)) (now ++ stretch) a b c x y z
+    (Feeds-more old (take at piece) now stretch a b x y p) (HasNoEnd-append now stretch waits.no_end ends.before) (split_at piece at end ends) cuts
 
 -- nothing behind the place was taken
 pub Cuts-rest : (old piece now : List ℕ) (at : ℕ) (a b : ClusterView) (x y : Option (List ℕ)) → Feeds old (take at piece) now a b x y → CutsPiece old piece a b x y

@@ -1,36 +1,23 @@
 // The lines of answers.
-ghost use Rattle.std.specs.Prelude.{◌≡◌, ◌≢◌, IfOk, IfSome, IfNone};
-ghost use Rattle.hx_model.specs.Bodies.{answer_text};
+ghost use Rattle.std.specs.Prelude.{◌≡◌, ◌≢◌, ◌++◌, OnOk, IfSome, IfNone, string_bytes};
 ghost use Rattle.hx_model.specs.Serving.{IsLegalAnswer};
-ghost use Rattle.hx_script.specs.Replies.{line_of, answer_line};
+ghost use Rattle.hx_script.specs.Replies.{answer_line};
 
-use hx_api::reply_to;
+use hx_api::{push_body, status_of};
 use hx_model::{Answer, Refusal};
-use hx_object::{NoMemory, Text};
-use std::alloc::Global;
+use hx_object::NoMemory;
 
-/// The line of an answer. A text of the answer that was made already isn't made again.
-pub fn answer_line(alloc: Global, answer: &Answer, written: Option<Text>) -> Result<Text, NoMemory>
-    requires legal { IsLegalAnswer answer.now }
-    requires written { IfSome written (λ text. text ≡ answer_text answer.now) }
-    ensures { IfOk result (λ line. line ≡ answer_line answer.now) }
-{
-    let reply = reply_to(alloc, answer, written)?;
-    line_of(alloc, reply.status, reply.body.as_str())
-}
-
-/// The status, a space, the body and a line feed, in one piece of memory and so in one write.
+/// Appends the line of an answer: the status, a space, the body and a line feed. After an error it holds a part of it.
 #[tactic(auto, unfolding(crate::specs::Replies::line_of))]
-fn line_of(alloc: Global, code: u16, body: &str) -> Result<Text, NoMemory>
-    ensures { IfOk result (λ text. text ≡ line_of code body.now) }
+pub fn push_line(out: &mut String, answer: &Answer) -> Result<(), NoMemory>
+    requires { IsLegalAnswer answer.now }
+    ensures { OnOk result (string_bytes out.new ≡ string_bytes out.old ++ answer_line answer.now) }
 {
-    let status = format!(in alloc; "{code} ")?;
-    let length = status.len().saturating_add(body.len()).saturating_add(1);
-    let mut line = String::with_capacity(alloc, length)?;
-    line.push_str(status.as_str())?;
-    line.push_str(body)?;
-    line.push('\n')?;
-    Ok(Text::of_string(line))
+    let status = status_of(answer);
+    write!(out, "{status} ")?;
+    push_body(out, answer)?;
+    out.push('\n')?;
+    Ok(())
 }
 
 /// The lines that need no memory, among them those of all refusals that a line fixes without a target.

@@ -5,6 +5,7 @@
 
 mod answer_line;
 mod line;
+mod responder;
 mod script;
 mod words;
 mod worker;

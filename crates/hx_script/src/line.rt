@@ -7,15 +7,14 @@ ghost use Rattle.hx_script.specs.Forms.{method_of, takes_body, body_of, target_o
 
 use crate::words::{rest_of, word_of};
 use crate::worker::is_worker_line;
-use hx_api::{Method, Routes};
+use hx_api::{Method, RequestReader};
 use hx_model::{Ask, Refusal};
-use std::alloc::Global;
 
 /// The most bytes of a line.
 const MOST_LINE_BYTES: usize = 131_072;
 
 /// What a line asks, or the refusal that it fixes. It is refused for want of memory too.
-pub fn read_line(alloc: Global, routes: &Routes, line: &[u8]) -> Result<Ask, Refusal>
+pub fn read_line(reader: &mut RequestReader, line: &[u8]) -> Result<Ask, Refusal>
     ensures asks { IfOk result (λ ask. reading_of (line_of_text line.now) ≡ Ok ask) }
     ensures refused { IfErr result (λ refusal. (refusal ≡ Refusal.NoMemory) ⊎ (reading_of (line_of_text line.now) ≡ Err refusal)) }
     ensures served { IfOk result IsServedAsk }
@@ -23,35 +22,35 @@ pub fn read_line(alloc: Global, routes: &Routes, line: &[u8]) -> Result<Ask, Ref
     if line.len() > MOST_LINE_BYTES {
         return Err(Refusal::TooLong);
     }
-    read_bytes(alloc, routes, line)
+    read_bytes(reader, line)
 }
 
 /// What the bytes of a line ask. Bytes that aren't UTF-8 ask nothing.
-fn read_bytes(alloc: Global, routes: &Routes, line: &[u8]) -> Result<Ask, Refusal>
+fn read_bytes(reader: &mut RequestReader, line: &[u8]) -> Result<Ask, Refusal>
     ensures asks { IfOk result (λ ask. reading_of_bytes line.now ≡ Ok ask) }
     ensures refused { IfErr result (λ refusal. (refusal ≡ Refusal.NoMemory) ⊎ (reading_of_bytes line.now ≡ Err refusal)) }
     ensures served { IfOk result IsServedAsk }
 {
     match str::from_utf8(line) {
-        Ok(text) => read_text(alloc, routes, text),
+        Ok(text) => read_text(reader, text),
         Err(_) => Err(Refusal::BadLine),
     }
 }
 
 #[tactic(auto, unfolding(crate::specs::Forms::reading_of_text))]
-fn read_text(alloc: Global, routes: &Routes, text: &str) -> Result<Ask, Refusal>
+fn read_text(reader: &mut RequestReader, text: &str) -> Result<Ask, Refusal>
     ensures asks { IfOk result (λ ask. reading_of_text text.now ≡ Ok ask) }
     ensures refused { IfErr result (λ refusal. (refusal ≡ Refusal.NoMemory) ⊎ (reading_of_text text.now ≡ Err refusal)) }
     ensures served { IfOk result IsServedAsk }
 {
     match method_of(word_of(text)) {
         None => Err(refusal_of(text)),
-        Some(method) => read_request(alloc, routes, method, text),
+        Some(method) => read_request(reader, method, text),
     }
 }
 
 /// What the method of a line and what follows it ask.
-fn read_request(alloc: Global, routes: &Routes, method: Method, text: &str) -> Result<Ask, Refusal>
+fn read_request(reader: &mut RequestReader, method: Method, text: &str) -> Result<Ask, Refusal>
     ensures asks { IfOk result (λ ask. request_in method (rest_of text.now) ≡ Ok ask) }
     ensures refused { IfErr result (λ refusal. (refusal ≡ Refusal.NoMemory) ⊎ (request_in method (rest_of text.now) ≡ Err refusal)) }
     ensures served { IfOk result IsServedAsk }
@@ -65,7 +64,7 @@ fn read_request(alloc: Global, routes: &Routes, method: Method, text: &str) -> R
     let Some(body) = body_of(method, rest) else {
         return Err(Refusal::BadLine);
     };
-    routes.read_ask(alloc, method, target, body.as_bytes())
+    reader.read_ask(method, target, body.as_bytes())
 }
 
 fn method_of(word: &str) -> Option<Method>

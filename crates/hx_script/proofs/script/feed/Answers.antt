@@ -1,4 +1,4 @@
-use Rattle.std.proofs.Common.{arith, refl, length-drop, drop, take, ap, ◌∙◌, ◌++◌}
+use Rattle.std.proofs.Common.{arith, refl, length-drop, take, ap, ◌∙◌, ◌++◌}
 use Rattle.std.proofs.lemmas.List.{take_rest}
 use Rattle.hx_script.specs.Running.{most_kept}
 use Rattle.hx_script.proofs.Running.{calm_on, on_err_all}
@@ -12,34 +12,28 @@ loop-end-init g c = record { within = omega arith; waits = c.requires; calm = re
 pub loop-end-preserved : goal.loop-end-preserved
 loop-end-preserved g c =
     let ends = rw (take_rest c.args.piece.now c.loop-end.at) at c.in-Some.ensures.found in
-    let kept = c.as_slice.ensures.value ∙ c.in_ok-keep.ensures ∙ ap (λ n. take most_kept (c.loop-end.waiting.items ++ take n (drop c.loop-end.at c.args.piece.now))) (add_back c.loop-end.at c.in-Some.end) in
-    let answered = rw kept at c.in_ok-answer_part.ensures.does in
-    let cause = c.in_ok-answer_part.ensures.cause in
-    rw c.clear.ensures.items (record {
+    let answered = rw (add_back c.loop-end.at c.in-Some.end) at c.in_ok-end_line.ensures.does in
+    rw c.in_ok-end_line.ensures.cleared (record {
       within = omega (arith, ends.within, length-drop c.loop-end.at c.args.piece.now);
       waits = record { no_end = tt; few = omega arith };
-      calm = calm_on _ _ _ c.loop-end.invariant.calm cause.still;
+      calm = calm_on _ _ _ c.loop-end.invariant.calm c.in_ok-end_line.ensures.still;
       feeds = Feeds-line _ _ _ _ _ _ _ _ _ _ _ c.loop-end.invariant.feeds c.loop-end.invariant.waits ends answered;
     })
+
+pub returns-in_err-end_line-clause-cut : goal.returns-in_err-end_line-clause-cut
+returns-in_err-end_line-clause-cut g c =
+    let ends = rw (take_rest c.args.piece.now c.loop-end.at) at c.in-Some.ensures.found in
+    let cut = rw (add_back c.loop-end.at c.in-Some.end) at c.in_err-end_line.ensures.cut in
+    on_err_all _ (Cuts-line _ _ _ _ _ _ _ _ _ _ _ c.loop-end.invariant.feeds c.loop-end.invariant.waits ends cut)
 
 pub returns-in_err-keep-clause-cut : goal.returns-in_err-keep-clause-cut
 returns-in_err-keep-clause-cut g c = on_err_all _ (Cuts-rest _ _ _ _ _ _ _ _ c.loop-end.invariant.feeds)
 
-pub returns-in_err-answer_part-clause-cut : goal.returns-in_err-answer_part-clause-cut
-returns-in_err-answer_part-clause-cut g c =
-    let ends = rw (take_rest c.args.piece.now c.loop-end.at) at c.in-Some.ensures.found in
-    let kept = c.as_slice.ensures.value ∙ c.in_ok-keep.ensures ∙ ap (λ n. take most_kept (c.loop-end.waiting.items ++ take n (drop c.loop-end.at c.args.piece.now))) (add_back c.loop-end.at c.in-Some.end) in
-    let cut = rw kept at c.in_err-answer_part.ensures.cut in
-    on_err_all _ (Cuts-line _ _ _ _ _ _ _ _ _ _ _ c.loop-end.invariant.feeds c.loop-end.invariant.waits ends cut)
-
-pub returns-in_err-keep-2-clause-cut : goal.returns-in_err-keep-2-clause-cut
-returns-in_err-keep-2-clause-cut g c = on_err_all _ (Cuts-rest _ _ _ _ _ _ _ _ c.loop-end.invariant.feeds)
-
 pub returns-clause-waits : goal.returns-clause-waits
-returns-clause-waits g c = rw (c.in_ok-keep-2.ensures) (IsWaiting-keep _ _ c.loop-end.invariant.waits.no_end c.in_default.ensures.none)
+returns-clause-waits g c = rw (c.in_ok-keep.ensures) (IsWaiting-keep _ _ c.loop-end.invariant.waits.no_end c.in_default.ensures.none)
 
 pub returns-clause-feeds : goal.returns-clause-feeds
 returns-clause-feeds g c =
     let none = rw (take_rest c.args.piece.now c.loop-end.at) at c.in_default.ensures.none in
-    let kept = c.in_ok-keep-2.ensures ∙ ap (λ l. take most_kept (c.loop-end.waiting.items ++ l)) (take_rest c.args.piece.now c.loop-end.at) in
+    let kept = c.in_ok-keep.ensures ∙ ap (λ l. take most_kept (c.loop-end.waiting.items ++ l)) (take_rest c.args.piece.now c.loop-end.at) in
     rw kept (Feeds-rest _ _ _ _ _ _ _ _ c.loop-end.invariant.feeds c.loop-end.invariant.waits none)

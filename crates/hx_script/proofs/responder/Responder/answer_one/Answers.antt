@@ -1,7 +1,7 @@
 use Rattle.std.proofs.lemmas.Result.{on_ok_weaker, on_err_weaker}
 use Rattle.hx_script.specs.Lines.{line_of_text}
 use Rattle.hx_script.proofs.Running.{Does-refused, Cuts-refused, Does-serves, Cuts-answer}
-use Rattle.hx_script.proofs.script.answer_one.Goals as goal
+use Rattle.hx_script.proofs.responder.Responder.answer_one.Goals as goal
 
 pub returns-in-Err-clause-does : goal.returns-in-Err-clause-does
 returns-in-Err-clause-does g c =
