@@ -9,10 +9,11 @@ mod top;
 mod words;
 
 use crate::top::{Status, top};
-use crate::words::first_untaken;
+use crate::words::{first_untaken, run_words};
 use hx_core::SCHEMA;
 use hx_ports::{Keeper, MemKeeper, Meta, StdSink, StdSource};
 use std::alloc::Global;
+use std::hash::RandomState;
 use std::process::ExitCode;
 use std::{env, io};
 
@@ -24,10 +25,21 @@ fn main(rt: HostRuntime) -> ExitCode {
         Ok(words) => words,
         Err(error) => return exit_without_words(&rt, error.kind()),
     };
+    let keys = match RandomState::new(&rt) {
+        Ok(keys) => keys,
+        Err(error) => return exit_without_keys(&rt, words.as_slice(), error.kind()),
+    };
     let mut source = StdSource::new(rt.stdin());
     let mut sink = StdSink::new(rt.stdout());
     let keeper = empty_keeper(rt.alloc());
-    let ended = top(rt.alloc(), words.as_slice(), &mut source, &mut sink, keeper);
+    let ended = top(
+        rt.alloc(),
+        words.as_slice(),
+        &mut source,
+        &mut sink,
+        keeper,
+        keys,
+    );
     match ended.status {
         Status::Usage => exit_with_usage(&rt, first_untaken(words.as_slice())),
         Status::ReadFault => exit_with_fault(&rt, Status::ReadFault, source.last_fault()),
@@ -73,6 +85,16 @@ fn exit_without_words(rt: &HostRuntime, kind: io::ErrorKind) -> ExitCode {
     let _ = eprintln!(rt; "hnc: {:?}: a word is not UTF-8", Status::Usage);
     let _ = eprintln!(rt; "{USAGE}");
     ExitCode::from(Status::Usage.code())
+}
+
+/// Where the system gives no random bytes: words that aren't taken go before, and all else is a read that failed.
+fn exit_without_keys(rt: &HostRuntime, words: &[String], kind: io::ErrorKind) -> ExitCode {
+    if run_words(words).is_none() {
+        return exit_with_usage(rt, first_untaken(words));
+    }
+    let status = Status::ReadFault;
+    let _ = eprintln!(rt; "hnc: {status:?}: {kind:?} at the system's random bytes");
+    ExitCode::from(status.code())
 }
 
 /// Says which word isn't taken, and how the command is used.

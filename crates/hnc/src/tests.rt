@@ -7,11 +7,13 @@ use hx_ports::{
     FailCommit, MemKeeper, MemSink, MemSource, Meta, Row, SureKeeper, SureSink, SureSource,
 };
 use std::alloc::{AllocError, Global};
+use std::hash::RandomState;
 use std::test::Fail;
 
 // What the ports of a run do.
 #[derive(Drop)]
 struct Setting {
+    keys: RandomState,
     meta: Meta,
     read_piece: usize,
     write_piece: usize,
@@ -34,8 +36,9 @@ const NO_ROWS: Meta = Meta {
 const MOST_VERSION: u64 = 9_223_372_036_854_775_807;
 
 // Ports that do not fail: calls are counted from 1.
-fn plain() -> Setting {
+fn plain(keys: RandomState) -> Setting {
     Setting {
+        keys,
         meta: NO_ROWS,
         read_piece: 4096,
         write_piece: 4096,
@@ -70,7 +73,14 @@ fn run(alloc: Global, words: &str, script: &[u8], setting: &Setting) -> Result<L
     let commits = Vec::from_slice(alloc, &[setting.failing_commit])?;
     let fails = Vec::from_slice(alloc, &[setting.failing_keeper])?;
     let keeper = MemKeeper::new(Vec::new(alloc), setting.meta, commits, fails);
-    let Ended { status, keeper } = top(alloc, words.as_slice(), &mut source, &mut sink, keeper);
+    let Ended { status, keeper } = top(
+        alloc,
+        words.as_slice(),
+        &mut source,
+        &mut sink,
+        keeper,
+        setting.keys,
+    );
     Ok(Left {
         status,
         sink,
@@ -79,12 +89,19 @@ fn run(alloc: Global, words: &str, script: &[u8], setting: &Setting) -> Result<L
 }
 
 // What is answered over ports that can't fail.
-fn sure_answers(alloc: Global, script: &[u8]) -> Result<SureSink, NoMemory> {
+fn sure_answers(alloc: Global, keys: RandomState, script: &[u8]) -> Result<SureSink, NoMemory> {
     let words = split_words(alloc, "run")?;
     let mut source = SureSource::new(Vec::from_slice(alloc, script)?, 4096);
     let mut sink = SureSink::new(Vec::with_capacity(alloc, 8192)?);
     let keeper = SureKeeper::new(Vec::new(alloc), NO_ROWS);
-    let ended = top(alloc, words.as_slice(), &mut source, &mut sink, keeper);
+    let ended = top(
+        alloc,
+        words.as_slice(),
+        &mut source,
+        &mut sink,
+        keeper,
+        keys,
+    );
     drop(ended);
     Ok(sink)
 }
@@ -157,12 +174,13 @@ fn last_letters(alloc: Global, rows: &[Row]) -> Result<Vec<u8>, AllocError> {
 
 #[test]
 fn pieces_change_nothing(rt: HostRuntime) -> Result<(), Fail> {
+    let random = RandomState::new(&rt)?;
     let script = five_lines(rt.alloc())?;
-    let whole = run(rt.alloc(), "run", script.as_slice(), &plain())?;
-    let sure = sure_answers(rt.alloc(), script.as_slice())?;
+    let whole = run(rt.alloc(), "run", script.as_slice(), &plain(random))?;
+    let sure = sure_answers(rt.alloc(), random, script.as_slice())?;
     assert_eq!(rt; whole.sink.bytes(), sure.bytes());
     for (read_piece, write_piece) in [(1, 7), (2, 3), (3, 2), (7, 1)] {
-        let mut setting = plain();
+        let mut setting = plain(random);
         setting.read_piece = read_piece;
         setting.write_piece = write_piece;
         let left = run(rt.alloc(), "run", script.as_slice(), &setting)?;
@@ -178,8 +196,14 @@ fn pieces_change_nothing(rt: HostRuntime) -> Result<(), Fail> {
 
 #[test]
 fn a_row_is_kept(rt: HostRuntime) -> Result<(), Fail> {
+    let random = RandomState::new(&rt)?;
     let script = create(rt.alloc(), "acme")?;
-    let mut left = run(rt.alloc(), "run", script.as_str().as_bytes(), &plain())?;
+    let mut left = run(
+        rt.alloc(),
+        "run",
+        script.as_str().as_bytes(),
+        &plain(random),
+    )?;
     let rows = left.keeper.rows()?;
     assert_eq!(rt; rows.len(), 1);
     assert_eq!(rt; rows[0].key.as_slice(), b"01//acme".as_slice());
@@ -193,6 +217,7 @@ fn a_row_is_kept(rt: HostRuntime) -> Result<(), Fail> {
 
 #[test]
 fn a_commit_fails(rt: HostRuntime) -> Result<(), Fail> {
+    let random = RandomState::new(&rt)?;
     let script = five_lines(rt.alloc())?;
     for (call, landed, codes, keys, version) in [
         (1, false, "500 500 500 404 500 ", "", 0),
@@ -205,7 +230,7 @@ fn a_commit_fails(rt: HostRuntime) -> Result<(), Fail> {
         (4, true, "201 201 201 200 500 ", "abcd", 4),
         (5, false, "201 201 201 200 201 ", "abcd", 4),
     ] {
-        let mut setting = plain();
+        let mut setting = plain(random);
         setting.failing_commit = FailCommit { call, landed };
         let mut left = run(rt.alloc(), "run", script.as_slice(), &setting)?;
         assert_eq!(rt; left.status, Status::Done);
@@ -221,6 +246,7 @@ fn a_commit_fails(rt: HostRuntime) -> Result<(), Fail> {
 
 #[test]
 fn a_read_or_a_write_fails(rt: HostRuntime) -> Result<(), Fail> {
+    let random = RandomState::new(&rt)?;
     let script = five_lines(rt.alloc())?;
     // the read and the write that fail, the sink's room, and what is answered
     for (read, write, room, status, codes) in [
@@ -235,7 +261,7 @@ fn a_read_or_a_write_fails(rt: HostRuntime) -> Result<(), Fail> {
         (0, 0, 0, Status::WriteFault, ""),
         (0, 0, 3, Status::WriteFault, "201 "),
     ] {
-        let mut setting = plain();
+        let mut setting = plain(random);
         setting.failing_read = read;
         setting.failing_write = write;
         setting.room = room;
@@ -257,6 +283,7 @@ fn a_read_or_a_write_fails(rt: HostRuntime) -> Result<(), Fail> {
 
 #[test]
 fn words(rt: HostRuntime) -> Result<(), Fail> {
+    let random = RandomState::new(&rt)?;
     for (words, status) in [
         ("run", Status::Done),
         ("run --allow-skip", Status::Done),
@@ -273,7 +300,7 @@ fn words(rt: HostRuntime) -> Result<(), Fail> {
         ("Run", Status::Usage),
         ("--help", Status::Usage),
     ] {
-        let left = run(rt.alloc(), words, b"", &plain())?;
+        let left = run(rt.alloc(), words, b"", &plain(random))?;
         assert_eq!(rt; left.status, status, "{words}");
     }
     Ok(())
@@ -281,6 +308,7 @@ fn words(rt: HostRuntime) -> Result<(), Fail> {
 
 #[test]
 fn no_run_begins(rt: HostRuntime) -> Result<(), Fail> {
+    let random = RandomState::new(&rt)?;
     // schema, version and rows of the keeper; the number of its call that fails
     for (schema, version, rows, fails, status) in [
         (1, 0, 0, 0, Status::Damaged),
@@ -292,7 +320,7 @@ fn no_run_begins(rt: HostRuntime) -> Result<(), Fail> {
         (2, 0, 0, 2, Status::KeeperFault),
         (2, 0, 0, 3, Status::Done),
     ] {
-        let mut setting = plain();
+        let mut setting = plain(random);
         setting.meta = Meta {
             schema,
             version,
@@ -312,6 +340,7 @@ const SKIPS: &str =
 
 #[test]
 fn no_version_is_left(rt: HostRuntime) -> Result<(), Fail> {
+    let random = RandomState::new(&rt)?;
     let mut script = create(rt.alloc(), "a")?;
     script.push_str(get(rt.alloc(), "a")?.as_str())?;
     script.push_str(SKIPS)?;
@@ -319,7 +348,7 @@ fn no_version_is_left(rt: HostRuntime) -> Result<(), Fail> {
         (MOST_VERSION - 1, "201 200 403 X1 "),
         (MOST_VERSION, "507 L4 404 403 X1 "),
     ] {
-        let mut setting = plain();
+        let mut setting = plain(random);
         setting.meta.version = version;
         let left = run(rt.alloc(), "run", script.as_str().as_bytes(), &setting)?;
         assert_eq!(rt; left.status, Status::Done);

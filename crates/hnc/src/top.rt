@@ -12,6 +12,7 @@ use hx_core::{Cluster, StartFault, Unstarted};
 use hx_ports::{KeepFault, Keeper, Sink, Source};
 use hx_script::{RunEnd, run_script};
 use std::alloc::Global;
+use std::hash::RandomState;
 
 /// How a command ended. The discriminant is the exit status of the program.
 #[derive(Clone, Copy, Debug, PartialEq, Eq)]
@@ -49,12 +50,15 @@ pub struct Ended<K> {
 }
 
 /// Does all that the program does: reads the script of `run` and answers its lines, over a keeper of the stored rows, which takes its place in memory.
+///
+/// The keys hash what is held in memory, so that names can't be chosen to collide. Nothing that is answered or stored depends on them.
 pub fn top<S: Source, W: Sink, K: Keeper>(
     alloc: Global,
     words: &[String],
     source: &mut S,
     sink: &mut W,
     mut keeper: K,
+    keys: RandomState,
 ) -> Ended<K>
     requires { (K.shown keeper).place ≡ None }
 
@@ -99,7 +103,7 @@ pub fn top<S: Source, W: Sink, K: Keeper>(
             keeper,
         };
     }
-    match Cluster::start(alloc, keeper, config) {
+    match Cluster::start(alloc, keeper, config, keys) {
         Err(Unstarted { fault, keeper }) => Ended {
             status: status_of_start(fault),
             keeper,
