@@ -2,7 +2,7 @@
 ghost use Rattle.std.specs.Prelude.{IfOk};
 ghost use Rattle.hx_object.specs.Faults.{IsLegal};
 
-use hx_json::{JsonFault, Read, law_of_texts, read_object, write_object};
+use hx_json::{BodyReader, JsonFault, Read, law_of_texts, write_object};
 use hx_object::{Kind, Object, Text};
 use std::alloc::Global;
 
@@ -16,7 +16,7 @@ fn read(alloc: Global) -> Result<Read, JsonFault>
 {
     let ns = Text::of(alloc, "a")?;
     let name = Text::of(alloc, "x")?;
-    read_object(alloc, SAID.as_bytes(), Kind::ConfigMap, &ns, Some(&name))
+    BodyReader::new(alloc).read_object(SAID.as_bytes(), Kind::ConfigMap, &ns, Some(&name))
 }
 
 /// Whether the two are one object. Where their texts are the same, a theorem says so.

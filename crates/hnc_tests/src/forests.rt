@@ -2,6 +2,7 @@
 use hx_forest::{Change, Forest, Halt, Node};
 use hx_object::{NoMemory, Text};
 use std::alloc::Global;
+use std::hash::RandomState;
 use std::test::Fail;
 
 /// Adds namespaces with their parents, where they aren't there yet. The empty text is no parent.
@@ -118,7 +119,7 @@ fn changes_are_alike(alloc: Global, forest: &mut Forest) -> Result<bool, NoMemor
 
 #[test]
 fn staged_changes_are_made_or_dropped(rt: HostRuntime) -> Result<(), Fail> {
-    let mut forest = Forest::new(rt.alloc());
+    let mut forest = Forest::new(rt.alloc(), RandomState::new(&rt)?);
     assert!(rt; changes_are_alike(rt.alloc(), &mut forest)?);
     Ok(())
 }

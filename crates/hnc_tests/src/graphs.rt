@@ -3,6 +3,7 @@ use hx_forest::{Change, Forest, Node};
 use hx_model::plain;
 use hx_object::{NoMemory, Text};
 use std::alloc::Global;
+use std::hash::RandomState;
 use std::test::Fail;
 
 /// The names, in ascending order. Each may name itself, any other, one that isn't there, or none as its parent.
@@ -56,8 +57,8 @@ fn copy_of(node: &Node) -> Result<Node, NoMemory> {
 }
 
 /// The forest of the nodes, which are added from the last to the first.
-fn planted(alloc: Global, nodes: &[(Text, Node)]) -> Result<Forest, NoMemory> {
-    let mut forest = Forest::new(alloc);
+fn planted(alloc: Global, keys: RandomState, nodes: &[(Text, Node)]) -> Result<Forest, NoMemory> {
+    let mut forest = Forest::new(alloc, keys);
     for entry in nodes.iter().rev() {
         let name = entry.0.clone()?;
         let node = copy_of(&entry.1)?;
@@ -117,8 +118,8 @@ fn has_alike_below(
 }
 
 /// Whether it answers alike of all names, one that isn't there among them.
-fn all_alike(alloc: Global, nodes: &[(Text, Node)]) -> Result<bool, NoMemory> {
-    let forest = planted(alloc, nodes)?;
+fn all_alike(alloc: Global, keys: RandomState, nodes: &[(Text, Node)]) -> Result<bool, NoMemory> {
+    let forest = planted(alloc, keys, nodes)?;
     for name in ["a", "b", "c", "d", "gone"] {
         let name = Text::of(alloc, name)?;
         let is_alike = is_alike(alloc, &forest, nodes, &name)?;
@@ -131,12 +132,13 @@ fn all_alike(alloc: Global, nodes: &[(Text, Node)]) -> Result<bool, NoMemory> {
 
 #[test]
 fn each_graph_is_that_of_the_definitions(rt: HostRuntime) -> Result<(), Fail> {
+    let keys = RandomState::new(&rt)?;
     for (count, parents, marks) in SIZES {
         for parents in 0..parents {
             for marks in 0..marks {
                 let nodes = graph(rt.alloc(), count, parents, marks)?;
                 assert!(rt;
-                    all_alike(rt.alloc(), &nodes)?,
+                    all_alike(rt.alloc(), keys, &nodes)?,
                     "{count} names, parents {parents}, marks {marks}"
                 );
             }

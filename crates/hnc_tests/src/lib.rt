@@ -12,6 +12,8 @@ mod graphs;
 #[cfg(test)]
 mod ports;
 #[cfg(test)]
+mod readings;
+#[cfg(test)]
 mod requests;
 #[cfg(test)]
 mod scripts;

@@ -113,7 +113,7 @@ fn changed(alloc: Global) -> Result<MemKeeper, Fail> {
         puts: List::of(Vec::from_array(alloc, [row(alloc, "e")?])?),
         cuts: List::of(Vec::from_array(alloc, [text(alloc, "b")?])?),
     };
-    keeper.commit(&batch)?;
+    keeper.commit(batch)?;
     Ok(keeper)
 }
 

@@ -1,7 +1,6 @@
 // One request of each method, one of each refusal of a target, and the replies. The bytes of many more stand in the table of requests.
-use hx_api::{Method, Reply, Routes, reply_to, write_answer};
+use hx_api::{Method, Reply, RequestReader, push_body, status_of, write_answer};
 use hx_model::{Answer, Ask, Refusal};
-use std::alloc::Global;
 use std::test::Fail;
 
 const BODY: &[u8] = b"{\"apiVersion\":\"v1\",\"kind\":\"Service\",\"metadata\":{\"name\":\"s\"}}";
@@ -17,13 +16,8 @@ fn word_of(ask: &Ask) -> &'static str {
 }
 
 /// What a request asks, or the status of its refusal.
-fn reading(
-    alloc: Global,
-    routes: &Routes,
-    method: Method,
-    target: &str,
-) -> Result<&'static str, u16> {
-    match routes.read_ask(alloc, method, target, BODY) {
+fn reading(reader: &mut RequestReader, method: Method, target: &str) -> Result<&'static str, u16> {
+    match reader.read_ask(method, target, BODY) {
         Ok(ask) => {
             let word = word_of(&ask);
             drop(ask);
@@ -35,7 +29,7 @@ fn reading(
 
 #[test]
 fn requests(rt: HostRuntime) -> Result<(), Fail> {
-    let routes = Routes::new(rt.alloc())?;
+    let mut reader = RequestReader::new(rt.alloc());
     for (method, target, wanted) in [
         (Method::Get, "/api/v1/namespaces/a/services/s", Ok("get")),
         (Method::Get, "/api/v1/services", Ok("list")),
@@ -57,7 +51,7 @@ fn requests(rt: HostRuntime) -> Result<(), Fail> {
         (Method::Get, "/api/v1/services?watch=1", Err(400)),
         (Method::Delete, "/api/v1/namespaces/a", Err(501)),
     ] {
-        let found = reading(rt.alloc(), &routes, method, target);
+        let found = reading(&mut reader, method, target);
         assert!(rt; found == wanted, "{target}");
     }
     Ok(())
@@ -66,10 +60,12 @@ fn requests(rt: HostRuntime) -> Result<(), Fail> {
 #[test]
 fn replies(rt: HostRuntime) -> Result<(), Fail> {
     let answer = Answer::Refused(Refusal::NoPath);
-    let reply = reply_to(rt.alloc(), &answer, None)?;
-    let same = reply_to(rt.alloc(), &answer, Some(reply.body.clone()?))?;
-    assert!(rt; reply.status == 404 && same.body == reply.body);
-    assert!(rt; write_answer(rt.alloc(), &answer).body == reply.body);
+    let reply = write_answer(rt.alloc(), &answer);
+    let mut body = String::new(rt.alloc());
+    push_body(&mut body, &answer)?;
+    assert_eq!(rt; reply.status, 404);
+    assert_eq!(rt; reply.status, status_of(&answer));
+    assert_eq!(rt; reply.body.as_str(), body.as_str());
     assert_eq!(rt; Reply::no_memory(rt.alloc()).status, 503);
     Ok(())
 }

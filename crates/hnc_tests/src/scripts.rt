@@ -5,11 +5,13 @@ use hx_object::List;
 use hx_ports::{Keeper, Meta, SureKeeper, SureSink, SureSource};
 use hx_script::{RunEnd, run_script};
 use std::alloc::{AllocError, Global};
+use std::hash::RandomState;
 use std::test::Fail;
 
 /// How a run of the script ends, and what it answers.
 pub fn answers(
     alloc: Global,
+    keys: RandomState,
     script: &[u8],
     room: usize,
 ) -> Result<(RunEnd, SureSink), AllocError> {
@@ -28,7 +30,7 @@ pub fn answers(
         excluded: List::of(Vec::new(alloc)),
         allow_skip: false,
     };
-    match Cluster::start(alloc, keeper, config) {
+    match Cluster::start(alloc, keeper, config, keys) {
         Err(Unstarted { fault: _, keeper }) => {
             drop(keeper);
             Err(AllocError)
@@ -54,6 +56,7 @@ fn codes_of(alloc: Global, answers: &[u8]) -> Result<Vec<u8>, AllocError> {
 
 #[test]
 fn lines(rt: HostRuntime) -> Result<(), Fail> {
+    let keys = RandomState::new(&rt)?;
     // the byte that a script begins with, how often it stands there, what follows, and the codes
     for (byte, count, rest, codes) in [
         (b'x', 0, b"".as_slice(), ""),
@@ -68,7 +71,7 @@ fn lines(rt: HostRuntime) -> Result<(), Fail> {
     ] {
         let mut script = vec![in rt.alloc(); byte; count]?;
         script.extend_from_slice(rest)?;
-        let (end, sink) = answers(rt.alloc(), script.as_slice(), 4096)?;
+        let (end, sink) = answers(rt.alloc(), keys, script.as_slice(), 4096)?;
         assert_eq!(rt; end, RunEnd::Done);
         let found = codes_of(rt.alloc(), sink.bytes())?;
         assert_eq!(rt; found.as_slice(), codes.as_bytes(), "{count} of {byte}");
@@ -93,7 +96,12 @@ fn add_creates(
 }
 
 /// The codes of the answers to requests that create so many namespaces, and then so many ConfigMaps in the first one.
-fn codes_of_creates(alloc: Global, namespaces: u32, maps: u32) -> Result<Vec<u8>, AllocError> {
+fn codes_of_creates(
+    alloc: Global,
+    keys: RandomState,
+    namespaces: u32,
+    maps: u32,
+) -> Result<Vec<u8>, AllocError> {
     let mut script = String::new(alloc);
     add_creates(&mut script, namespaces, "/api/v1/namespaces", "Namespace")?;
     add_creates(
@@ -102,19 +110,20 @@ fn codes_of_creates(alloc: Global, namespaces: u32, maps: u32) -> Result<Vec<u8>
         "/api/v1/namespaces/n0/configmaps",
         "ConfigMap",
     )?;
-    let (_, sink) = answers(alloc, script.as_str().as_bytes(), 16_777_216)?;
+    let (_, sink) = answers(alloc, keys, script.as_str().as_bytes(), 16_777_216)?;
     codes_of(alloc, sink.bytes())
 }
 
 #[test]
 fn limits_at_the_edge(rt: HostRuntime) -> Result<(), Fail> {
+    let keys = RandomState::new(&rt)?;
     // the namespaces and the ConfigMaps that are created, and the codes of the last two answers
     for (namespaces, maps, last) in [
         (4_096, 1, "201 201 "),
         (4_097, 0, "201 507 "),
         (1, 65_537, "201 507 "),
     ] {
-        let codes = codes_of_creates(rt.alloc(), namespaces, maps)?;
+        let codes = codes_of_creates(rt.alloc(), keys, namespaces, maps)?;
         assert!(rt;
             codes.as_slice().ends_with(last.as_bytes()),
             "{namespaces}, {maps}"

@@ -1,10 +1,13 @@
 // A store beside a plain list of objects in order, over staged writes that are made or dropped.
 ghost use Rattle.std.specs.Prelude.{◌≤◌, length};
 
-use hx_object::{Id, Kind, List, Need, NoMemory, Object, Pairs, Payload, Shared, Text};
+use hx_object::{
+    Id, Kind, List, Members, Need, NoMemory, Object, Pairs, Payload, Places, Shared, Text,
+};
 use hx_store::{Change, Store};
 use std::alloc::Global;
 use std::cmp::Ordering;
+use std::hash::RandomState;
 use std::test::Fail;
 
 const KINDS: [Kind; 2] = [Kind::Role, Kind::Secret];
@@ -12,6 +15,19 @@ const KINDS: [Kind; 2] = [Kind::Role, Kind::Secret];
 const NAMESPACES: [&str; 2] = ["a", "b"];
 
 const NAMES: [&str; 2] = ["x", "y"];
+
+/// Members of which there are none.
+fn no_members(alloc: Global) -> Result<Members, NoMemory> {
+    let text = Text::of(alloc, "{}")?;
+    Ok(Members::new(
+        text,
+        Places {
+            api_version: 1,
+            kind: 1,
+            metadata: 1,
+        },
+    ))
+}
 
 /// One of eight identities, by a number.
 fn id(alloc: Global, number: usize) -> Result<Id, NoMemory> {
@@ -28,7 +44,7 @@ fn object(alloc: Global, id: Id, version: u64) -> Result<Object, NoMemory> {
         labels: Pairs::new(alloc),
         annotations: Pairs::new(alloc),
         payload: Payload::Plain {
-            members: Text::of(alloc, "{}")?,
+            members: no_members(alloc)?,
             need: Need {
                 finished: false,
                 token: false,
@@ -143,7 +159,7 @@ fn are_alike(store: &Store, objects: &[Object]) -> Result<bool, NoMemory> {
 #[test]
 fn a_store_answers_as_a_list(rt: HostRuntime) -> Result<(), Fail> {
     let alloc = rt.alloc();
-    let mut store = Store::new(alloc, 0);
+    let mut store = Store::new(alloc, 0, RandomState::new(&rt)?);
     let mut objects = Vec::new(alloc);
     let mut number: usize = 1;
     for version in 1..400u64 {
