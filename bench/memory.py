@@ -9,17 +9,17 @@ They have all that is kept of an object: the object and its identity in the stor
 """
 import sys
 
-from program import Run, create, namespace, settings
+from maps import SPACES, creates, settings, switch
+from program import Run
 
 SIZES = (4_000, 64_000)
-NAMESPACES = 4
 
 
 def measure(program, objects, data):
     """The peak of a run that creates so many objects, and the bytes of their texts."""
     run = Run(program)
-    run.ask([namespace(f"n{i}") for i in range(NAMESPACES)])
-    answers = run.ask([create(f"n{i % NAMESPACES}", f"c{i}", data(i)) for i in range(objects)])
+    run.ask(SPACES)
+    answers = run.ask(creates(objects, data))
     peak = run.peak()
     run.close()
     return peak, sum(len(answer) - len("201 ") for answer in answers)
@@ -27,7 +27,7 @@ def measure(program, objects, data):
 
 def main():
     program = sys.argv[1]
-    for data in (settings, lambda number: {"on": "yes"}):
+    for data in (settings, switch):
         small, large = (measure(program, objects, data) for objects in SIZES)
         resident, text = ((more - less) / (SIZES[1] - SIZES[0]) for less, more in zip(small, large))
         print(f"text of {text:,.0f} bytes: {resident:,.0f} resident, ratio {resident / text:.2f}")

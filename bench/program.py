@@ -6,36 +6,60 @@ import re
 import subprocess
 import tempfile
 import time
+from typing import NamedTuple
 
 
 def compact(value):
     return json.dumps(value, separators=(",", ":"))
 
 
-def body(name, data):
-    """The body of a ConfigMap."""
-    return compact({"apiVersion": "v1", "kind": "ConfigMap", "metadata": {"name": name}, "data": data})
+class Kind(NamedTuple):
+    """A kind of objects that lie in a namespace."""
+
+    version: str
+    name: str
+    plural: str
+
+    def path(self, ns):
+        return f"/{'apis' if '/' in self.version else 'api'}/{self.version}/namespaces/{ns}/{self.plural}"
+
+    def body(self, name, **members):
+        return compact({"apiVersion": self.version, "kind": self.name, "metadata": {"name": name}, **members})
+
+
+CONFIG_MAP = Kind("v1", "ConfigMap", "configmaps")
 
 
 def namespace(name):
-    return f"POST /api/v1/namespaces {compact({'apiVersion': 'v1', 'kind': 'Namespace', 'metadata': {'name': name}})}\n"
+    return f"POST /api/v1/namespaces {Kind('v1', 'Namespace', 'namespaces').body(name)}\n"
 
 
-def create(ns, name, data):
-    return f"POST /api/v1/namespaces/{ns}/configmaps {body(name, data)}\n"
+def create(ns, name, data, kind=CONFIG_MAP):
+    return f"POST {kind.path(ns)} {kind.body(name, data=data)}\n"
 
 
-def replace(ns, name, data):
-    return f"PUT /api/v1/namespaces/{ns}/configmaps/{name} {body(name, data)}\n"
+def replace(ns, name, data, kind=CONFIG_MAP):
+    return f"PUT {kind.path(ns)}/{name} {kind.body(name, data=data)}\n"
 
 
-def read(ns, name):
-    return f"GET /api/v1/namespaces/{ns}/configmaps/{name}\n"
+def read(ns, name, kind=CONFIG_MAP):
+    return f"GET {kind.path(ns)}/{name}\n"
 
 
-def settings(number):
-    """The data of a ConfigMap, of about 1 KiB as JSON."""
-    return {f"setting-{i:02}": f"name = value-{number * 16 + i:08}\n# as it was set by hand" for i in range(16)}
+def remove(ns, name, kind=CONFIG_MAP):
+    return f"DELETE {kind.path(ns)}/{name}\n"
+
+
+def listing(ns, kind=CONFIG_MAP):
+    """The line that lists a namespace's objects of a kind."""
+    return f"GET {kind.path(ns)}\n"
+
+
+def parts(lines, size):
+    """The lines in parts of so many, without what is left."""
+    its = iter(lines)
+    while len(part := list(itertools.islice(its, size))) == size:
+        yield part
 
 
 class Run:
@@ -72,9 +96,20 @@ class Run:
             return int(numbers.read().split()[0]) / 1e9
 
     def peak(self):
-        """The most resident bytes so far."""
+        """The most resident bytes so far, or since they were last forgotten."""
+        return self.status("VmHWM")
+
+    def resident(self):
+        return self.status("VmRSS")
+
+    def status(self, field):
         with open(f"/proc/{self.child.pid}/status") as status:
-            return int(re.search(r"^VmHWM:\s*(\d+) kB$", status.read(), re.M)[1]) * 1024
+            return int(re.search(rf"^{field}:\s*(\d+) kB$", status.read(), re.M)[1]) * 1024
+
+    def forget_peak(self):
+        """Lets the peak begin anew at what is resident."""
+        with open(f"/proc/{self.child.pid}/clear_refs", "w") as refs:
+            refs.write("5")
 
     def close(self):
         self.child.stdin.close()
@@ -82,9 +117,14 @@ class Run:
         self.answers.close()
 
 
-def compare(kind, names, runs, lines, part=248, parts=32):
-    """Prints the least time per request in two runs, which take turns in parts of the lines that each gives, and the ratio of the second to the first."""
-    turns = [(run, lines(run)) for run in runs]
-    times = [[run.seconds(list(itertools.islice(its, part))) for run, its in turns] for _ in range(parts)]
+def compare(kind, names, runs, lines, part=248, count=32):
+    """Prints the least time per request in two runs, which take turns in so many parts of the lines that each gives, and the ratio of the second to the first."""
+    turns = [(run, parts(lines(run), part)) for run in runs]
+    report(kind, names, [[run.seconds(next(its)) for run, its in turns] for _ in range(count)], part)
+
+
+def report(kind, names, times, part):
+    """Prints the least of each column of times, per request, and gives the ratio of the second to the first."""
     first, second = (min(column) / part * 1e6 for column in zip(*times))
     print(f"{kind}: {first:.1f} us at {names[0]}, {second:.1f} us at {names[1]}, ratio {second / first:.2f}", flush=True)
+    return second / first

@@ -2,18 +2,18 @@
 """Requests per second of `hnc run` against reading and writing the same bodies by Python's json, and by orjson where it is installed.
 
 Usage: bench/python_json.py PROGRAM
-PROGRAM is the built program, which bin/hnc leaves as crates/hnc/out/hnc.
+PROGRAM is the built program, which bin/hnc leaves as crates/hnc/out/hnc. orjson is looked for in the Python that runs this script.
 Prints one line per kind of request and library: the requests per second of the processor's time, those of a loop that reads and writes each
-body with sorted members, and their ratio. There are 20,000 ConfigMaps of about 1 KiB in 4 namespaces, each created and then read once. The
-best of five runs, which take turns with the loops on one processor, counts.
+body with sorted members, and their ratio. There are 20,000 ConfigMaps in 4 namespaces, each created and then read once, with bodies of about
+1 KiB that have 16 members in their data. They come in parts of 1,000, in turns with the loops on one processor. The best of the parts counts.
 """
 import json
 import os
-import random
 import sys
 import time
 
-from program import Run, body, create, namespace, read, settings
+from maps import SPACES, creates, reads, settings
+from program import Run, parts
 
 try:
     import orjson
@@ -21,9 +21,7 @@ except ImportError:
     orjson = None
 
 OBJECTS = 20_000
-NAMESPACES = 4
-RUNS = 5
-PLACES = [(f"n{i % NAMESPACES}", f"c{i}") for i in range(OBJECTS)]
+PART = 1_000
 
 
 def by_json(bodies):
@@ -36,35 +34,29 @@ def by_orjson(bodies):
         orjson.dumps(orjson.loads(text), option=orjson.OPT_SORT_KEYS)
 
 
-def loop_seconds(loop, bodies):
+def loop_seconds(loop, lines):
+    """The processor's time of a loop over the bodies of the lines."""
+    bodies = [line.split(" ", 2)[2].encode() for line in lines]
     start = time.process_time()
     loop(bodies)
     return time.process_time() - start
-
-
-def request_seconds(program, creates):
-    """The times of all creates, and of a read of each object."""
-    run = Run(program)
-    run.ask([namespace(f"n{i}") for i in range(NAMESPACES)])
-    times = {"POST": run.seconds(creates), "GET": run.seconds([read(*place) for place in random.Random(0).sample(PLACES, OBJECTS)])}
-    run.close()
-    return times
 
 
 def main():
     program = sys.argv[1]
     os.sched_setaffinity(0, {max(os.sched_getaffinity(0))})
     libraries = {"json": by_json} | ({"orjson": by_orjson} if orjson else {})
-    creates = [create(*place, settings(i)) for i, place in enumerate(PLACES)]
-    bodies = [body(name, settings(i)).encode() for i, (_, name) in enumerate(PLACES)]
-    times = []
-    for _ in range(RUNS):
-        loops = {name: loop_seconds(loop, bodies) for name, loop in libraries.items()}
-        times.append(request_seconds(program, creates) | loops)
-    rates = {name: OBJECTS / min(run[name] for run in times) for name in times[0]}
-    for kind in ("POST", "GET"):
-        for library in libraries:
-            print(f"{kind}: {rates[kind]:,.0f} per second, {library} {rates[library]:,.0f}, ratio {rates[kind] / rates[library]:.2f}")
+    run = Run(program)
+    run.ask(SPACES)
+    bodies = creates(OBJECTS, settings)
+    for kind, lines in (("POST", bodies), ("GET", reads(OBJECTS))):
+        times = []
+        for asked, looped in zip(parts(lines, PART), parts(bodies, PART)):
+            times.append([run.seconds(asked), *(loop_seconds(loop, looped) for loop in libraries.values())])
+        rate, *rates = (PART / min(column) for column in zip(*times))
+        for library, other in zip(libraries, rates):
+            print(f"{kind}: {rate:,.0f} per second, {library} {other:,.0f}, ratio {rate / other:.2f}", flush=True)
+    run.close()
 
 
 if __name__ == "__main__":

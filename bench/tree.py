@@ -12,7 +12,7 @@ least of 32 parts counts. Everything runs on one processor.
 import os
 import sys
 
-from program import compare, create
+from program import compare, create, listing
 from trees import Columns
 
 DEPTH = 8
@@ -33,7 +33,7 @@ class Filled(Columns):
     def lists(self):
         """Lists of the ConfigMaps of the leaves' namespaces."""
         for column, _ in self.shuffled():
-            yield f"GET /api/v1/namespaces/n{column % (self.filled // DEPTH) * DEPTH + DEPTH}/configmaps\n"
+            yield listing(f"n{column % (self.filled // DEPTH) * DEPTH + DEPTH}")
 
 
 def main():

@@ -2,26 +2,24 @@
 import itertools
 import random
 
-from program import Run, compact, namespace
+from program import Kind, Run, namespace, read
 
 
-def path(ns):
-    return f"/apis/hnc.x-k8s.io/v1alpha2/namespaces/{ns}/hierarchyconfigurations"
+HIERARCHY = Kind("hnc.x-k8s.io/v1alpha2", "HierarchyConfiguration", "hierarchyconfigurations")
 
 
 def body(parent):
-    """The body of a HierarchyConfiguration."""
-    return compact({"apiVersion": "hnc.x-k8s.io/v1alpha2", "kind": "HierarchyConfiguration", "metadata": {"name": "hierarchy"}, "spec": {"parent": parent}})
+    return HIERARCHY.body("hierarchy", spec={"parent": parent})
 
 
 def plant(ns, parent, query=""):
     """The line that gives a namespace its first parent."""
-    return f"POST {path(ns)}{query} {body(parent)}\n"
+    return f"POST {HIERARCHY.path(ns)}{query} {body(parent)}\n"
 
 
 def move(ns, parent):
     """The line that gives it another one."""
-    return f"PUT {path(ns)}/hierarchy {body(parent)}\n"
+    return f"PUT {HIERARCHY.path(ns)}/hierarchy {body(parent)}\n"
 
 
 class Columns(Run):
@@ -55,4 +53,4 @@ class Columns(Run):
     def reads(self):
         """GETs of the leaves' HierarchyConfigurations."""
         for column, _ in self.shuffled():
-            yield f"GET {path(self.at(column, self.depth))}/hierarchy\n"
+            yield read(self.at(column, self.depth), "hierarchy", HIERARCHY)
