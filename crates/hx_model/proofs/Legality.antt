@@ -2,6 +2,7 @@
 --     keyed_legal        the namespace of a legal object has no slash
 --     legal_with_version      with another version
 --     legal_replaced     with the status of another object of its kind
+--     given_with_version, given_replaced      the same of what requests give
 use Rattle.std.proofs.Common.{◌≡◌, ℕ, Bool, true, false, not, ◌&&◌, ◌||◌, List, [], ◌∷◌, None, Some, Option, refl, sym, ap, ◌∙◌, subst, true≢false, eqb-true, ◌==◌}
 use Rattle.std.specs.Prelude.{if◌then◌else◌}
 use Rattle.std.specs.List.{list_all}
@@ -22,6 +23,7 @@ use Rattle.hx_object.specs.declared.object.Payload.{Payload}
 use Rattle.hx_object.specs.declared.object.Payload.TheVariants.{Namespace as NamespaceOf, Config, Hierarchy, Anchor, Quota, Plain}
 use Rattle.hx_model.specs.State.{with_version}
 use Rattle.hx_model.specs.Answers.{with_status, replaced_by}
+use Rattle.hx_model.specs.Serving.{IsGiven, is_given}
 use Rattle.hx_model.proofs.Storing.{HasNoSlash, IsKeyed}
 
 -- ---- versions
@@ -85,6 +87,28 @@ legal_replaced old x legal = record {
 pub same_size : (old x : Object) → size_of (replaced_by old x) ≡ size_of x
 unfolding size_of
 same_size old x = rw (same_specified old.payload x.payload) refl
+
+-- ---- what requests give
+
+pub given_with_version : (x : Object) (version : ℕ) → IsGiven x → IsGiven (with_version x version)
+given_with_version x version given = record { labels = given.labels; annotations = given.annotations; payload = given.payload }
+
+still_given : (old x : Payload) → is_given old ≡ true → is_given x ≡ true → is_given (with_status old x) ≡ true
+still_given (NamespaceOf t) (NamespaceOf u) p q = p
+still_given (Hierarchy a b [] []) (Hierarchy e f g h) p q = refl
+still_given (Hierarchy a b [] (d ∷ ds)) (Hierarchy e f g h) p q = p
+still_given (Hierarchy a b (c ∷ cs) ds) (Hierarchy e f g h) p q = p
+still_given (Anchor s) (Anchor t) p q = p
+still_given (Quota h []) (Quota k t) p q = refl
+still_given (Quota h (s ∷ ss)) (Quota k t) p q = p
+still_given old x p q = q
+
+pub given_replaced : (old x : Object) → IsGiven old → IsGiven x → IsGiven (replaced_by old x)
+given_replaced old x before given = record {
+  labels = given.labels;
+  annotations = given.annotations;
+  payload = still_given old.payload x.payload before.payload given.payload;
+}
 
 -- ---- keys
 

@@ -1,6 +1,7 @@
 pub mod Objects
 pub mod Storing
 pub mod Histories
+pub mod Homes
 pub mod Legality
 pub mod Writes
 pub mod Counting

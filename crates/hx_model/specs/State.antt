@@ -8,9 +8,10 @@
 --     opening_state      the state without objects, of a store's last version
 --     namespace_id       the identity of a namespace
 --     home_in objects id the namespace that an identity lies in, where its kind has one
+--     has_home objects id  that namespace is there, or the kind has none
 --     with_version            an object with another version
 --     state_after        the state after a write: one new version for all that it changes
-use Rattle.std.specs.Prelude.{ℕ, ◌+◌, Bool, true, not, ◌&&◌, ◌==◌, List, [], ◌∷◌, filter, find, Option, Some, None, option_and_then, if◌then◌else◌}
+use Rattle.std.specs.Prelude.{ℕ, ◌+◌, Bool, true, not, ◌&&◌, ◌||◌, ◌==◌, is_some, List, [], ◌∷◌, filter, find, Option, Some, None, option_and_then, if◌then◌else◌}
 use Rattle.std.specs.Ordering.{is_lt}
 use Rattle.std.specs.Str.{bytes_eq}
 use Rattle.std.specs.FinMap.Entries.{by_order}
@@ -78,6 +79,10 @@ home_id id = if is_in_cluster id.kind then None else Some (namespace_id id.ns)
 -- that namespace, where it is there
 abbrev pub home_in : Objects → Id → Option Object
 home_in objects id = option_and_then (object_at objects) (home_id id)
+
+-- that namespace is there, or the identity is of a kind that lies in none
+abbrev pub has_home : Objects → Id → Bool
+has_home objects id = is_in_cluster id.kind || is_some (home_in objects id)
 
 -- the object with another version
 abbrev pub with_version : Object → ℕ → Object

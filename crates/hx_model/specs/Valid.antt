@@ -1,12 +1,13 @@
 -- What every state of a run keeps.
 --     IsStored last x     an object that may be stored, with a version that was given out
---     IsValid s           the rows are in order, each is stored, and the last version isn't past the greatest
+--     AreHoused objects   each object lies in a namespace that is there
+--     IsValid s           the objects are in order, each is stored and lies in a namespace that is there, and the last version isn't past the greatest
 use Rattle.std.specs.Prelude.{◌≡◌, ◌≤◌, ℕ, true}
 use Rattle.std.specs.List.{AllByRecursion}
 use Rattle.hx_object.specs.declared.object.Object.{Object}
 use Rattle.hx_model.specs.Limits.{greatest_version}
 use Rattle.hx_model.specs.Serving.{IsServed}
-use Rattle.hx_model.specs.State.{State, ascends}
+use Rattle.hx_model.specs.State.{State, Objects, ascends, has_home}
 
 -- an object that is stored is served, and has a version that was given out
 pub record IsStored (last : ℕ) (x : Object) : Type 0 where
@@ -14,7 +15,12 @@ pub record IsStored (last : ℕ) (x : Object) : Type 0 where
   pub given : 1 ≤ x.version
   pub known : x.version ≤ last
 
+-- each object lies in a namespace that is there, if its kind lies in any
+abbrev pub AreHoused : Objects → Type 0
+AreHoused objects = AllByRecursion (λ (x : Object). has_home objects x.id ≡ true) objects
+
 pub record IsValid (s : State) : Type 0 where
   pub in_order : ascends s.objects ≡ true
   pub stored : AllByRecursion (IsStored s.last) s.objects
+  pub housed : AreHoused s.objects
   pub fits : s.last ≤ greatest_version
