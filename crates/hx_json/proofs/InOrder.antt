@@ -214,14 +214,14 @@ metadata_part : (x : Object) → HasOrderedPairs x → AreMembers (metadata_of x
 metadata_part x h =
     metadata_in_order (pairs_members x.annotations) (pairs_members x.labels) x.id.name x.id.ns (decimal x.version) (pairs_in_order x.annotations h.annotations) (pairs_in_order x.labels h.labels)
 
-canonical_object : (x : Object) → IsLegal x → HasOrderedPairs x → IsCanonical (object_data x)
+pub canonical_object : (x : Object) → IsLegal x → HasOrderedPairs x → IsCanonical (object_data x)
 canonical_object x legal h =
     let own = own_in_order x.id.kind x.payload legal.payload in
     let m = put_in_order (codes "metadata") (object (metadata_of x)) (own_members x.payload) (metadata_part x h) own in
     let k = put_in_order (codes "kind") (string (name_of x.id.kind)) _ tt m in
     put_in_order (codes "apiVersion") (string (api_version_of x.id.kind)) _ tt k
 
-shallow_object : (x : Object) → IsLegal x → depth (object_data x) ≤ max_depth
+pub shallow_object : (x : Object) → IsLegal x → depth (object_data x) ≤ max_depth
 shallow_object x legal =
     let metadata = object (metadata_of x) in
     let with_metadata = put (codes "metadata") metadata (own_members x.payload) in

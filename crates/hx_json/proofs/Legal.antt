@@ -12,7 +12,9 @@ use Rattle.hx_object.specs.Canonical.{IsBefore, IsCanonical, AreMembers}
 use Rattle.hx_object.specs.Faults.{object_fault, IsPlain, IsPayloadOf, IsLegal, need_of}
 use Rattle.hx_object.specs.Kinds.{is_in_cluster}
 use Rattle.hx_object.specs.declared.kind.Kind.{Kind}
-use Rattle.hx_json.specs.Reading.{Target, kept_members, object_of, payload_of, unless_empty_text, without}
+use Rattle.hx_object.specs.declared.object.Id.{Id}
+use Rattle.hx_json.specs.Rows.{said_object}
+use Rattle.hx_json.specs.Reading.{kept_members, payload_of, unless_empty_text, without}
 use Rattle.hx_json.specs.ReadObject.{is_read}
 
 -- ---- removing keeps the order and the depth
@@ -149,5 +151,6 @@ payload_given Kind.LimitRange d is h shallow = (refl, plain_payload Kind.LimitRa
 payload_given Kind.Service d is h shallow = (refl, plain_payload Kind.Service d h shallow)
 
 -- an object without fault that a canonical body says is legal
-pub legal : (p : Target) (d : Data) → is_read p.kind ≡ true → (is_in_cluster p.kind ≡ true → p.ns ≡ []) → IsCanonical d → depth d ≤ max_depth → object_fault (object_of p d) ≡ None → IsLegal (object_of p d)
-legal p d is home h shallow sound = record { sound = sound; home = home; payload = payload_given p.kind d is h shallow }
+pub legal : (id : Id) (version : ℕ) (d : Data) → is_read id.kind ≡ true → (is_in_cluster id.kind ≡ true → id.ns ≡ []) → IsCanonical d → depth d ≤ max_depth → object_fault (said_object id version d) ≡ None
+    → IsLegal (said_object id version d)
+legal id version d is home h shallow sound = record { sound = sound; home = home; payload = payload_given id.kind d is h shallow }

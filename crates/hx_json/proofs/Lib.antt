@@ -18,4 +18,9 @@ mod WrittenExamples
 pub mod InOrder
 pub mod Payloads
 pub mod Telling
+pub mod Given
+pub mod ReadBack
+pub mod Keys
+pub mod RowsBack
+pub mod KeyTexts
 pub mod Normal

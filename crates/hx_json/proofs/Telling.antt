@@ -37,10 +37,10 @@ without_put k d (member l e ms) h = by (slice_cmp nat_cmp k l) refl (without_put
 unfoldable pub LacksHead : Members → Type 0
 LacksHead ms = (get_member (codes "apiVersion") ms ≡ None) × (get_member (codes "kind") ms ≡ None) × (get_member (codes "metadata") ms ≡ None)
 
-other_text : (a b : List ℕ) → bytes_eq a b ≡ false → a ≡ b → ⊥
+pub other_text : (a b : List ℕ) → bytes_eq a b ≡ false → a ≡ b → ⊥
 other_text a b apart same = true≢false (sym ((bytes_eq-Decides a b).1 same) ∙ apart)
 
-head_taken : (version kind metadata : Data) (own : Members) → LacksHead own
+pub head_taken : (version kind metadata : Data) (own : Members) → LacksHead own
     → kept_members (object (put (codes "apiVersion") version (put (codes "kind") kind (put (codes "metadata") metadata own)))) ≡ own
 unfolding LacksHead
 head_taken version kind metadata own h =
@@ -76,7 +76,7 @@ metadata_told (member k d annotations) no_members name (c ∷ ns) version = (ref
 metadata_told (member k d annotations) (member l e labels) name [] version = (refl, refl, refl, refl, refl)
 metadata_told (member k d annotations) (member l e labels) name (c ∷ ns) version = (refl, refl, refl, refl, refl)
 
-pairs_told : (ps : List (List ℕ × List ℕ)) → pairs_of (pairs_members ps) ≡ ps
+pub pairs_told : (ps : List (List ℕ × List ℕ)) → pairs_of (pairs_members ps) ≡ ps
 pairs_told [] = refl
 pairs_told (p ∷ ps) = ap (λ qs. p ∷ qs) (pairs_told ps)
 
@@ -102,7 +102,7 @@ own_told x legal =
     head_taken (string (api_version_of x.id.kind)) (string (name_of x.id.kind)) (object (metadata_of x)) (own_members x.payload) (own_lacks x.id.kind x.payload legal.payload)
 
 -- what is put first and second is found behind what is put third
-behind : (name : List ℕ) (version kind metadata : Data) (own : Members) → bytes_eq name (codes "apiVersion") ≡ false
+pub behind : (name : List ℕ) (version kind metadata : Data) (own : Members) → bytes_eq name (codes "apiVersion") ≡ false
     → get name (object (put (codes "apiVersion") version (put (codes "kind") kind (put (codes "metadata") metadata own)))) ≡ get_member name (put (codes "kind") kind (put (codes "metadata") metadata own))
 behind name version kind metadata own apart = get_member-put_other name (codes "apiVersion") version _ (other_text _ _ apart)
 
@@ -111,7 +111,7 @@ kind_there x =
     behind (codes "kind") (string (api_version_of x.id.kind)) (string (name_of x.id.kind)) (object (metadata_of x)) (own_members x.payload) refl
     ∙ get_member-put (codes "kind") (string (name_of x.id.kind)) (put (codes "metadata") (object (metadata_of x)) (own_members x.payload))
 
-metadata_there : (x : Object) → get (codes "metadata") (object_data x) ≡ Some (object (metadata_of x))
+pub metadata_there : (x : Object) → get (codes "metadata") (object_data x) ≡ Some (object (metadata_of x))
 metadata_there x =
     behind (codes "metadata") (string (api_version_of x.id.kind)) (string (name_of x.id.kind)) (object (metadata_of x)) (own_members x.payload) refl
     ∙ get_member-put_other (codes "metadata") (codes "kind") (string (name_of x.id.kind)) (put (codes "metadata") (object (metadata_of x)) (own_members x.payload)) (other_text _ _ refl)

@@ -1,5 +1,6 @@
 pub mod Reading
 pub mod ReadObject
+pub mod Rows
 pub mod Inside
 pub mod Trees
 pub mod Pushed

@@ -25,6 +25,8 @@ use Rattle.hx_object.specs.Texts.{bytes_cmp}
 use Rattle.hx_object.specs.declared.kind.Kind.{Kind}
 use Rattle.hx_object.specs.declared.kind.Kind.TheVariants.{Namespace, HncConfiguration, HierarchyConfiguration, SubnamespaceAnchor}
 use Rattle.hx_object.specs.declared.members.Places.{Places}
+use Rattle.hx_json.specs.declared.fault.JsonFault.{JsonFault}
+use Rattle.hx_json.specs.declared.fault.JsonFault.TheVariants.{NoMemory}
 
 -- ---- numbers
 
@@ -189,6 +191,11 @@ places_in ms = places_from 1 false (record { api_version = 1; kind = 1; metadata
 -- the tree of a text
 abbrev pub tree_of : List ℕ → Option Json
 tree_of text = option_and_then (λ p. json.if_last p.0 p.1) (json.value max_depth (tokens text))
+
+-- a text has no tree, or memory is wanted for it
+abbrev pub IsNoTree : List ℕ → JsonFault → Type 0
+IsNoTree text NoMemory = Unit {0}
+IsNoTree text fault = tree_of text ≡ None
 
 -- a tree that is read as it stands
 abbrev pub is_ordered : Kind → Json → Bool

@@ -1,4 +1,4 @@
-// What reading a body gives.
+// What reading a body or a row gives.
 use hx_object::{NoMemory, Object, ObjectFault, Text};
 
 /// What a body says: the object, with version 0, and the version that a PUT expects the stored object to have.
@@ -29,6 +29,14 @@ pub enum JsonFault {
     NoMemory,
 }
 
+/// Why a row isn't read.
+#[derive(Clone, Copy, Debug, PartialEq, Eq)]
+pub enum RowFault {
+    /// No object that may be stored has this row.
+    NoObject,
+    NoMemory,
+}
+
 impl From<NoMemory> for JsonFault {
     ghost use Rattle.std.specs.Prelude.{◌≡◌};
     ghost use Rattle.hx_json.specs.declared.fault.JsonFault.TheVariants.{NoMemory};
@@ -37,5 +45,16 @@ impl From<NoMemory> for JsonFault {
 
     fn from(_: NoMemory) -> JsonFault {
         JsonFault::NoMemory
+    }
+}
+
+impl From<NoMemory> for RowFault {
+    ghost use Rattle.std.specs.Prelude.{◌≡◌};
+    ghost use Rattle.hx_json.specs.declared.fault.RowFault.TheVariants.{NoMemory};
+
+    ghost from_gives = { λ _ f. f ≡ NoMemory };
+
+    fn from(_: NoMemory) -> RowFault {
+        RowFault::NoMemory
     }
 }

@@ -20,7 +20,7 @@ pub fn law_of_texts(one: &Object, other: &Object)
 }
 
 /// What the types of an object's fields keep: pairs are in order, and a version has 64 bits.
-fn keep_their_types(object: &Object)
+pub fn keep_their_types(object: &Object)
     ensures labels { IsTrue (has_ascending_keys object.now.labels) }
     ensures annotations { IsTrue (has_ascending_keys object.now.annotations) }
     ensures version { object.now.version < 2 ^ 64 }

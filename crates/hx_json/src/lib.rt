@@ -6,7 +6,7 @@ mod law;
 mod read;
 mod write;
 
-pub use fault::{JsonFault, Read};
+pub use fault::{JsonFault, Read, RowFault};
 pub use law::law_of_texts;
 pub use read::{BodyReader, is_long_decimal};
 pub use write::{push_gone, push_list, push_object, push_status, write_object};

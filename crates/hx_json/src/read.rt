@@ -6,9 +6,11 @@ ghost use Rattle.serde_json.specs.Read.{max_depth};
 ghost use Rattle.hx_object.specs.Canonical.{IsCanonical};
 ghost use Rattle.hx_object.specs.Faults.{IsLegal};
 ghost use Rattle.hx_object.specs.Kinds.{is_in_cluster};
+ghost use Rattle.hx_model.specs.Serving.{IsGiven};
 ghost use Rattle.hx_json.specs.Inside.{IsFaultIn, Says, target_of};
 ghost use Rattle.hx_json.specs.Reading.{member_fault, target_at};
 ghost use Rattle.hx_json.specs.ReadObject.{IsFaultOf, IsReadOf, is_read};
+ghost use Rattle.hx_json.specs.Rows.{IsUnsound, said_object};
 ghost use Rattle.hx_json.specs.Trees.{IsOrdered, IsUnordered, is_ordered, said};
 
 mod kept;
@@ -16,13 +18,15 @@ mod member_checks;
 mod members;
 mod number;
 mod parts;
+mod row;
 mod shapes;
 mod tree;
 mod version;
 mod whole;
 
+use crate::law::keep_their_types;
 use crate::{JsonFault, Read};
-use hx_object::{Kind, Object, Text};
+use hx_object::{Id, Kind, Object, Text};
 use json::{Scratch, Value};
 use member_checks::check_members;
 use parts::{expected_in, id_of, pairs_in, payload_of};
@@ -71,6 +75,7 @@ impl BodyReader {
         ensures ok { IfOk result (λ r. IsReadOf (target_at kind ns.now (option_copied name.entry)) body.now r.object r.expected) }
         ensures fault { IfErr result (λ f. IsFaultOf (target_at kind ns.now (option_copied name.entry)) body.now f) }
         ensures legal { IfOk result (λ r. IsLegal r.object) }
+        ensures given { IfOk result (λ r. IsGiven r.object) }
     {
         let Ok(text) = simdutf8::compat::from_utf8(body) else {
             return Err(JsonFault::NotJson);
@@ -92,7 +97,7 @@ fn read_text(
     requires home { is_in_cluster asked.kind ≡ true → asked.ns.now ≡ [] }
     ensures ok { IfOk result (λ r. IsReadOf (target_of asked.entry) text.now r.object r.expected) }
     ensures fault { IfErr result (λ f. IsFaultOf (target_of asked.entry) text.now f) }
-    ensures legal { IfOk result (λ r. IsLegal r.object) }
+    ensures legal { IfOk result (λ r. IsLegal r.object × IsGiven r.object) }
 {
     if let Some(read) = read_as_is(alloc, scratch, room, text, asked)? {
         return Ok(read);
@@ -114,7 +119,7 @@ fn read_ordered(
     requires ordered { IsOrdered asked.kind text.now }
     ensures ok { IfOk result (λ r. IsReadOf (target_of asked.entry) text.now r.object r.expected) }
     ensures fault { IfErr result (λ f. IsFaultOf (target_of asked.entry) text.now f) }
-    ensures legal { IfOk result (λ r. IsLegal r.object) }
+    ensures legal { IfOk result (λ r. IsLegal r.object × IsGiven r.object) }
 {
     match read_as_is(alloc, scratch, room, text, asked)? {
         Some(read) => Ok(read),
@@ -134,7 +139,7 @@ fn read_as_is(
     requires home { is_in_cluster asked.kind ≡ true → asked.ns.now ≡ [] }
     ensures ok { IfOk result (λ o. IfSome o (λ r. IsReadOf (target_of asked.entry) text.now r.object r.expected)) }
     ensures fault { IfErr result (λ f. IsFaultOf (target_of asked.entry) text.now f) }
-    ensures legal { IfOk result (λ o. IfSome o (λ r. IsLegal r.object)) }
+    ensures legal { IfOk result (λ o. IfSome o (λ r. IsLegal r.object × IsGiven r.object)) }
     ensures unordered { IfOk result (λ o. IfNone o (IsUnordered asked.entry.kind text.now)) }
 {
     let value = read_tree(alloc, text, scratch)?;
@@ -159,7 +164,7 @@ fn tell(
     requires home { is_in_cluster asked.kind ≡ true → asked.ns.now ≡ [] }
     ensures ok { IfOk result (λ r. Says (target_of asked.entry) (said value.now) r.object r.expected) }
     ensures fault { IfErr result (λ f. IsFaultIn (target_of asked.entry) (said value.now) f) }
-    ensures legal { IfOk result (λ r. IsLegal r.object) }
+    ensures legal { IfOk result (λ r. IsLegal r.object × IsGiven r.object) }
 {
     match check_members(value, asked.kind, asked.ns, asked.name) {
         Ok(()) => object_in(alloc, room, value, asked),
@@ -182,16 +187,40 @@ fn object_in(
     requires sound { member_fault (target_of asked) (said value.now) ≡ None }
     ensures ok { IfOk result (λ r. Says (target_of asked.entry) (said value.now) r.object r.expected) }
     ensures fault { IfErr result (λ f. IsFaultIn (target_of asked.entry) (said value.now) f) }
-    ensures legal { IfOk result (λ r. IsLegal r.object) }
+    ensures legal { IfOk result (λ r. IsLegal r.object × IsGiven r.object) }
 {
     let Asked { kind, ns, name } = asked;
     let expected = expected_in(value, name);
     let id = id_of(alloc, value, kind, ns, name)?;
+    let object = object_at(alloc, room, value, id, 0)?;
+    Ok(Read { object, expected })
+}
+
+/// The object of an identity that an ordered tree says, with a version.
+fn object_at(
+    alloc: Global,
+    room: &mut String,
+    value: &Value<'_>,
+    id: Id,
+    version: u64,
+) -> Result<Object, JsonFault>
+    requires ordered { is_ordered id.kind (value_view value.now) ≡ true }
+    requires canonical { IsCanonical (said value.now) }
+    requires shallow { depth (said value.now) ≤ max_depth }
+    requires known { is_read id.kind ≡ true }
+    requires home { is_in_cluster id.kind ≡ true → id.ns ≡ [] }
+    ensures object { IfOk result (λ x. x ≡ said_object id version (said value.now)) }
+    ensures legal { IfOk result (λ x. IsLegal x × IsGiven x) }
+    ensures fault { IfErr result (IsUnsound (said_object id version (said value.now))) }
+{
     let labels = pairs_in(alloc, value, "labels")?;
     let annotations = pairs_in(alloc, value, "annotations")?;
-    let payload = payload_of(alloc, room, value, kind)?;
-    match Object::new(id, labels, annotations, payload, 0) {
-        Ok(object) => Ok(Read { object, expected }),
+    let payload = payload_of(alloc, room, value, id.kind)?;
+    match Object::new(id, labels, annotations, payload, version) {
+        Ok(object) => {
+            keep_their_types(&object);
+            Ok(object)
+        }
         Err(fault) => Err(JsonFault::Object(fault)),
     }
 }

@@ -3,7 +3,7 @@ ghost use Rattle.std.specs.Prelude.{◌≡◌, Some, None, IfOk, IfErr, option_m
 ghost use Rattle.json.specs.Value.{value_view, items_view, members_view};
 ghost use Rattle.hx_json.specs.Reading.{Target};
 ghost use Rattle.hx_json.specs.ReadObject.{IsFaultOf};
-ghost use Rattle.hx_json.specs.Trees.{tree_of, is_tame, items_are_tame, members_are_tame, is_after, is_sorted, items_are_sorted, are_sorted, is_sorted_in, has_sorted_pairs, has_sorted_metadata, is_head, is_ordered, kept_of, keeps_order, keeps_order_for};
+ghost use Rattle.hx_json.specs.Trees.{IsNoTree, tree_of, is_tame, items_are_tame, members_are_tame, is_after, is_sorted, items_are_sorted, are_sorted, is_sorted_in, has_sorted_pairs, has_sorted_metadata, is_head, is_ordered, kept_of, keeps_order, keeps_order_for};
 
 use super::number::whole_in;
 use crate::JsonFault;
@@ -22,6 +22,7 @@ pub fn read_tree<'a>(
 ) -> Result<Value<'a>, JsonFault>
     ensures ok { IfOk result (λ v. tree_of text.now ≡ Some (value_view v)) }
     ensures fault { IfErr result (λ f. (p : Target) → IsFaultOf p text.now f) }
+    ensures none { IfErr result (IsNoTree text.now) }
 {
     let Ok(mut reader) = Reader::new(text, scratch) else {
         return Err(JsonFault::NoMemory);

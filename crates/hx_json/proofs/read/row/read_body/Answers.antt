@@ -1,0 +1,31 @@
+use Rattle.std.proofs.Common.{◌∙◌, sym, subst, Err}
+use Rattle.hx_object.specs.declared.object.Object.{Object}
+use Rattle.json.specs.Value.{value_view}
+use Rattle.hx_json.specs.Rows.{Gives}
+use Rattle.hx_json.proofs.Orders.{ordered_canonical, ordered_shallow}
+use Rattle.hx_json.proofs.ReadBack.{faultless, told, treeless, unordered}
+use Rattle.hx_json.proofs.read.row.read_body.Goals as goal
+
+pub returns-in-Err-clause-back : goal.returns-in-Err-clause-back
+returns-in-Err-clause-back c = λ x h.
+    subst (λ f. Gives {A = Object} (Err f) x) (sym c.row_fault.ensures) (treeless c.args.id c.args.version c.args.text.now x h c.in-Err.fault c.in-Err.ensures.none)
+
+pub returns-then-not-is_ordered-clause-back : goal.returns-then-not-is_ordered-clause-back
+returns-then-not-is_ordered-clause-back c = λ x h.
+    unordered c.args.id c.args.version c.args.text.now x h (value_view c.in-Ok.value) c.in-Ok.ensures.ok (sym c.is_ordered.ensures ∙ c.if-not-is_ordered.true)
+
+pub object_at-requires-clause-canonical : goal.object_at-requires-clause-canonical
+object_at-requires-clause-canonical c = ordered_canonical c.args.text.now c.args.id.kind (value_view c.in-Ok.value) c.in-Ok.ensures.ok (sym c.is_ordered.ensures ∙ c.if-not-is_ordered.false)
+
+pub object_at-requires-clause-shallow : goal.object_at-requires-clause-shallow
+object_at-requires-clause-shallow c = ordered_shallow c.args.text.now c.args.id.kind (value_view c.in-Ok.value) c.in-Ok.ensures.ok (sym c.is_ordered.ensures ∙ c.if-not-is_ordered.false)
+
+pub returns-in-Ok-object_at-clause-back : goal.returns-in-Ok-object_at-clause-back
+returns-in-Ok-object_at-clause-back c = λ x h.
+    c.in-Ok-object_at.ensures.object
+    ∙ told c.args.id c.args.version c.args.text.now x h (value_view c.in-Ok.value) c.in-Ok.ensures.ok (sym c.is_ordered.ensures ∙ c.if-not-is_ordered.false)
+
+pub returns-clause-back : goal.returns-clause-back
+returns-clause-back c = λ x h.
+    subst (λ f. Gives {A = Object} (Err f) x) (sym c.row_fault-in-Err-object_at.ensures)
+    (faultless c.args.id c.args.version c.args.text.now x h (value_view c.in-Ok.value) c.in-Err-object_at.fault c.in-Ok.ensures.ok (sym c.is_ordered.ensures ∙ c.if-not-is_ordered.false) c.in-Err-object_at.ensures.fault)

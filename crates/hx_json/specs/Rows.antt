@@ -1,0 +1,121 @@
+-- Stored rows of objects, and what is read of one.
+--     IsRowOf key version body x    the row of an object that may be stored
+--     IsOnlyOf, HasNoObject         no other object has the row;  no object has it
+--     kind_in digits     of the kinds whose objects may be stored, the one of this number
+--     IsCutAt text a b   the text is cut at its first slash
+--     may_lie_in k ns    a key of the kind may name the namespace
+--     IsKeyOf key id     the key of an identity whose object may be stored
+--     said_object        the object of an identity that a value says
+--     IsUnsound x f      the fault is that of an object
+--     IsTextOf id v t x  the text is that of an object that may be stored, of an identity and a version
+--     row_fault f        why a row isn't read, by why its body isn't
+--     Gives r x          an answer is this value, or want of memory
+--     GivesId, GivesTextOf, GivesRow    it is what a key, a text or a row is of, if that is of any
+use Rattle.std.specs.Prelude.{◌≡◌, ℕ, Bool, true, false, not, ◌==◌, ◌&&◌, ◌||◌, List, [], ◌∷◌, ◌++◌, codes, find, Option, Result, Ok, Err, IsUtf8, Some}
+use Rattle.std.specs.List.{AllByRecursion}
+use Rattle.std.specs.Str.{bytes_eq}
+use Rattle.serde_json.specs.Data.{Data}
+use Rattle.hx_object.specs.Faults.{object_fault}
+use Rattle.hx_object.specs.Json.{object_text}
+use Rattle.hx_object.specs.Kinds.{all_kinds, is_in_cluster, number_of}
+use Rattle.hx_object.specs.Names.{slash}
+use Rattle.hx_object.specs.declared.kind.Kind.{Kind}
+use Rattle.hx_object.specs.declared.object.Id.{Id}
+use Rattle.hx_object.specs.declared.object.Object.{Object}
+use Rattle.hx_model.specs.Serving.{IsServed, is_written}
+use Rattle.hx_model.specs.Texts.{key_text, stored_entry, two_digits}
+use Rattle.hx_json.specs.Reading.{counted_member, metadata_in, pairs_in, payload_of}
+use Rattle.hx_json.specs.declared.fault.JsonFault.{JsonFault}
+use Rattle.hx_json.specs.declared.fault.JsonFault.TheVariants as of
+use Rattle.hx_json.specs.declared.fault.RowFault.{RowFault}
+use Rattle.hx_json.specs.declared.fault.RowFault.TheVariants.{NoObject, NoMemory}
+
+-- the key, the version and the body are the row of an object that may be stored, whose text is UTF-8
+pub record IsRowOf (key : List ℕ) (version : ℕ) (body : List ℕ) (x : Object) : Type 0 where
+  pub served : IsServed x
+  pub text : IsUtf8 body
+  pub is : stored_entry x ≡ (key, (version, body))
+
+-- no other object has this row
+abbrev pub IsOnlyOf : List ℕ → ℕ → List ℕ → Object → Type 0
+IsOnlyOf key version body x = (y : Object) → IsRowOf key version body y → y ≡ x
+
+-- no object that may be stored has this row
+abbrev pub HasNoObject : List ℕ → ℕ → List ℕ → Type 0
+HasNoObject key version body = (x : Object) → IsRowOf key version body x → ⊥
+
+-- ---- keys
+
+-- of the kinds whose objects may be stored, the one whose number these digits are
+abbrev pub kind_in : List ℕ → Option Kind
+kind_in digits = find (λ kind. is_written kind && bytes_eq digits (two_digits (number_of kind))) all_kinds
+
+-- no byte is a slash
+abbrev pub HasNoSlash : List ℕ → Type 0
+HasNoSlash bytes = AllByRecursion (λ byte. (byte == slash) ≡ false) bytes
+
+-- what stands in front of the first slash of a text, and what behind it
+pub record IsCutAt (text front rest : List ℕ) : Type 0 where
+  pub slashless : HasNoSlash front
+  pub is : text ≡ front ++ (slash ∷ rest)
+
+-- a key of a kind may name this namespace: no namespace, where the kind lies in none
+abbrev pub may_lie_in : Kind → List ℕ → Bool
+may_lie_in kind ns = not (is_in_cluster kind) || bytes_eq ns []
+
+-- the key is that of an identity whose object may be stored
+pub record IsKeyOf (key : List ℕ) (id : Id) : Type 0 where
+  pub is : key ≡ key_text id
+  pub written : is_written id.kind ≡ true
+  pub home : is_in_cluster id.kind ≡ true → id.ns ≡ []
+  pub slashless : HasNoSlash id.ns
+
+-- ---- objects
+
+-- the object of an identity that a value says, with a version
+abbrev pub said_object : Id → ℕ → Data → Object
+said_object id version d = record {
+  id = id;
+  labels = pairs_in (counted_member (codes "labels") (metadata_in d));
+  annotations = pairs_in (counted_member (codes "annotations") (metadata_in d));
+  payload = payload_of id.kind d;
+  version = version;
+}
+
+-- the fault is that of an object, or want of memory
+abbrev pub IsUnsound : Object → JsonFault → Type 0
+IsUnsound x (of.Object fault) = object_fault x ≡ Some fault
+IsUnsound x of.NoMemory = Unit {0}
+IsUnsound x fault = ⊥
+
+-- the text is that of an object that may be stored, of this identity and this version
+pub record IsTextOf (id : Id) (version : ℕ) (text : List ℕ) (x : Object) : Type 0 where
+  pub served : IsServed x
+  pub id_is : x.id ≡ id
+  pub version_is : x.version ≡ version
+  pub text_is : text ≡ object_text x
+
+-- ---- answers
+
+-- why a row isn't read, by why its body isn't
+abbrev pub row_fault : JsonFault → RowFault
+row_fault of.NoMemory = NoMemory
+row_fault fault = NoObject
+
+-- the answer is this value, or want of memory
+abbrev pub Gives : {A : Type 0} → Result A RowFault → A → Type 0
+Gives (Ok found) x = found ≡ x
+Gives (Err NoObject) x = ⊥
+Gives (Err NoMemory) x = Unit {0}
+
+-- the identity that a key is of, if it is of any
+abbrev pub GivesId : List ℕ → Result Id RowFault → Type 0
+GivesId key result = (id : Id) → IsKeyOf key id → Gives result id
+
+-- the object that a text is of, if it is of any
+abbrev pub GivesTextOf : Id → ℕ → List ℕ → Result Object RowFault → Type 0
+GivesTextOf id version text result = (x : Object) → IsTextOf id version text x → Gives result x
+
+-- the object whose row this is, if it is any's
+abbrev pub GivesRow : List ℕ → ℕ → List ℕ → Result Object RowFault → Type 0
+GivesRow key version body result = (x : Object) → IsRowOf key version body x → Gives result x
