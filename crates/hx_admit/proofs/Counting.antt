@@ -49,7 +49,7 @@ module _ (config : RunConfig) (objects : Objects) (last : ℕ) (counts : LimitCo
 
   -- objects with which indexes agree are valid
   pub valid_agrees : IsValid (record { objects = objects; last = last; config = config })
-  valid_agrees = record { in_order = agrees.in_order; stored = agrees.stored; fits = agrees.fits }
+  valid_agrees = record { in_order = agrees.in_order; stored = agrees.stored; housed = agrees.housed; fits = agrees.fits }
 
   -- what is listed is legal
   pub listed_legal : (p : Object → Bool) → AllByRecursion IsLegal (filter p objects)

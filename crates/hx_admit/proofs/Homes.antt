@@ -1,16 +1,16 @@
 -- What the check of the rules is given, and what it finds.
 --     at_home          the namespace of a HierarchyConfiguration has the parent that the tree says
---     lacks_node         a namespace isn't there where the tree doesn't have it
+--     home_node        a namespace is there where the tree has it
 --     ruled            what it is given is the case of the state
 --     same_annotation  a namespace that passes the rules keeps its annotation
-use Rattle.std.proofs.Common.{◌≡◌, ℕ, Bool, true, false, not, ◌&&◌, List, [], ◌∷◌, None, Some, Option, IfSome, refl, sym, ap, subst, ◌∙◌, true≢false}
-use Rattle.std.specs.Prelude.{is_some, is_none, if◌then◌else◌, option_map, option_and_then}
+use Rattle.std.proofs.Common.{◌≡◌, ℕ, Bool, true, false, not, ◌&&◌, ◌||◌, List, [], ◌∷◌, None, Some, Option, IfSome, refl, sym, ap, subst, ◌∙◌, true≢false}
+use Rattle.std.specs.Prelude.{is_some, if◌then◌else◌, option_map, option_and_then}
 use Rattle.std.specs.List.{AllByRecursion}
 use Rattle.std.proofs.lemmas.Slice.Eq.{bytes_eq-Decides}
 use Rattle.hx_object.specs.Kinds.{is_in_cluster}
 use Rattle.hx_object.specs.declared.object.Id.{Id}
 use Rattle.hx_object.specs.declared.object.Object.{Object}
-use Rattle.hx_model.specs.Answers.{case_at, lacks_namespace, rule_refusal, version_refusal}
+use Rattle.hx_model.specs.Answers.{case_at, rule_refusal, version_refusal}
 use Rattle.hx_model.specs.First.{so, or_else, first}
 use Rattle.hx_model.specs.Forest.{Forest, is_there, parent_of}
 use Rattle.hx_model.specs.Limits.{is_namespace, is_hierarchy}
@@ -18,7 +18,7 @@ use Rattle.hx_model.specs.Cases.{Case, breaks, same_name}
 use Rattle.hx_model.specs.Denials.{refusal_by}
 use Rattle.hx_model.specs.Rules.{rules, kind_rules}
 use Rattle.hx_model.specs.Serving.{IsServed}
-use Rattle.hx_model.specs.State.{State, Objects, object_at, namespace_id, home_in}
+use Rattle.hx_model.specs.State.{State, Objects, object_at, namespace_id, home_in, has_home}
 use Rattle.hx_model.specs.Tree.{hierarchy, hierarchy_id, subnamespace_parent, named_parent, node_in, forest_in}
 use Rattle.hx_model.specs.declared.ask.Ask.TheVariants.{Replace}
 use Rattle.hx_model.specs.declared.node.Node.{Node}
@@ -57,18 +57,14 @@ at_home config rows nodes id old new home skip served planted there is_home is =
         let node : parent_of (forest_in config.excluded rows) id.ns ≡ (node_in config.excluded rows x).parent = ap (option_and_then (λ (node : Node). node.parent)) (node_of-objects config.excluded rows id.ns served ∙ ap (option_map (node_in config.excluded rows)) e) in
         node ∙ ap (λ o. or_else (subnamespace_parent x) (option_and_then named_parent o)) (ap (λ n. object_at rows (hierarchy_id n)) name ∙ ap (object_at rows) (sym exact) ∙ there)
 
--- a namespace isn't there where the tree doesn't have it
-pub lacks_node : (config : RunConfig) (rows : Objects) (last : ℕ) (nodes : Forest) (id : Id) → AllByRecursion IsServed rows → nodes ≡ forest_in config.excluded rows → lacks_namespace (state_in config rows last) id ≡ (not (is_in_cluster id.kind) && not (is_there nodes id.ns))
-lacks_node config rows last nodes id served planted =
-    by (is_in_cluster id.kind) ∙ ap (λ f. not (is_in_cluster id.kind) && not (is_there f id.ns)) (sym planted)
+-- a namespace is there where the tree has it
+pub home_node : (config : RunConfig) (rows : Objects) (nodes : Forest) (id : Id) → AllByRecursion IsServed rows → nodes ≡ forest_in config.excluded rows → has_home rows id ≡ (is_in_cluster id.kind || is_there nodes id.ns)
+home_node config rows nodes id served planted =
+    by (is_in_cluster id.kind) ∙ ap (λ f. is_in_cluster id.kind || is_there f id.ns) (sym planted)
   where
-    absent : (found : Option Object) → is_none found ≡ not (is_some found)
-    absent None = refl
-    absent (Some x) = refl
-
-    by : (b : Bool) → (not b && is_none (option_and_then (object_at rows) (if b then None else Some (namespace_id id.ns)))) ≡ (not b && not (is_there (forest_in config.excluded rows) id.ns))
+    by : (b : Bool) → (b || is_some (option_and_then (object_at rows) (if b then None else Some (namespace_id id.ns)))) ≡ (b || is_there (forest_in config.excluded rows) id.ns)
     by true = refl
-    by false = absent (object_at rows (namespace_id id.ns)) ∙ ap not (sym (there-objects config.excluded rows id.ns served))
+    by false = sym (there-objects config.excluded rows id.ns served)
 
 -- ---- the rules
 

@@ -3,6 +3,7 @@ pub mod Sameness
 pub mod Homes
 pub mod Planting
 pub mod Staging
+pub mod Loading
 pub mod Refusing
 pub mod Reviewing
 pub mod Ruling

@@ -1,5 +1,4 @@
 -- The changes of the tree by writes.
---     MayMake        what a write needs of the objects that are there
 --     IsPlanted      a change gives the tree of the objects after a write
 --     planted        it is the one that is planned
 use Rattle.std.proofs.Common.{◌≡◌, Bool, true, false, not, ◌&&◌, [], ◌∷◌, None, Some, Option, IfSome, refl, sym, ap, subst, ◌∙◌}
@@ -24,14 +23,9 @@ use Rattle.hx_model.proofs.Objects.{found_id}
 use Rattle.hx_model.proofs.Planting.{hierarchy_kind, namespace_is_homed, there-objects, forest-put, forest-cut, forest-put_namespace, forest-put_again, forest-put_terminating, forest-cut_namespace, forest-put_moves, forest-cut_moves}
 use Rattle.hx_model.proofs.Storing.{All-found}
 use Rattle.hx_store.specs.Changes.{id_of, object_of}
-use Rattle.hx_admit.specs.Planning.{planting, moving, tree_change}
+use Rattle.hx_admit.specs.Planning.{MayMake, planting, moving, tree_change}
 use Rattle.hx_admit.specs.Ruling.{moved_by}
 use Rattle.hx_model.specs.Writes.{KeepsItsPlace}
-
--- what a write needs of the objects that are there
-abbrev pub MayMake : State → Write → Type 0
-MayMake t (Put x) = IsServed x × (is_namespace x.id.kind ≡ true → IfSome (object_at t.objects x.id) (λ old. KeepsItsPlace old x))
-MayMake t (Cut id) = (x : Object) × (object_at t.objects id ≡ Some x)
 
 -- the tree after a change, where there is one
 abbrev pub tree_after : Option TreeChange → Forest → Forest

@@ -6,19 +6,17 @@
 --     served_replacement     what a PUT gives is served
 --     may_put, may_replace      an object with the next version, and that of a PUT, may be put
 --     passes_create, passes_replace     asks of one write
-use Rattle.std.proofs.Common.{◌≡◌, ◌<◌, ◌+◌, ℕ, Bool, true, false, ◌&&◌, List, [], ◌∷◌, None, Some, Option, refl, sym, ap, subst, ◌∙◌, inl, inr, ◌⊎◌, filter, nat_lt, le-ltb, arith, IfSome}
+use Rattle.std.proofs.Common.{◌≡◌, ◌<◌, ◌+◌, ℕ, Bool, true, false, List, [], ◌∷◌, None, Some, Option, refl, sym, ap, subst, ◌∙◌, inl, inr, ◌⊎◌, filter, nat_lt, le-ltb, arith, IfSome}
 use Rattle.std.specs.List.{AllByRecursion, IsDistinct}
 use Rattle.std.specs.Prelude.{Result, Ok, Err, IfErr, IsErrAnd}
-use Rattle.std.specs.Str.{bytes_eq}
 use Rattle.hx_object.specs.Faults.{IsLegal}
 use Rattle.hx_object.specs.declared.kind.Kind.{Kind}
-use Rattle.hx_object.specs.declared.kind.Kind.TheVariants.{Namespace}
 use Rattle.hx_object.specs.declared.object.Id.{Id}
 use Rattle.hx_object.specs.declared.object.Object.{Object}
 use Rattle.hx_model.specs.Answers.{refusal_of, writes_of, success, answer_found, is_listed, same_object, replaced_by}
-use Rattle.hx_model.specs.Limits.{is_namespace, is_hierarchy, bytes_in, greatest_version}
+use Rattle.hx_model.specs.Limits.{is_namespace, bytes_in, greatest_version}
 use Rattle.hx_model.specs.Serving.{IsServed, IsLegalAnswer}
-use Rattle.hx_model.specs.State.{State, object_at, with_version, state_after}
+use Rattle.hx_model.specs.State.{State, object_at, has_home, with_version, state_after}
 use Rattle.hx_model.specs.declared.ask.Ask.{Ask}
 use Rattle.hx_model.specs.declared.ask.Ask.TheVariants.{Get, List as ListOf, Create, Replace}
 use Rattle.hx_model.specs.declared.ask.Answer.{Answer}
@@ -27,7 +25,7 @@ use Rattle.hx_model.specs.declared.key.Write.{Write}
 use Rattle.hx_model.specs.declared.key.Write.TheVariants.{Put}
 use Rattle.hx_model.specs.declared.refusal.Refusal.{Refusal}
 use Rattle.hx_model.specs.declared.refusal.Refusal.TheVariants.{NoMemory}
-use Rattle.hx_model.proofs.Legality.{legal_with_version, legal_replaced}
+use Rattle.hx_model.proofs.Legality.{legal_with_version, legal_replaced, given_with_version, given_replaced}
 use Rattle.hx_model.proofs.Objects.{found_id}
 use Rattle.hx_model.proofs.Planting.{terminating-replaced}
 use Rattle.hx_model.proofs.Storing.{All-found}
@@ -40,6 +38,7 @@ use Rattle.hx_admit.proofs.Counting.{valid_served}
 use Rattle.hx_admit.proofs.Homes.{same_annotation}
 use Rattle.hx_admit.proofs.Refusing.{replace_unchanged}
 use Rattle.hx_admit.proofs.Sameness.{differs}
+use Rattle.hx_admit.proofs.Staging.{alone_distinct, alone_apart}
 use Rattle.hx_model.proofs.Objects.{object_at-put_itself}
 
 -- ---- refusals
@@ -83,20 +82,15 @@ pub may_none : (s : State) (writes : List Write) → writes ≡ [] → MayWriteA
 unfolding IsDistinct
 may_none s writes none = subst (MayWriteAll s) (sym none) (record { each = tt; distinct = tt; apart = tt; fits = λ some. absurd (some refl) })
 
--- no identity is both of a namespace and of a HierarchyConfiguration
-unjoined : (kind : Kind) (b : Bool) → (is_namespace kind && is_hierarchy kind && b) ≡ false
-unjoined Namespace b = refl
-unjoined _ b = refl
-
 pub may_one : (s : State) (write : Write) (writes : List Write) → MayWrite s write → s.last < greatest_version → writes ≡ write ∷ [] → MayWriteAll s writes
-unfolding IsDistinct
-may_one s write writes may fits is = subst (MayWriteAll s) (sym is) (record { each = (may, tt); distinct = (tt, tt); apart = ((unjoined (id_written write).kind (bytes_eq (id_written write).name (id_written write).ns), tt), tt); fits = λ some. fits })
+may_one s write writes may fits is = subst (MayWriteAll s) (sym is) (record { each = (may, tt); distinct = alone_distinct (id_written write); apart = alone_apart (id_written write); fits = λ some. fits })
 
 -- an object with the next version
-pub may_put : (s : State) (x : Object) → IsServed x → (is_namespace x.id.kind ≡ true → IfSome (object_at s.objects x.id) (λ old. KeepsItsPlace old x)) → MayPut s (with_version x (s.last + 1))
-may_put s x served later = record {
-  served = record { legal = legal_with_version x (s.last + 1) served.legal; written = served.written };
+pub may_put : (s : State) (x : Object) → IsServed x → has_home s.objects x.id ≡ true → (is_namespace x.id.kind ≡ true → IfSome (object_at s.objects x.id) (λ old. KeepsItsPlace old x)) → MayPut s (with_version x (s.last + 1))
+may_put s x served home later = record {
+  served = record { legal = legal_with_version x (s.last + 1) served.legal; written = served.written; given = given_with_version x (s.last + 1) served.given };
   next = refl;
+  home = home;
   place = λ is. each (object_at s.objects x.id) (later is);
 }
   where
@@ -105,15 +99,26 @@ may_put s x served later = record {
     each (Some old) p = record { annotation = p.annotation; phase = p.phase }
 
 -- the object that a PUT gives
-pub served_replacement : (s : State) (x old next : Object) (expected : Option ℕ) (skip : Bool) → IsReplacement s x old expected skip next → IsServed next
-served_replacement s x old next expected skip r = subst IsServed (sym r.gives) (record { legal = legal_replaced old x r.served.legal; written = r.served.written })
+module _ (s : State) (x old next : Object) (expected : Option ℕ) (skip : Bool) (r : IsReplacement s x old expected skip next) where
+  served_before : IsServed old
+  served_before = All-found IsServed x.id old s.objects (valid_served s r.valid) r.there
 
-pub may_replace : (s : State) (x old next : Object) (expected : Option ℕ) (skip : Bool) → IsReplacement s x old expected skip next → MayPut s (with_version next (s.last + 1))
-may_replace s x old next expected skip r =
-    subst (λ (y : Object). MayPut s (with_version y (s.last + 1))) (sym r.gives)
-    (may_put s (replaced_by old x) (record { legal = legal_replaced old x r.served.legal; written = r.served.written }) (λ is.
-    subst (λ (o : Option Object). IfSome o (λ found. KeepsItsPlace found (replaced_by old x))) (sym r.there)
-    (record { annotation = same_annotation s x old expected skip r.there r.passes is; phase = λ gone. terminating-replaced old x (sym (found_id s.objects x.id old r.there)) is (All-found IsServed x.id old s.objects (valid_served s r.valid) r.there) r.served ∙ gone })))
+  served_given : IsServed (replaced_by old x)
+  served_given = record { legal = legal_replaced old x r.served.legal; written = r.served.written; given = given_replaced old x served_before.given r.served.given }
+
+  pub served_replacement : IsServed next
+  served_replacement = subst IsServed (sym r.gives) served_given
+
+  -- its namespace is that of the object that is there
+  home_before : has_home s.objects x.id ≡ true
+  home_before = ap (has_home s.objects) (found_id s.objects x.id old r.there) ∙ All-found (λ (y : Object). has_home s.objects y.id ≡ true) x.id old s.objects r.valid.housed r.there
+
+  pub may_replace : MayPut s (with_version next (s.last + 1))
+  may_replace =
+      subst (λ (y : Object). MayPut s (with_version y (s.last + 1))) (sym r.gives)
+      (may_put s (replaced_by old x) served_given home_before (λ is.
+      subst (λ (o : Option Object). IfSome o (λ found. KeepsItsPlace found (replaced_by old x))) (sym r.there)
+      (record { annotation = same_annotation s x old expected skip r.there r.passes is; phase = λ gone. terminating-replaced old x (sym (found_id s.objects x.id old r.there)) is served_before r.served ∙ gone })))
 
 -- ---- asks of one write
 

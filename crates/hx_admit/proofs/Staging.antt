@@ -6,8 +6,12 @@
 --     plan_none, plan_next      the numbers and the changes of the tree of no writes, and of one more
 --     plan_step                 of the next of all the writes
 --     plan_small, plan_part     the sizes and the numbers of what it looks at
-use Rattle.std.proofs.Common.{◌≡◌, ◌<◌, ◌≤◌, ◌+◌, ℕ, suc, zero, Bool, true, false, cond, ◌&&◌, List, [], ◌∷◌, ◌++◌, length, map, take, slice_index_or, None, Some, Option, refl, sym, ap, subst, ◌∙◌, arith, IfSome, true≢false}
-use Rattle.std.specs.Prelude.{if◌then◌else◌, option_and_then}
+--     may_make_all              the writes of one commit may be planned together
+--     alone_distinct, alone_apart      one write by itself touches no other
+--     grown_tree                the tree after all of them
+--     indexed_staged            the indexes where they are staged
+use Rattle.std.proofs.Common.{◌≡◌, ◌≢◌, ◌<◌, ◌≤◌, ◌+◌, ℕ, suc, zero, Bool, true, false, cond, ◌&&◌, List, [], ◌∷◌, ◌++◌, length, map, take, slice_index_or, None, Some, Option, refl, sym, ap, subst, ◌∙◌, arith, IfSome, true≢false}
+use Rattle.std.specs.Prelude.{Result, Ok, Err, OnOk, OnErr, if◌then◌else◌, option_and_then}
 use Rattle.std.specs.List.{AllByRecursion, IsDistinct}
 use Rattle.std.specs.Cmp.{tied_itself}
 use Rattle.std.specs.Str.{bytes_eq}
@@ -17,29 +21,34 @@ use Rattle.std.proofs.lemmas.Slice.Eq.{bytes_eq-Decides}
 use Rattle.hx_object.specs.Sizes.{size_of, greatest_size}
 use Rattle.hx_object.specs.declared.object.Id.{Id}
 use Rattle.hx_object.specs.declared.object.Object.{Object}
-use Rattle.hx_forest.specs.Kept.{changed_by, changed_by_all, MayChange, MayChangeAll}
+use Rattle.hx_forest.specs.Kept.{ForestView, changed_by, changed_by_all, MayChange, MayChangeAll}
 use Rattle.hx_forest.specs.declared.change.Change.{Change as TreeChange}
 use Rattle.hx_forest.specs.declared.change.Change.TheVariants.{Add}
 use Rattle.hx_model.specs.First.{or_else}
 use Rattle.hx_model.specs.Forest.{Forest, is_in}
 use Rattle.hx_model.specs.Limits.{is_namespace, is_hierarchy}
-use Rattle.hx_model.specs.State.{State, Objects, ascends, same_id, object_at, put, cut, namespace_id, home_in, after_writes}
+use Rattle.hx_object.specs.declared.kind.Kind.{Kind}
+use Rattle.hx_object.specs.declared.kind.Kind.TheVariants.{Namespace}
+use Rattle.hx_model.specs.State.{State, Objects, ascends, same_id, object_at, put, cut, namespace_id, home_in, after_writes, state_after}
+use Rattle.hx_model.specs.Valid.{IsValid}
 use Rattle.hx_model.specs.Tree.{hierarchy_id, subnamespace_parent, named_parent, is_terminating, forest_in, forest_of}
-use Rattle.hx_model.specs.Valid.{IsStored}
+use Rattle.hx_model.specs.Serving.{IsServed}
 use Rattle.hx_model.specs.Writes.{KeepsItsPlace, MayWrite, MayWriteAll, AreApart, are_joined, id_written}
+use Rattle.hx_model.specs.declared.config.RunConfig.{RunConfig}
 use Rattle.hx_model.specs.declared.key.Write.{Write}
 use Rattle.hx_model.specs.declared.key.Write.TheVariants.{Put, Cut}
 use Rattle.hx_model.proofs.Objects.{id_total, is_same_id, same_from_Equal, object_at-put, object_at-cut, ascends-put, ascends-cut}
 use Rattle.hx_model.proofs.Planting.{hierarchy_kind, namespace_is_homed}
-use Rattle.hx_model.proofs.Writes.{stored_next}
+use Rattle.hx_model.proofs.Writes.{valid_after}
 use Rattle.hx_model.proofs.Storing.{All-put, All-cut}
 use Rattle.hx_store.specs.Changes.{id_of, object_of}
+use Rattle.hx_store.specs.Kept.{StoreView}
 use Rattle.hx_admit.specs.Counting.{Counts, IsPart, counts_of}
-use Rattle.hx_admit.specs.Planning.{IsPlan, planting, moving, tree_change}
-use Rattle.hx_admit.specs.StateView.{Agrees}
+use Rattle.hx_admit.specs.Planning.{IsPlan, MayMake, MayMakeAll, planting, moving, tree_change}
+use Rattle.hx_admit.specs.StateView.{Agrees, IsIndexed, state_in}
 use Rattle.hx_admit.specs.declared.limits.LimitCounts.{LimitCounts}
-use Rattle.hx_admit.proofs.Counting.{all_served, counted, stored_found, small_legal, is_part}
-use Rattle.hx_admit.proofs.Planting.{MayMake, IsPlanted, tree_after, planted}
+use Rattle.hx_admit.proofs.Counting.{all_served, counted, stored_found, valid_agrees, small_legal, is_part}
+use Rattle.hx_admit.proofs.Planting.{IsPlanted, tree_after, planted}
 
 -- ---- lists
 
@@ -105,8 +114,8 @@ apart_before ws i w less at distinct apart =
     (all_image_take id_written (λ b. are_joined (id_written w) b ≡ false) ws i below)
 
 -- a write may be made, and those before it don't touch it
-pub may_at : (s : State) (ws : List Write) (i : ℕ) (w : Write) → i < length ws → w ≡ slice_index_or ws i w → MayWriteAll s ws → MayWrite s w × AllByRecursion (λ d. DontTouch (id_of d) (id_of w)) (take i ws)
-may_at s ws i w less at may = (all_at (MayWrite s) ws i w less at may.each, apart_before ws i w less at may.distinct may.apart)
+pub may_at : (s : State) (ws : List Write) (i : ℕ) (w : Write) → i < length ws → w ≡ slice_index_or ws i w → MayMakeAll s ws → MayMake s w × AllByRecursion (λ d. DontTouch (id_of d) (id_of w)) (take i ws)
+may_at s ws i w less at may = (all_at (MayMake s) ws i w less at may.each, apart_before ws i w less at may.distinct may.apart)
 
 -- ---- what is found
 
@@ -149,16 +158,16 @@ module _ (done : List Write) (objects : Objects) (id : Id) (apart : AllByRecursi
 
 -- the state while the writes are made
 abbrev pub during : State → List Write → State
-during s done = record { objects = after_writes done s.objects; last = s.last + 1; config = s.config }
+during s done = record s { objects = after_writes done s.objects }
 
 -- the change of the tree by a write is as it was before all of them
-pub same_change : (s : State) (done : List Write) (w : Write) → MayWrite s w → AllByRecursion (λ d. DontTouch (id_of d) (id_of w)) done → tree_change (during s done) w ≡ tree_change s w
+pub same_change : (s : State) (done : List Write) (w : Write) → MayMake s w → AllByRecursion (λ d. DontTouch (id_of d) (id_of w)) done → tree_change (during s done) w ≡ tree_change s w
 same_change s done w may apart = by (is_namespace (id_of w).kind) refl
   where
-    plants : (w : Write) → MayWrite s w → AllByRecursion (λ d. DontTouch (id_of d) (id_of w)) done → is_namespace (id_of w).kind ≡ true → (o : Option Object) → planting (during s done) o (object_of w) ≡ planting s o (object_of w)
+    plants : (w : Write) → MayMake s w → AllByRecursion (λ d. DontTouch (id_of d) (id_of w)) done → is_namespace (id_of w).kind ≡ true → (o : Option Object) → planting (during s done) o (object_of w) ≡ planting s o (object_of w)
     plants (Put x) may apart is None =
         ap (λ found. Some (Add x.id.name (record { parent = or_else (subnamespace_parent x) (option_and_then named_parent found); terminating = is_terminating x.payload; excluded = is_in x.id.name s.config.excluded })))
-        (found_config done s.objects x.id apart x.id.name (namespace_is_homed x may.served is))
+        (found_config done s.objects x.id apart x.id.name (namespace_is_homed x may.0 is))
     plants (Put x) may apart is (Some old) = refl
     plants (Cut id) may apart is None = refl
     plants (Cut id) may apart is (Some old) = refl
@@ -180,11 +189,9 @@ abbrev pub listed : Option TreeChange → List TreeChange
 listed None = []
 listed (Some change) = change ∷ []
 
-stored_put : (last : ℕ) (w : Write) (s : State) (objects : Objects) → s.last ≡ last → MayWrite s w → AllByRecursion (IsStored (last + 1)) objects → AllByRecursion (IsStored (last + 1)) (after_writes (w ∷ []) objects)
-stored_put last (Put x) s objects same may all =
-    let at : x.version ≡ last + 1 = may.next ∙ ap (λ n. n + 1) same in
-    All-put (IsStored (last + 1)) x objects (record { served = may.served; given = omega arith; known = omega arith }) all
-stored_put last (Cut id) s objects same may all = All-cut (IsStored (last + 1)) id objects all
+served_then : (s : State) (w : Write) (objects : Objects) → MayMake s w → AllByRecursion IsServed objects → AllByRecursion IsServed (after_writes (w ∷ []) objects)
+served_then s (Put x) objects may all = All-put IsServed x objects may.0 all
+served_then s (Cut id) objects may all = All-cut IsServed id objects all
 
 ordered : (w : Write) (objects : Objects) → ascends objects ≡ true → ascends (after_writes (w ∷ []) objects) ≡ true
 ordered (Put x) objects up = ascends-put x objects up
@@ -192,27 +199,26 @@ ordered (Cut id) objects up = ascends-cut id objects up
 
 -- nothing is written yet
 pub plan_none : (s : State) (counts : LimitCounts) (nodes : Forest) → Agrees s.config s.objects s.last counts nodes → IsPlan s [] counts []
-plan_none s counts nodes agrees = record { in_order = agrees.in_order; stored = stored_next s.last s.objects agrees.stored; numbers = agrees.numbers; may = tt; planted = refl }
+plan_none s counts nodes agrees = record { in_order = agrees.in_order; served = all_served s.last s.objects agrees.stored; numbers = agrees.numbers; may = tt; planted = refl }
 
-may_make : (s : State) (done : List Write) (w : Write) → MayWrite s w → AllByRecursion (λ d. DontTouch (id_of d) (id_of w)) done → MayMake (during s done) w
-may_make s done (Put x) may apart = (may.served, λ is. subst (λ (o : Option Object). IfSome o (λ old. KeepsItsPlace old x)) (sym (found_own done s.objects x.id apart)) (may.place is))
+may_make : (s : State) (done : List Write) (w : Write) → MayMake s w → AllByRecursion (λ d. DontTouch (id_of d) (id_of w)) done → MayMake (during s done) w
+may_make s done (Put x) may apart = (may.0, λ is. subst (λ (o : Option Object). IfSome o (λ old. KeepsItsPlace old x)) (sym (found_own done s.objects x.id apart)) (may.1 is))
 may_make s done (Cut id) may apart = (may.0, found_own done s.objects id apart ∙ may.1)
 
 -- one write more
-pub plan_next : (s : State) (done : List Write) (w : Write) (counts counts' : LimitCounts) (tree tree' : List TreeChange) → IsPlan s done counts tree → MayWrite s w → AllByRecursion (λ d. DontTouch (id_of d) (id_of w)) done
+pub plan_next : (s : State) (done : List Write) (w : Write) (counts counts' : LimitCounts) (tree tree' : List TreeChange) → IsPlan s done counts tree → MayMake s w → AllByRecursion (λ d. DontTouch (id_of d) (id_of w)) done
     → Counts (object_at s.objects (id_of w)) (object_of w) counts counts' → tree' ≡ tree ++ listed (tree_change s w) → IsPlan s (done ++ w ∷ []) counts' tree'
 plan_next s done w counts counts' tree tree' plan may apart moves grown =
     let objects = after_writes done s.objects in
     let whole : after_writes (done ++ w ∷ []) s.objects ≡ after_writes (w ∷ []) objects = after_writes-append done (w ∷ []) s.objects in
-    let served = all_served (s.last + 1) objects plan.stored in
-    let stored = stored_put s.last w s objects refl may plan.stored in
-    let plants = planted (during s done) plan.in_order served w (may_make s done w may apart) in
+    let served = served_then s w objects may plan.served in
+    let plants = planted (during s done) plan.in_order plan.served w (may_make s done w may apart) in
     let change : tree_change (during s done) w ≡ tree_change s w = same_change s done w may apart in
     let steps : IsPlanted (during s done) w (tree_change s w) = subst (IsPlanted (during s done) w) change plants in
     record {
       in_order = ap ascends whole ∙ ordered w objects plan.in_order;
-      stored = subst (AllByRecursion (IsStored (s.last + 1))) (sym whole) stored;
-      numbers = counted w objects counts counts' plan.in_order served (all_served (s.last + 1) _ stored) plan.numbers (subst (λ (o : Option Object). Counts o (object_of w) counts counts') (sym (found_own done s.objects (id_of w) apart)) moves) ∙ ap counts_of (sym whole);
+      served = subst (AllByRecursion IsServed) (sym whole) served;
+      numbers = counted w objects counts counts' plan.in_order plan.served served plan.numbers (subst (λ (o : Option Object). Counts o (object_of w) counts counts') (sym (found_own done s.objects (id_of w) apart)) moves) ∙ ap counts_of (sym whole);
       may = subst (λ cs. MayChangeAll cs (forest_of s)) (sym grown) (MayChangeAll-append tree (listed (tree_change s w)) (forest_of s) plan.may (may_one (tree_change s w) (changed_by_all tree (forest_of s)) (subst (λ f. IfSome (tree_change s w) (λ c. MayChange c f)) (sym plan.planted) steps.grows)));
       planted = ap (λ cs. changed_by_all cs (forest_of s)) grown ∙ changed_by_all-append tree (listed (tree_change s w)) (forest_of s) ∙ ap (changed_by_all (listed (tree_change s w))) plan.planted ∙ one (tree_change s w) (forest_of (during s done)) ∙ steps.planted ∙ ap (forest_in s.config.excluded) (sym whole);
     }
@@ -226,14 +232,14 @@ plan_next s done w counts counts' tree tree' plan may apart moves grown =
     one (Some c) f = refl
 
 -- the next of all the writes
-pub plan_step : (s : State) (ws : List Write) (i : ℕ) (w : Write) (counts counts' : LimitCounts) (tree tree' : List TreeChange) → IsPlan s (take i ws) counts tree → MayWriteAll s ws → i < length ws → w ≡ slice_index_or ws i w
+pub plan_step : (s : State) (ws : List Write) (i : ℕ) (w : Write) (counts counts' : LimitCounts) (tree tree' : List TreeChange) → IsPlan s (take i ws) counts tree → MayMakeAll s ws → i < length ws → w ≡ slice_index_or ws i w
     → Counts (object_at s.objects (id_of w)) (object_of w) counts counts' → tree' ≡ tree ++ listed (tree_change s w) → IsPlan s (take (i + 1) ws) counts' tree'
 plan_step s ws i w counts counts' tree tree' plan may less at moves grown =
     let here = may_at s ws i w less at may in
     subst (λ done. IsPlan s done counts' tree') (sym (take_more ws i w less ∙ ap (λ v. take i ws ++ v ∷ []) (sym at))) (plan_next s (take i ws) w counts counts' tree tree' plan here.0 here.1 moves grown)
 
 -- the sizes and the numbers of what it looks at
-pub plan_small : (s : State) (ws : List Write) (i : ℕ) (w : Write) (counts : LimitCounts) (nodes : Forest) → Agrees s.config s.objects s.last counts nodes → MayWriteAll s ws → i < length ws → w ≡ slice_index_or ws i w
+pub plan_small : (s : State) (ws : List Write) (i : ℕ) (w : Write) (counts : LimitCounts) (nodes : Forest) → Agrees s.config s.objects s.last counts nodes → MayMakeAll s ws → i < length ws → w ≡ slice_index_or ws i w
     → IfSome (object_at s.objects (id_of w)) (λ x. size_of x ≤ greatest_size) × IfSome (object_of w) (λ x. size_of x ≤ greatest_size)
 plan_small s ws i w counts nodes agrees may less at = (old (object_at s.objects (id_of w)) refl, new w (may_at s ws i w less at may).0)
   where
@@ -241,10 +247,67 @@ plan_small s ws i w counts nodes agrees may less at = (old (object_at s.objects 
     old None e = tt
     old (Some x) e = small_legal x (stored_found s.config s.objects s.last counts nodes agrees (id_of w) x e).served.legal
 
-    new : (w : Write) → MayWrite s w → IfSome (object_of w) (λ x. size_of x ≤ greatest_size)
-    new (Put x) may = small_legal x may.served.legal
+    new : (w : Write) → MayMake s w → IfSome (object_of w) (λ x. size_of x ≤ greatest_size)
+    new (Put x) may = small_legal x may.0.legal
     new (Cut id) may = tt
 
-pub plan_part : (s : State) (ws : List Write) (i : ℕ) (w : Write) (counts : LimitCounts) (tree : List TreeChange) → IsPlan s (take i ws) counts tree → MayWriteAll s ws → i < length ws → w ≡ slice_index_or ws i w → IsPart (object_at s.objects (id_of w)) counts
+pub plan_part : (s : State) (ws : List Write) (i : ℕ) (w : Write) (counts : LimitCounts) (tree : List TreeChange) → IsPlan s (take i ws) counts tree → MayMakeAll s ws → i < length ws → w ≡ slice_index_or ws i w → IsPart (object_at s.objects (id_of w)) counts
 plan_part s ws i w counts tree plan may less at =
-    is_part (after_writes (take i ws) s.objects) counts (id_of w) (object_at s.objects (id_of w)) plan.in_order (all_served (s.last + 1) (after_writes (take i ws) s.objects) plan.stored) plan.numbers (found_own (take i ws) s.objects (id_of w) (may_at s ws i w less at may).1)
+    is_part (after_writes (take i ws) s.objects) counts (id_of w) (object_at s.objects (id_of w)) plan.in_order plan.served plan.numbers (found_own (take i ws) s.objects (id_of w) (may_at s ws i w less at may).1)
+
+-- ---- all of them
+
+may_be_made : (s : State) (w : Write) → MayWrite s w → MayMake s w
+may_be_made s (Put x) may = (may.served, may.place)
+may_be_made s (Cut id) may = may.there
+
+-- the writes of one commit may be planned together
+pub may_make_all : (s : State) (ws : List Write) → MayWriteAll s ws → MayMakeAll s ws
+may_make_all s ws may = record { each = all_map (MayWrite s) (MayMake s) ws (may_be_made s) may.each; distinct = may.distinct; apart = may.apart }
+
+-- one write by itself touches no other
+pub alone_distinct : (id : Id) → IsDistinct same_id (id ∷ [])
+unfolding IsDistinct
+alone_distinct id = (tt, tt)
+
+-- no identity is both of a namespace and of a HierarchyConfiguration
+unjoined : (kind : Kind) (b : Bool) → (is_namespace kind && is_hierarchy kind && b) ≡ false
+unjoined Namespace b = refl
+unjoined _ b = refl
+
+pub alone_apart : (id : Id) → AreApart (id ∷ [])
+alone_apart id = ((unjoined id.kind (bytes_eq id.name id.ns), tt), tt)
+
+module _ (s : State) (ws : List Write) (counts counts' : LimitCounts) (nodes : Forest) (tree : List TreeChange) (agrees : Agrees s.config s.objects s.last counts nodes) (plan : IsPlan s ws counts' tree) where
+  -- the tree after all of them
+  pub grown_tree : changed_by_all tree nodes ≡ forest_in s.config.excluded (after_writes ws s.objects)
+  grown_tree = ap (changed_by_all tree) agrees.planted ∙ plan.planted
+
+  -- the agreement after the writes of one commit
+  agrees_then : MayWriteAll s ws → ws ≢ [] → Agrees s.config (after_writes ws s.objects) (s.last + 1) counts' (changed_by_all tree nodes)
+  agrees_then may some =
+      let valid : IsValid (record { objects = after_writes ws s.objects; last = s.last + 1; config = s.config }) = next ws some (valid_after s ws (valid_agrees s.config s.objects s.last counts nodes agrees) may) in
+      record { in_order = valid.in_order; stored = valid.stored; housed = valid.housed; fits = valid.fits; numbers = plan.numbers; planted = grown_tree }
+    where
+      next : (ws : List Write) → ws ≢ [] → IsValid (state_after s ws) → IsValid (record { objects = after_writes ws s.objects; last = s.last + 1; config = s.config })
+      next [] some valid = absurd (some refl)
+      next (w ∷ ws) some valid = valid
+
+-- the indexes where they are staged, or nothing is
+pub indexed_staged : {A E : Type 0} (result : Result A E) (config : RunConfig) (store store' : StoreView) (counts next next' : LimitCounts) (forest forest' : ForestView) (tree : List TreeChange) (s : State) (ws : List Write)
+    → IsIndexed config store counts next forest → state_in config store.objects store.version ≡ s → MayWriteAll s ws → IsPlan s ws next' tree
+    → store'.objects ≡ store.objects → store'.version ≡ store.version → OnOk result (store'.staged ≡ ws) → OnErr result (store'.staged ≡ []) → forest'.nodes ≡ forest.nodes → forest'.staged ≡ tree
+    → IsIndexed config store' counts next' forest'
+indexed_staged result config store store' counts next next' forest forest' tree s ws indexed same may plan objects version ok err nodes staged =
+    let t = state_in config store.objects store.version in
+    let ready : ws ≢ [] → Agrees config (after_writes ws store.objects) (store.version + 1) next' (changed_by_all tree forest.nodes) =
+    agrees_then t ws counts next' forest.nodes tree indexed.now (subst (λ s. IsPlan s ws next' tree) (sym same) plan) (subst (λ s. MayWriteAll s ws) (sym same) may) in
+    record {
+      now = rw (objects, version, nodes) indexed.now;
+      then = rw (objects, version, nodes, staged) (by result ok err ready);
+    }
+  where
+    by : {A E : Type 0} (result : Result A E) → OnOk result (store'.staged ≡ ws) → OnErr result (store'.staged ≡ []) → (ws ≢ [] → Agrees config (after_writes ws store.objects) (store.version + 1) next' (changed_by_all tree forest.nodes))
+        → store'.staged ≢ [] → Agrees config (after_writes store'.staged store.objects) (store.version + 1) next' (changed_by_all tree forest.nodes)
+    by (Ok x) is err ready = rw is ready
+    by (Err error) ok none ready = λ some. absurd (some none)

@@ -1,8 +1,9 @@
 -- What writes change beside the objects.
 --     planting, moving, tree_change      the change of the tree by a write
+--     MayMake, MayMakeAll                what writes need of the objects that are there, whatever their versions
 --     IsPlan                             the numbers and the changes of the tree of some writes
-use Rattle.std.specs.Prelude.{◌≡◌, ◌+◌, true, not, ◌&&◌, List, Option, Some, None, option_map, if◌then◌else◌}
-use Rattle.std.specs.List.{AllByRecursion}
+use Rattle.std.specs.Prelude.{◌≡◌, true, not, ◌&&◌, List, map, Option, Some, None, option_map, IfSome, if◌then◌else◌}
+use Rattle.std.specs.List.{AllByRecursion, IsDistinct}
 use Rattle.std.specs.Str.{bytes_eq}
 use Rattle.hx_object.specs.declared.object.Id.{Id}
 use Rattle.hx_object.specs.declared.object.Object.{Object}
@@ -11,10 +12,12 @@ use Rattle.hx_forest.specs.declared.change.Change.{Change as TreeChange}
 use Rattle.hx_forest.specs.declared.change.Change.TheVariants.{Add, SetParent, SetTerminating, Remove}
 use Rattle.hx_model.specs.First.{so}
 use Rattle.hx_model.specs.Limits.{is_namespace, is_hierarchy}
-use Rattle.hx_model.specs.State.{State, ascends, object_at, home_in, after_writes}
+use Rattle.hx_model.specs.Serving.{IsServed}
+use Rattle.hx_model.specs.State.{State, ascends, object_at, same_id, home_in, after_writes}
 use Rattle.hx_model.specs.Tree.{hierarchy, is_terminating, parent_with, node_in, forest_in, forest_of}
-use Rattle.hx_model.specs.Valid.{IsStored}
+use Rattle.hx_model.specs.Writes.{KeepsItsPlace, AreApart, id_written}
 use Rattle.hx_model.specs.declared.key.Write.{Write}
+use Rattle.hx_model.specs.declared.key.Write.TheVariants.{Put, Cut}
 use Rattle.hx_store.specs.Changes.{id_of, object_of}
 use Rattle.hx_admit.specs.Counting.{counts_of}
 use Rattle.hx_admit.specs.declared.limits.LimitCounts.{LimitCounts}
@@ -38,10 +41,21 @@ change_by s id old new = if is_namespace id.kind then planting s old new else (i
 abbrev pub tree_change : State → Write → Option TreeChange
 tree_change s write = change_by s (id_of write) (object_at s.objects (id_of write)) (object_of write)
 
+-- an object that is put is served, and a namespace keeps its place; one that is cut is there
+abbrev pub MayMake : State → Write → Type 0
+MayMake s (Put x) = IsServed x × (is_namespace x.id.kind ≡ true → IfSome (object_at s.objects x.id) (λ old. KeepsItsPlace old x))
+MayMake s (Cut id) = (x : Object) × (object_at s.objects id ≡ Some x)
+
+-- writes that may be planned together: each may be made, and none touches what another looks at
+pub record MayMakeAll (s : State) (ws : List Write) : Type 0 where
+  pub each : AllByRecursion (MayMake s) ws
+  pub distinct : IsDistinct same_id (map id_written ws)
+  pub apart : AreApart (map id_written ws)
+
 -- the numbers and the tree of the objects after some writes
 pub record IsPlan (s : State) (writes : List Write) (counts : LimitCounts) (tree : List TreeChange) : Type 0 where
   pub in_order : ascends (after_writes writes s.objects) ≡ true
-  pub stored : AllByRecursion (IsStored (s.last + 1)) (after_writes writes s.objects)
+  pub served : AllByRecursion IsServed (after_writes writes s.objects)
   pub numbers : counts ≡ counts_of (after_writes writes s.objects)
   pub may : MayChangeAll tree (forest_of s)
   pub planted : changed_by_all tree (forest_of s) ≡ forest_in s.config.excluded (after_writes writes s.objects)

@@ -1,7 +1,7 @@
 -- What a state with its indexes is seen as, and what it keeps true.
 --     StateView        the state, and the writes that are staged
 --     state_in         the state of objects, a version and a run's settings
---     Agrees           objects in order, each of which is stored, with their numbers and their tree
+--     Agrees           objects in order, each of which is stored and has its namespace, with their numbers and their tree
 --     IsIndexed        the indexes agree with the objects, and what is staged with those after it
 use Rattle.std.specs.Prelude.{◌≡◌, ◌≢◌, ◌≤◌, ◌+◌, ℕ, true, List, [], refl}
 use Rattle.std.specs.Coded.{Coded, code_by, coded×, coded_list, coded_ℕ}
@@ -13,7 +13,7 @@ use Rattle.hx_model.specs.Forest.{Forest}
 use Rattle.hx_model.specs.Limits.{greatest_version}
 use Rattle.hx_model.specs.State.{State, Objects, ascends, after_writes}
 use Rattle.hx_model.specs.Tree.{forest_in}
-use Rattle.hx_model.specs.Valid.{IsStored}
+use Rattle.hx_model.specs.Valid.{IsStored, AreHoused}
 use Rattle.hx_model.specs.contracts.config.RunConfig as run_config
 use Rattle.hx_model.specs.contracts.key.Write as write
 use Rattle.hx_model.specs.declared.config.RunConfig.{RunConfig}
@@ -38,10 +38,11 @@ state_view_code = code_by (List Object × (ℕ × (RunConfig × List Write)))
 abbrev pub state_in : RunConfig → Objects → ℕ → State
 state_in config objects last = record { objects = objects; last = last; config = config }
 
--- Objects in order, each of which is stored, with their numbers and their tree. No limit of names, objects or bytes is kept: limits are refusals of requests
+-- Objects in order, each of which is stored and has its namespace, with their numbers and their tree. No limit of names, objects or bytes is kept: limits are refusals of requests
 pub record Agrees (config : RunConfig) (objects : Objects) (last : ℕ) (counts : LimitCounts) (nodes : Forest) : Type 0 where
   pub in_order : ascends objects ≡ true
   pub stored : AllByRecursion (IsStored last) objects
+  pub housed : AreHoused objects
   pub fits : last ≤ greatest_version
   pub numbers : counts ≡ counts_of objects
   pub planted : nodes ≡ forest_in config.excluded objects

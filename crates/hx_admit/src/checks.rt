@@ -1,12 +1,12 @@
 // The checks of a write.
-ghost use Rattle.std.specs.Prelude.{◌≡◌, ◌<◌, ◌∷◌, [], Some, None, option_copied, option_map, IfSome, OnOk};
-ghost use Rattle.hx_model.specs.Answers.{refusal_of, version_refusal, rule_refusal, lacks_namespace, case_at, other_version};
+ghost use Rattle.std.specs.Prelude.{◌≡◌, ◌<◌, ◌∷◌, [], true, Some, None, option_copied, option_map, IfSome, OnOk};
+ghost use Rattle.hx_model.specs.Answers.{refusal_of, version_refusal, rule_refusal, case_at, other_version};
 ghost use Rattle.hx_model.specs.Denials.{refusal_by};
 ghost use Rattle.hx_model.specs.First.{first};
 ghost use Rattle.hx_model.specs.Limits.{greatest_version};
 ghost use Rattle.hx_model.specs.Rules.{rules};
 ghost use Rattle.hx_model.specs.Serving.{IsServed};
-ghost use Rattle.hx_model.specs.State.{object_at};
+ghost use Rattle.hx_model.specs.State.{object_at, has_home};
 ghost use Rattle.hx_model.specs.Valid.{IsValid};
 ghost use Rattle.hx_model.specs.declared.ask.Ask.TheVariants as ask_of;
 ghost use Rattle.hx_admit.specs.Inside.{IsHomeOf, place_refusals, growth_refusals, objects_with};
@@ -25,6 +25,7 @@ impl IndexedState {
         requires served { IsServed object.now }
         ensures refusal { option_map (refusal_by object.now.id) (fault_in result) ≡ refusal_of self.now.state (ask_of.Create object.now skip) }
         ensures free { OnOk result (object_at self.now.state.objects object.now.id ≡ None) }
+        ensures home { OnOk result (has_home self.now.state.objects object.now.id ≡ true) }
         ensures fits { OnOk result (self.now.state.last < greatest_version) }
     {
         let id = &object.id;
@@ -81,21 +82,15 @@ impl IndexedState {
     fn check_place(&self, id: &Id) -> Result<(), Denial>
         ensures refusal { option_map (refusal_by id.now) (fault_in result) ≡ first (place_refusals self.now.state id.now) }
         ensures free { OnOk result (object_at self.now.state.objects id.now ≡ None) }
+        ensures home { OnOk result (has_home self.now.state.objects id.now ≡ true) }
     {
-        if self.lacks_namespace(id) {
+        if !self.has_home(id) {
             return Err(Denial::NoNamespace);
         }
         if self.store.get(id).is_some() {
             return Err(Denial::Exists);
         }
         Ok(())
-    }
-
-    /// Whether the namespace that an object lies in isn't there.
-    fn lacks_namespace(&self, id: &Id) -> bool
-        ensures { result ≡ lacks_namespace self.now.state id.now }
-    {
-        !id.kind.is_in_cluster() && self.forest.node(&id.ns).is_none()
     }
 
     /// Finds the first rule that a write or a removal breaks.

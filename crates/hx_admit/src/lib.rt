@@ -1,12 +1,13 @@
 //! What a request writes and is answered, or the first refusal that holds; and what writes change beside the objects.
 //!
-//! An [`IndexedState`] keeps the objects of a state, and beside them all that a request would else have to walk over: the tree of namespaces and the running numbers of what is limited. Its reviews are the machine's answers, which `hx_model` defines. Writes of any number are staged and then made as one.
+//! An [`IndexedState`] keeps the objects of a state, and beside them all that a request would else have to walk over: the tree of namespaces and the running numbers of what is limited. Its reviews are the machine's answers, which `hx_model` defines. Writes of any number are staged and then made as one. Objects that were stored before are loaded one by one, under their own versions.
 #![tactic(auto)]
 
 mod case;
 mod checks;
 mod indexed_state;
 mod limits;
+mod load;
 mod plan;
 mod review;
 mod reviewed;

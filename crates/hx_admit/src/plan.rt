@@ -6,8 +6,7 @@ ghost use Rattle.hx_store.specs.Changes.{id_of, object_of};
 ghost use Rattle.hx_object.specs.Sizes.{size_of, greatest_size};
 ghost use Rattle.hx_admit.specs.Counting.{Counts, IsPart};
 ghost use Rattle.hx_admit.specs.Inside.{IsHomeOf};
-ghost use Rattle.hx_admit.specs.Planning.{IsPlan, planting, moving, tree_change};
-ghost use Rattle.hx_model.specs.Writes.{MayWriteAll};
+ghost use Rattle.hx_admit.specs.Planning.{IsPlan, MayMakeAll, planting, moving, tree_change};
 
 use crate::indexed_state::IndexedState;
 use crate::limits::LimitCounts;
@@ -30,7 +29,7 @@ pub(crate) struct Plan {
 impl IndexedState {
     /// Finds what writes change. Each write is looked at by itself, since none touches what another looks at.
     pub(crate) fn plan(&self, writes: &[Change]) -> Result<Plan, NoMemory>
-        requires { MayWriteAll self.now.state writes.now }
+        requires { MayMakeAll self.now.state writes.now }
         ensures plan { IfOk result (λ plan. IsPlan self.now.state writes.now plan.counts plan.tree.items) }
     {
         let mut counts = self.counts;
@@ -166,7 +165,7 @@ fn moving(
 }
 
 /// The object that is found.
-fn object_in(found: Option<&Shared>) -> Option<&Object>
+pub(crate) fn object_in(found: Option<&Shared>) -> Option<&Object>
     ensures { option_copied result ≡ option_copied found.entry }
 {
     match found {

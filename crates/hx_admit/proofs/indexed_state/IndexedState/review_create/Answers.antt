@@ -12,5 +12,5 @@ returns-clause-passes c = passes_create c.args.self.now.state c.args.object c.ar
 
 pub returns-clause-may : goal.returns-clause-may
 returns-clause-may c =
-    let may = may_put c.args.self.now.state c.args.object c.requires (λ _. subst (λ (o : Option Object). IfSome o (λ old. KeepsItsPlace old c.args.object)) (sym c.in_default.ensures.free) tt) in
+    let may = may_put c.args.self.now.state c.args.object c.requires c.in_default.ensures.home (λ _. subst (λ (o : Option Object). IfSome o (λ old. KeepsItsPlace old c.args.object)) (sym c.in_default.ensures.free) tt) in
     may_one c.args.self.now.state (Put (with_version c.args.object (c.args.self.now.state.last + 1))) _ may c.in_default.ensures.fits c.in_ok-put.ensures.writing

@@ -1,0 +1,23 @@
+use Rattle.std.proofs.Common.{◌≡◌, true, sym, ap, subst, ◌∙◌}
+use Rattle.hx_forest.specs.Kept.{changed_by_all}
+use Rattle.hx_model.specs.State.{State, has_home, after_writes}
+use Rattle.hx_model.specs.Valid.{IsStored}
+use Rattle.hx_admit.specs.Planning.{MayMakeAll}
+use Rattle.hx_admit.specs.StateView.{StateView}
+use Rattle.hx_admit.proofs.Loading.{may_load, indexed_loaded}
+use Rattle.hx_admit.proofs.indexed_state.IndexedState.load.Goals as goal
+
+pub plan-requires : goal.plan-requires
+plan-requires c =
+    subst (λ (s : State). MayMakeAll s c.as_slice.result.now) (sym c.discard.ensures.state)
+    (may_load c.args.self.now.state c.args.object c.requires.stored c.as_slice.result.now (c.as_slice.ensures.value ∙ c.in_ok-writes.ensures) c.requires.new)
+
+pub invariant_of-self-2 : goal.invariant_of-self-2
+invariant_of-self-2 c =
+    let same = ap (λ (v : StateView). v.state) c.self.view_is in
+    let stored = subst (λ (s : State). IsStored s.last c.args.object) (sym c.discard.ensures.state) c.requires.stored in
+    let home = subst (λ (s : State). has_home s.objects c.args.object.id ≡ true) (sym c.discard.ensures.state) c.requires.home in
+    let staged = c.in_ok-stage-2.ensures.staged ∙ sym c.as_slice.ensures.value in
+    indexed_loaded c.self.inside.config c.self.inside.store c.apply.new.self c.self.inside.counts c.self.inside.next c.in_ok-plan.plan.counts c.self.inside.forest c.apply-2.new.self c.in_ok-plan.plan.tree.items c.discard.new.self.state c.args.object c.as_slice.result.now
+    c.self.invariant same stored home (c.as_slice.ensures.value ∙ c.in_ok-writes.ensures) c.in_ok-plan.ensures.plan (c.apply.ensures.objects ∙ (λ i. after_writes (staged i) (c.stage-2.ensures.objects i))) (c.apply.ensures.version ∙ c.version-version.ensures ∙ c.stage-2.ensures.version) c.apply.ensures.staged
+    (c.apply-2.ensures.nodes ∙ (λ i. changed_by_all (c.in_ok-stage.ensures.staged i) (c.stage.ensures.nodes i)))
