@@ -1,7 +1,10 @@
 pub mod Batching
 pub mod Storing
+pub mod Behind
+pub mod Loading
+pub mod Starting
+pub mod Reopening
 pub mod Making
 pub mod Committing
-pub mod Starting
 pub mod Refusing
 pub mod Asking

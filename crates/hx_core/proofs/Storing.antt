@@ -47,7 +47,7 @@ puts_legal s (Cut id ∷ ws) may = (tt, puts_legal s ws may.1)
 abbrev pub IsKeyedWrite : Write → Type 0
 IsKeyedWrite w = HasNoSlash (id_written w).ns
 
-stored_keyed : (last : ℕ) (objects : Objects) → AllByRecursion (IsStored last) objects → AllByRecursion IsKeyed objects
+pub stored_keyed : (last : ℕ) (objects : Objects) → AllByRecursion (IsStored last) objects → AllByRecursion IsKeyed objects
 stored_keyed last [] all = tt
 stored_keyed last (x ∷ objects) all = (keyed_legal x all.0.served.legal, stored_keyed last objects all.1)
 
@@ -59,7 +59,7 @@ cut_keyed s id x valid e =
 writes_keyed : (s : State) (ws : List Write) → IsValid s → AllByRecursion (MayWrite s) ws → AllByRecursion IsKeyedWrite ws
 writes_keyed s [] valid may = tt
 writes_keyed s (Put x ∷ ws) valid may = (keyed_legal x may.0.served.legal, writes_keyed s ws valid may.1)
-writes_keyed s (Cut id ∷ ws) valid may = (cut_keyed s id may.0.0 valid may.0.1, writes_keyed s ws valid may.1)
+writes_keyed s (Cut id ∷ ws) valid may = (cut_keyed s id may.0.there.0 valid may.0.there.1, writes_keyed s ws valid may.1)
 
 -- ---- keys
 
@@ -120,7 +120,7 @@ is_batch s ws batch valid ready =
 cuts_there : (s : State) (ws : List Write) → AllByRecursion (MayWrite s) ws → AllByRecursion (λ key. finite.contains_key (rows_of_objects s.objects) key ≡ true) (keys_cut ws)
 cuts_there s [] may = tt
 cuts_there s (Put x ∷ ws) may = cuts_there s ws may.1
-cuts_there s (Cut id ∷ ws) may = (stored_contains id may.0.0 s.objects may.0.1, cuts_there s ws may.1)
+cuts_there s (Cut id ∷ ws) may = (stored_contains id may.0.there.0 s.objects may.0.there.1, cuts_there s ws may.1)
 
 -- the batch may be put to a keeper of the state
 pub may_follow : (s : State) (ws : List Write) (batch : Batch) (kept : Option Kept) → IsPrepared s ws batch → IfSome kept (λ held. held ≡ kept_of s) → IfSome kept (MayFollow batch)

@@ -1,26 +1,86 @@
--- On which keepers a cluster starts, and what an unsuccessful start leaves.
---     IsDamaged, IsUndamaged     what is held can't be that of a cluster;  or can
+-- On which keepers a cluster starts, in which state, and what an unsuccessful start leaves.
+--     is_misfit                  a schema, or a last version, that no cluster has
+--     IsSoundRow held e          the row is one that a state with these rows may have
+--     IsUndamaged held           each row is
+--     AreTexts held              the bodies of all rows are UTF-8, as a keeper is given them
+--     rows_behind k held         the rows behind a key, as a keeper gives them one behind the other
+--     IsDamagedAt held row       the first damaged row, counted from 1, or 0 for what the keeper says of itself
 --     IfDamaged                  a fact for a damaged row
 --     IsUntouched                a keeper was asked, and holds what it held
-use Rattle.std.specs.Prelude.{◌≡◌, ◌≤◌, ℕ, Bool, true, false, not, ◌||◌, ◌==◌, nat_lt}
-use Rattle.hx_ports.specs.Keeping.{Kept, meta_of, greatest_version}
+-- A row that only a later version of the program can read is damaged, too.
+use Rattle.std.specs.Prelude.{◌≡◌, ◌≤◌, ◌<◌, ℕ, zero, suc, Bool, true, false, not, ◌||◌, ◌==◌, nat_lt, List, [], ◌∷◌, take, drop, filter, IsUtf8}
+use Rattle.std.specs.List.{AllByRecursion}
+use Rattle.std.specs.Ordering.{is_lt}
+use Rattle.std.specs.FinMap as map
+use Rattle.hx_object.specs.Kinds.{is_in_cluster}
+use Rattle.hx_object.specs.Texts.{bytes_cmp}
+use Rattle.hx_object.specs.declared.object.Id.{Id}
+use Rattle.hx_object.specs.declared.object.Object.{Object}
+use Rattle.hx_ports.specs.Keeping.{Kept, Rows, meta_of, greatest_version}
+use Rattle.hx_ports.specs.Rows.{Entry}
 use Rattle.hx_ports.specs.Views.{KeeperView, HoldsOn}
 use Rattle.hx_ports.specs.declared.keeper.Meta.{Meta}
-use Rattle.hx_core.specs.declared.cluster.StartFault.{StartFault}
-use Rattle.hx_core.specs.declared.cluster.StartFault.TheVariants.{KeeperFault, Damaged, NoMemory}
+use Rattle.hx_model.specs.State.{namespace_id}
+use Rattle.hx_model.specs.Texts.{key_text, stored_entry}
+use Rattle.hx_model.specs.Valid.{IsStored}
+use Rattle.hx_core.specs.declared.start.StartFault.{StartFault}
+use Rattle.hx_core.specs.declared.start.StartFault.TheVariants.{KeeperFault, Damaged, NoMemory}
 use Rattle.hx_core.specs.Rows.{current_schema}
 
--- Nothing is loaded yet, so that a keeper is damaged where it is of another schema, has a version past the greatest, or has rows
-abbrev pub is_damaged : Meta → Bool
-is_damaged meta = not (meta.schema == current_schema) || (nat_lt greatest_version meta.version || not (meta.rows == 0))
+-- ---- what is kept
 
--- what is held is damaged
-abbrev pub IsDamaged : Kept → Type 0
-IsDamaged held = is_damaged (meta_of held) ≡ true
+-- the schema isn't that of the rows, or the last version is past the greatest
+abbrev pub is_misfit : Meta → Bool
+is_misfit meta = not (meta.schema == current_schema) || nat_lt greatest_version meta.version
 
--- it isn't
-abbrev pub IsUndamaged : Kept → Type 0
-IsUndamaged held = is_damaged (meta_of held) ≡ false
+-- the namespace that an identity lies in has a row, where its kind has one
+abbrev pub has_home_row : Rows → Id → Bool
+has_home_row rows id = is_in_cluster id.kind || map.contains_key rows (key_text (namespace_id id.ns))
+
+-- The row of an object that may be stored: its text is UTF-8, its version was given out, and its namespace has a row
+pub record IsSoundRow (held : Kept) (e : Entry) : Type 0 where
+  pub object : Object
+  pub stored : IsStored held.version object
+  pub text : IsUtf8 e.1.1
+  pub row : stored_entry object ≡ e
+  pub home : has_home_row held.rows object.id ≡ true
+
+-- each row is such a row
+pub record IsUndamaged (held : Kept) : Type 0 where
+  pub fits : is_misfit (meta_of held) ≡ false
+  pub sound : AllByRecursion (IsSoundRow held) (map.entries held.rows)
+
+-- the bodies of all rows are UTF-8
+abbrev pub AreTexts : Kept → Type 0
+AreTexts held = AllByRecursion (λ (e : Entry). IsUtf8 e.1.1) (map.entries held.rows)
+
+-- ---- damage
+
+-- the rows behind a key
+abbrev pub rows_behind : List ℕ → Kept → List Entry
+rows_behind key held = filter (λ e. is_lt (bytes_cmp key e.0)) (map.entries held.rows)
+
+-- The rows as they are given one behind the other, from the empty key on: one that has the empty key itself is never given, so that the last one is missing
+abbrev pub given_rows : Kept → List Entry
+given_rows held = rows_behind [] held
+
+-- the next row is missing, or no sound one
+abbrev pub IsUnsoundNext : Kept → List Entry → Type 0
+IsUnsoundNext held [] = Unit {0}
+IsUnsoundNext held (e ∷ rest) = IsSoundRow held e → ⊥
+
+-- so many rows are sound, of more, and the next one is missing or isn't
+pub record IsFirstUnsound (held : Kept) (before : ℕ) : Type 0 where
+  pub within : before < map.len held.rows
+  pub sound : AllByRecursion (IsSoundRow held) (take before (given_rows held))
+  pub next : IsUnsoundNext held (drop before (given_rows held))
+
+-- the first damaged row
+abbrev pub IsDamagedAt : Kept → ℕ → Type 0
+IsDamagedAt held zero = is_misfit (meta_of held) ≡ true
+IsDamagedAt held (suc before) = (is_misfit (meta_of held) ≡ false) × IsFirstUnsound held before
+
+-- ---- starts
 
 -- a fact for a damaged row
 abbrev pub IfDamaged : StartFault → (ℕ → Type 0) → Type 0

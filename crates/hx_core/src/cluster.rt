@@ -1,21 +1,22 @@
 // The cluster.
-ghost use Rattle.std.specs.Prelude.{◌≡◌, ◌≢◌, [], ◌∷◌, IfOk, IfErr, IfSome, IsSome, OnOk, IsErrOf};
+ghost use Rattle.std.specs.Prelude.{◌≡◌, ◌≢◌, [], ◌∷◌, Some, IfOk, IfErr, IfSome, IsSome, OnOk, IsErrOf};
 ghost use Rattle.hx_ports.specs.Causes.{Rose};
 ghost use Rattle.hx_model.specs.Answers.{Mutates};
 ghost use Rattle.hx_model.specs.Machine.{opening_world};
 ghost use Rattle.hx_model.specs.Requests.{request_entry};
 ghost use Rattle.hx_model.specs.Serving.{IsServedAsk, IsLegalAnswer};
-ghost use Rattle.hx_model.specs.State.{opening_state};
+ghost use Rattle.hx_model.specs.State.{State};
+ghost use Rattle.hx_model.specs.Valid.{IsValid};
 ghost use Rattle.hx_model.specs.Writes.{MayWriteAll};
 ghost use Rattle.hx_core.specs.Committing.{HasLanded, HasFailed};
-ghost use Rattle.hx_core.specs.Refinement.{Represents, HasWorld, Simulates};
-ghost use Rattle.hx_core.specs.Starting.{IsDamaged, IfDamaged, IsUndamaged, IsUntouched};
+ghost use Rattle.hx_core.specs.Refinement.{Represents, HasWorld, Simulates, kept_of};
+ghost use Rattle.hx_core.specs.Starting.{AreTexts, IsDamagedAt, IfDamaged, IsUndamaged, IsUntouched};
 
 use crate::commit::{CommitFault, commit, prepare};
-use crate::rows::SCHEMA;
-use hx_admit::{GREATEST_VERSION, IndexedState, Reviewed};
+use crate::start::{StartFault, load_state};
+use hx_admit::{IndexedState, Reviewed};
 use hx_model::{Answer, Ask, Refusal, RunConfig};
-use hx_ports::{KeepFault, Keeper};
+use hx_ports::Keeper;
 use hx_store::Change;
 use std::alloc::Global;
 use std::hash::RandomState;
@@ -42,16 +43,6 @@ impl<K: Keeper> Model for Cluster<K> {
     ghost invariant = { λ c. IsSound c.state.state (K.shown c.keeper) c.state.staged };
 }
 
-/// Why a cluster didn't start.
-#[derive(Clone, Copy, Debug, PartialEq, Eq)]
-pub enum StartFault {
-    /// The keeper failed, and its count rose.
-    KeeperFault,
-    /// A stored row is damaged: the first such row, counted from 1, or 0 for the keeper's own schema, version and number of rows.
-    Damaged { row: u64 },
-    NoMemory,
-}
-
 /// A keeper that no cluster was started on.
 pub struct Unstarted<K> {
     pub fault: StartFault,
@@ -59,7 +50,9 @@ pub struct Unstarted<K> {
 }
 
 impl<K: Keeper> Cluster<K> {
-    /// Starts on a keeper that has its place and no rows, under a configuration that is fixed for the run. What is looked up by texts is hashed with the keys, on which nothing else depends.
+    /// Starts on a keeper that has its place, in the state whose rows the keeper has, under a configuration that is fixed for the run. What is looked up by texts is hashed with the keys, on which nothing else depends.
+    ///
+    /// All rows are read, one behind the other.
     pub fn start(
         alloc: Global,
         mut keeper: K,
@@ -67,35 +60,25 @@ impl<K: Keeper> Cluster<K> {
         keys: RandomState,
     ) -> Result<Cluster<K>, Unstarted<K>>
         requires { IsSome (K.shown keeper).place }
-        ensures opens { IfOk result (λ c. Represents c (opening_world c.keeper.broken (opening_state config c.state.last))) }
-        ensures version { IfOk result (λ c. IfSome c.keeper.kept (λ held. c.state.last ≡ held.version)) }
+        ensures opens { IfOk result (λ c. Represents c (opening_world c.keeper.broken c.state)) }
+        ensures config { IfOk result (λ c. c.state.config ≡ config) }
+        ensures valid { IfOk result (λ c. IsValid c.state) }
+        ensures holds { IfOk result (λ c. IfSome c.keeper.kept (λ held. held ≡ kept_of c.state)) }
         ensures keeper { IfOk result (λ c. c.keeper ≡ K.shown keeper) }
         ensures undamaged { IfOk result (λ c. IfSome c.keeper.kept IsUndamaged) }
+
+        // The rows of a valid state are those of no other, and they are never damaged.
+        ensures reopens { IfOk result (λ c. (s : State) → IsValid s → (K.shown keeper).kept ≡ Some (kept_of s) → c.state ≡ record s { config = config }) }
+        ensures intact { IfErr result (λ u. IfDamaged u.fault (λ row. (s : State) → IsValid s → (K.shown keeper).kept ≡ Some (kept_of s) → AreTexts (kept_of s) → ⊥)) }
 
         ensures unstarted { IfErr result (λ u. IsUntouched (K.shown keeper) (K.shown u.keeper)) }
         ensures failed { IfErr result (λ u. u.fault ≡ StartFault.KeeperFault → Rose (K.shown keeper).faults (K.shown u.keeper).faults) }
         ensures still { IfErr result (λ u. u.fault ≢ StartFault.KeeperFault → K.shown u.keeper ≡ K.shown keeper) }
-        ensures damaged { IfErr result (λ u. IfDamaged u.fault (λ row. (row ≡ 0) × IfSome (K.shown keeper).kept IsDamaged)) }
+        ensures damaged { IfErr result (λ u. IfDamaged u.fault (λ row. IfSome (K.shown keeper).kept (λ held. IsDamagedAt held row))) }
     {
-        match keeper.meta() {
-            Ok(meta) => {
-                if meta.schema != SCHEMA || meta.version > GREATEST_VERSION || meta.rows != 0 {
-                    return Err(Unstarted {
-                        fault: StartFault::Damaged { row: 0 },
-                        keeper,
-                    });
-                }
-                let state = IndexedState::new(alloc, meta.version, config, keys);
-                Ok(Cluster { keeper, state })
-            }
-            Err(KeepFault::Fault) => Err(Unstarted {
-                fault: StartFault::KeeperFault,
-                keeper,
-            }),
-            Err(KeepFault::NoMemory) => Err(Unstarted {
-                fault: StartFault::NoMemory,
-                keeper,
-            }),
+        match load_state(alloc, &mut keeper, config, keys) {
+            Ok(state) => Ok(Cluster { keeper, state }),
+            Err(fault) => Err(Unstarted { fault, keeper }),
         }
     }
 

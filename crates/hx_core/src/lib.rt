@@ -7,6 +7,8 @@
 mod cluster;
 mod commit;
 mod rows;
+mod start;
 
-pub use cluster::{Cluster, StartFault, Unstarted};
+pub use cluster::{Cluster, Unstarted};
 pub use rows::SCHEMA;
+pub use start::StartFault;
