@@ -1,0 +1,131 @@
+// Why a database refuses a call.
+ghost use Rattle.std.specs.Prelude.{◌≡◌};
+ghost use Rattle.hx_sqlite.specs.Refusals.{fault_of, refusal_of, TellsOfOpening};
+ghost use Rattle.hx_sqlite.specs.declared.fault.Refusal.TheVariants as given;
+
+use sqlite::{Error, ErrorCode};
+use sqlite_std_file::OpenError;
+use std::alloc::AllocError;
+use std::fmt;
+use std::io::ErrorKind;
+
+/// Why a keeper's call on its database failed.
+#[derive(Clone, Copy, Debug, PartialEq, Eq)]
+pub enum SqlFault {
+    /// The file is no SQLite database, or its rows don't obey its schema.
+    NotADatabase,
+    /// Another process, or another keeper of this one, has the file open.
+    Busy,
+    /// The file can't be opened, or can't be made.
+    CannotOpen,
+    /// SQLite was stopped in a transaction and left a rollback journal beside the file.
+    HotJournal,
+    /// The disk is full.
+    Full,
+    /// A read, a write or a sync failed.
+    Io,
+    /// What was read isn't what was written.
+    Corrupt,
+    /// An earlier failure of the disk closed the database.
+    Closed,
+    /// The keeper has no place yet.
+    Unattached,
+    /// The tables in the database aren't those of a keeper.
+    OtherTables,
+    /// A stored value isn't of its column's type, or is no UTF-8.
+    Unreadable,
+    /// A row that a commit cuts isn't there, or the row of `meta`.
+    RowMissing,
+    /// A statement was refused for another reason.
+    Refused(Error),
+}
+
+impl SqlFault {
+    fn of(code: ErrorCode) -> SqlFault
+        ensures { result ≡ fault_of code }
+    {
+        match code {
+            ErrorCode::NotADatabase => SqlFault::NotADatabase,
+            ErrorCode::DatabaseBusy => SqlFault::Busy,
+            ErrorCode::CannotOpen => SqlFault::CannotOpen,
+            ErrorCode::DiskFull => SqlFault::Full,
+            ErrorCode::SystemIoFailure => SqlFault::Io,
+            ErrorCode::DatabaseCorrupt => SqlFault::Corrupt,
+            ErrorCode::Closed => SqlFault::Closed,
+            other => SqlFault::Refused(Error::SqliteFailure(other)),
+        }
+    }
+}
+
+impl fmt::Display for SqlFault {
+    fn fmt<W: fmt::Write>(&self, f: &mut fmt::Formatter<W>) -> fmt::Result {
+        f.write_str(match self {
+            SqlFault::NotADatabase =>
+                "the file is not an SQLite database whose rows obey its schema",
+            SqlFault::Busy => "the database is open in another process",
+            SqlFault::CannotOpen => "the file can't be opened or made",
+            SqlFault::HotJournal =>
+                "SQLite left a rollback journal beside the file: open it with sqlite3 first",
+            SqlFault::Full => "the disk is full",
+            SqlFault::Io => "a read, a write or a sync of the file failed",
+            SqlFault::Corrupt => "the database is malformed",
+            SqlFault::Closed => "an earlier failure of the disk closed the database",
+            SqlFault::Unattached => "no database is attached",
+            SqlFault::OtherTables => "the tables of the database are not those of hnc",
+            SqlFault::Unreadable => "a stored value is not of its column's type, or not UTF-8",
+            SqlFault::RowMissing => "a row that is to be cut, or the row of meta, is not there",
+            SqlFault::Refused(error) => return write!(
+                f,
+                "the database refused a statement: {error}"
+            ),
+        })
+    }
+}
+
+impl std::error::Error for SqlFault {}
+
+/// Why a call on a database failed: for want of memory, which leaves it as it was, or by a fault.
+#[derive(Clone, Copy, Debug, PartialEq, Eq)]
+pub enum Refusal {
+    NoMemory,
+    Fault(SqlFault),
+}
+
+impl From<AllocError> for Refusal {
+    ghost from_gives = { λ _ refusal. refusal ≡ given.NoMemory };
+
+    fn from(_: AllocError) -> Refusal {
+        Refusal::NoMemory
+    }
+}
+
+/// The texts of the statements are fixed, so that one that isn't understood tells of other tables.
+impl From<Error> for Refusal {
+    ghost from_gives = { λ error refusal. refusal ≡ refusal_of error };
+
+    fn from(error: Error) -> Refusal {
+        match error {
+            Error::SqliteFailure(ErrorCode::OutOfMemory) => Refusal::NoMemory,
+            Error::SqliteFailure(code) => Refusal::Fault(SqlFault::of(code)),
+            Error::SqlInputError(_) => Refusal::Fault(SqlFault::OtherTables),
+            other => Refusal::Fault(SqlFault::Refused(other)),
+        }
+    }
+}
+
+impl From<OpenError> for Refusal {
+    ghost from_gives = { TellsOfOpening };
+
+    fn from(error: OpenError) -> Refusal {
+        match error {
+            OpenError::OutOfMemory => Refusal::NoMemory,
+            OpenError::Io(error) if error.kind() == ErrorKind::OutOfMemory => Refusal::NoMemory,
+            OpenError::Io(error) if error.kind() == ErrorKind::StorageFull => Refusal::Fault(
+                SqlFault::Full,
+            ),
+            OpenError::Io(_) => Refusal::Fault(SqlFault::CannotOpen),
+            OpenError::Busy => Refusal::Fault(SqlFault::Busy),
+            OpenError::HotJournal => Refusal::Fault(SqlFault::HotJournal),
+        }
+    }
+}

@@ -1,0 +1,153 @@
+// A keeper of rows in an SQLite database.
+ghost use Rattle.std.specs.Prelude.{◌≡◌, ◌≤◌, true, false, None, Some, OnOk, OnErr, IfOk, IfSome, IsErrOf, IsSome, IsUtf8};
+ghost use Rattle.hx_ports.specs.Causes.{KeeperCause, Rose};
+ghost use Rattle.hx_ports.specs.Views.{HoldsOn};
+
+use crate::fault::{Refusal, SqlFault};
+use crate::place::{self, Place};
+use hx_ports::{Batch, KeepFault, Keeper, Meta, Row};
+
+/// Keeps rows in an SQLite database, and tells nothing of what it holds. `attach` opens the file at a path, which it makes where there is none, or a database in memory for the empty path.
+///
+/// A call before `attach` is a fault, and so is a value that isn't of its column's type. A number below 0 is told as one over 2^63 - 1, and a database without the row of `meta` has schema 0 and version 0.
+///
+/// A commit that finds no memory was rolled back. One that fails otherwise breaks the keeper: the rows stay as they were while it lasts, and the next `attach` finds them so, or with the whole batch.
+#[derive(Drop)]
+pub struct SqlKeeper {
+    rt: HostRuntime,
+    place: Option<Place>,
+    broken: bool,
+    faults: u64,
+    last_fault: Option<SqlFault>,
+}
+
+impl SqlKeeper {
+    ghost use Rattle.hx_sqlite.specs.Shown.{why_failed};
+
+    /// A keeper with no place yet. It takes no memory, and the runtime's files are first used by `attach`.
+    pub fn new(rt: &HostRuntime) -> Self
+        ensures shown { ⟦<SqlKeeper as Keeper>⟧.shown result ≡ record { place = None; kept = None; broken = false; faults = 0 } }
+        ensures fault { why_failed result ≡ None }
+    {
+        SqlKeeper {
+            rt: *rt,
+            place: None,
+            broken: false,
+            faults: 0,
+            last_fault: None,
+        }
+    }
+
+    pub fn is_broken(&self) -> bool
+        ensures { result ≡ (⟦<SqlKeeper as Keeper>⟧.shown self.now).broken }
+    {
+        self.broken
+    }
+
+    pub fn faults(&self) -> u64
+        ensures { result ≡ (⟦<SqlKeeper as Keeper>⟧.shown self.now).faults }
+    {
+        self.faults
+    }
+
+    /// Why the last call failed that did. A commit that is refused since the keeper is broken leaves what was last said.
+    pub fn last_fault(&self) -> Option<SqlFault>
+        ensures { result ≡ why_failed self.now }
+    {
+        self.last_fault
+    }
+
+    /// Counts a fault, and keeps why it came. Want of memory isn't counted.
+    fn answer<T: Drop>(&mut self, outcome: Result<T, Refusal>) -> Result<T, KeepFault>
+        ensures ok { IfOk result (λ value. outcome ≡ Ok value) }
+        ensures fault { (fault : SqlFault) → outcome ≡ Err (Refusal.Fault fault) → IsErrOf result KeepFault.Fault × (self.new.last_fault ≡ Some fault) }
+        ensures told { IsErrOf result KeepFault.Fault → IsSome self.new.last_fault }
+        ensures same { ¬ IsErrOf result KeepFault.Fault → self.new ≡ self.old }
+        ensures rest { self.new ≡ record self.old { faults = self.new.faults; last_fault = self.new.last_fault } }
+        ensures cause { KeeperCause self.old.faults self.new.faults result }
+    {
+        match outcome {
+            Ok(value) => Ok(value),
+            Err(Refusal::NoMemory) => Err(KeepFault::NoMemory),
+            Err(Refusal::Fault(fault)) => {
+                self.last_fault = Some(fault);
+                Err(self.count_fault())
+            }
+        }
+    }
+
+    fn count_fault(&mut self) -> KeepFault
+        ensures result { result ≡ KeepFault.Fault }
+        ensures rest { self.new ≡ record self.old { faults = self.new.faults } }
+        ensures rose { Rose self.old.faults self.new.faults }
+        ensures later { self.old.faults ≤ self.new.faults }
+    {
+        self.faults = self.faults.saturating_add(1);
+        KeepFault::Fault
+    }
+}
+
+impl Keeper for SqlKeeper {
+    ghost use Rattle.hx_sqlite.specs.Paths.{path_in};
+    ghost use Rattle.hx_sqlite.specs.Shown.{place_of, why_failed};
+
+    ghost shown = { λ k. record { place = path_in (place_of k); kept = None; broken = k.broken; faults = k.faults } };
+
+    fn attach(&mut self, path: &str) -> Result<(), KeepFault>
+        ensures place { OnOk result ((⟦<SqlKeeper as Keeper>⟧.shown self.new).place ≡ Some path.now) }
+        ensures nowhere { OnErr result (place_of self.new ≡ place_of self.old) }
+        ensures same { (⟦<SqlKeeper as Keeper>⟧.shown self.new).kept ≡ (⟦<SqlKeeper as Keeper>⟧.shown self.old).kept }
+        ensures whole { (⟦<SqlKeeper as Keeper>⟧.shown self.new).broken ≡ (⟦<SqlKeeper as Keeper>⟧.shown self.old).broken }
+        ensures fault { IsErrOf result KeepFault.Fault → IsSome (why_failed self.new) }
+        ensures calm { ¬ IsErrOf result KeepFault.Fault → why_failed self.new ≡ why_failed self.old }
+        ensures cause { KeeperCause (⟦<SqlKeeper as Keeper>⟧.shown self.old).faults (⟦<SqlKeeper as Keeper>⟧.shown self.new).faults result }
+    {
+        let opened = place::open(&self.rt, path);
+        let place = self.answer(opened)?;
+        self.place = Some(place);
+        Ok(())
+    }
+
+    fn meta(&mut self) -> Result<Meta, KeepFault>
+        ensures same { HoldsOn (⟦<SqlKeeper as Keeper>⟧.shown self.old) (⟦<SqlKeeper as Keeper>⟧.shown self.new) }
+        ensures nowhere { (⟦<SqlKeeper as Keeper>⟧.shown self.old).place ≡ None → IsErrOf result KeepFault.Fault × (why_failed self.new ≡ Some SqlFault.Unattached) }
+        ensures fault { IsErrOf result KeepFault.Fault → IsSome (why_failed self.new) }
+        ensures calm { ¬ IsErrOf result KeepFault.Fault → why_failed self.new ≡ why_failed self.old }
+        ensures cause { KeeperCause (⟦<SqlKeeper as Keeper>⟧.shown self.old).faults (⟦<SqlKeeper as Keeper>⟧.shown self.new).faults result }
+    {
+        let told = place::meta_at(&mut self.place);
+        self.answer(told)
+    }
+
+    fn load(&mut self, after: &[u8]) -> Result<Option<Row>, KeepFault>
+        ensures texts { IfOk result (λ row. IfSome row (λ r. IsUtf8 r.key × IsUtf8 r.body)) }
+        ensures same { HoldsOn (⟦<SqlKeeper as Keeper>⟧.shown self.old) (⟦<SqlKeeper as Keeper>⟧.shown self.new) }
+        ensures nowhere { (⟦<SqlKeeper as Keeper>⟧.shown self.old).place ≡ None → IsErrOf result KeepFault.Fault × (why_failed self.new ≡ Some SqlFault.Unattached) }
+        ensures fault { IsErrOf result KeepFault.Fault → IsSome (why_failed self.new) }
+        ensures calm { ¬ IsErrOf result KeepFault.Fault → why_failed self.new ≡ why_failed self.old }
+        ensures cause { KeeperCause (⟦<SqlKeeper as Keeper>⟧.shown self.old).faults (⟦<SqlKeeper as Keeper>⟧.shown self.new).faults result }
+    {
+        let alloc = self.rt.alloc();
+        let loaded = place::load_at(&mut self.place, alloc, after);
+        self.answer(loaded)
+    }
+
+    fn commit(&mut self, batch: Batch) -> Result<(), KeepFault>
+        ensures ok { ¬ IsErrOf result KeepFault.Fault → ((⟦<SqlKeeper as Keeper>⟧.shown self.old).broken ≡ false) × ((⟦<SqlKeeper as Keeper>⟧.shown self.new).broken ≡ false) }
+        ensures breaks { IsErrOf result KeepFault.Fault → (⟦<SqlKeeper as Keeper>⟧.shown self.new).broken ≡ true }
+        ensures place { (⟦<SqlKeeper as Keeper>⟧.shown self.new).place ≡ (⟦<SqlKeeper as Keeper>⟧.shown self.old).place }
+        ensures unasked { (⟦<SqlKeeper as Keeper>⟧.shown self.old).broken ≡ true → (place_of self.new ≡ place_of self.old) × (why_failed self.new ≡ why_failed self.old) }
+        ensures nowhere { (⟦<SqlKeeper as Keeper>⟧.shown self.old).place ≡ None → IsErrOf result KeepFault.Fault }
+        ensures fault { IsErrOf result KeepFault.Fault → (⟦<SqlKeeper as Keeper>⟧.shown self.old).broken ≡ false → IsSome (why_failed self.new) }
+        ensures calm { ¬ IsErrOf result KeepFault.Fault → why_failed self.new ≡ why_failed self.old }
+        ensures cause { KeeperCause (⟦<SqlKeeper as Keeper>⟧.shown self.old).faults (⟦<SqlKeeper as Keeper>⟧.shown self.new).faults result }
+    {
+        if self.broken {
+            return Err(self.count_fault());
+        }
+        let landed = place::commit_at(&mut self.place, &batch);
+        let answer = self.answer(landed);
+        self.broken = answer == Err(KeepFault::Fault);
+        answer
+    }
+}

@@ -1,0 +1,134 @@
+// Where the rows are: in a file, or in memory.
+ghost use Rattle.std.specs.Prelude.{◌≡◌, false, None, Err, IfOk, IfSome, IsUtf8, string_bytes};
+ghost use Rattle.hx_sqlite.specs.Paths.{path_in};
+
+use crate::database::Database;
+use crate::fault::{Refusal, SqlFault};
+use hx_ports::{Batch, Meta, Row};
+use sqlite::{Connection, File, FileStore, MemStore, Options, Unknown};
+use std::alloc::Global;
+use std::hash::{BuildHasher, RandomState};
+
+/// How many pages of 4 KiB are kept in memory, of those that were read and of those that a transaction wrote.
+const PAGES: usize = 8_000;
+
+/// How many pages the log takes before it is copied into the database file.
+const LOG_PAGES: usize = 10_000;
+
+/// A path, and the database at it.
+#[derive(Drop)]
+pub struct Place {
+    pub path: String,
+    pub rows: Rows,
+}
+
+#[derive(Drop)]
+pub enum Rows {
+    Memory(Database<MemStore>),
+    File(Database<FileStore<File>>),
+}
+
+/// Opens the file at the path, or makes it. The empty path opens a database in memory.
+pub fn open(rt: &HostRuntime, path: &str) -> Result<Place, Refusal>
+    ensures { IfOk result (λ place. string_bytes place.path ≡ path.now) }
+{
+    let copy = String::from_str(rt.alloc(), path)?;
+    let rows = open_rows(rt, path)?;
+    Ok(Place { path: copy, rows })
+}
+
+fn open_rows(rt: &HostRuntime, path: &str) -> Result<Rows, Refusal> {
+    if path.is_empty() {
+        let connection = Connection::open_in_memory(rt.alloc())?;
+        return Ok(Rows::Memory(Database::over(connection)?));
+    }
+    let connection = open_file(rt, path)?;
+    Ok(Rows::File(Database::over(connection)?))
+}
+
+/// A torn write is supposed to leave each byte old or new, so that a commit syncs once.
+fn open_file(rt: &HostRuntime, path: &str) -> Result<Connection<FileStore<File>>, Refusal>
+    ensures { IfOk result (λ connection. connection.in_transaction ≡ false) }
+{
+    let files = sqlite_std_file::open(rt, path, Unknown)?;
+    let options = options(rt)?;
+    match Connection::open_files(rt.alloc(), files, options) {
+        Ok(connection) => Ok(connection),
+        Err((error, _files)) => Err(Refusal::from(error)),
+    }
+}
+
+fn options(rt: &HostRuntime) -> Result<Options, Refusal>
+    ensures pages { IfOk result (λ options. (options.cache_pages ≡ PAGES) × (options.spill_pages ≡ PAGES)) }
+    ensures log { IfOk result (λ options. options.checkpoint_frames ≡ LOG_PAGES) }
+{
+    match RandomState::new(rt) {
+        Ok(keys) => Ok(Options {
+            cache_pages: PAGES,
+            spill_pages: PAGES,
+            checkpoint_frames: LOG_PAGES,
+            seed: keys.hash_one(&0u8),
+        }),
+        Err(_) => Err(Refusal::Fault(SqlFault::CannotOpen)),
+    }
+}
+
+pub fn meta_at(place: &mut Option<Place>) -> Result<Meta, Refusal>
+    ensures nowhere { path_in place.old ≡ None → result ≡ Err (Refusal.Fault SqlFault.Unattached) }
+    ensures path { path_in place.new ≡ path_in place.old }
+{
+    match place {
+        Some(place) => meta_of(&mut place.rows),
+        None => Err(Refusal::Fault(SqlFault::Unattached)),
+    }
+}
+
+fn meta_of(rows: &mut Rows) -> Result<Meta, Refusal> {
+    match rows {
+        Rows::Memory(database) => database.meta(),
+        Rows::File(database) => database.meta(),
+    }
+}
+
+/// The first row whose key is greater.
+pub fn load_at(
+    place: &mut Option<Place>,
+    alloc: Global,
+    after: &[u8],
+) -> Result<Option<Row>, Refusal>
+    ensures texts { IfOk result (λ row. IfSome row (λ r. IsUtf8 r.key × IsUtf8 r.body)) }
+    ensures nowhere { path_in place.old ≡ None → result ≡ Err (Refusal.Fault SqlFault.Unattached) }
+    ensures path { path_in place.new ≡ path_in place.old }
+{
+    match place {
+        Some(place) => load_of(&mut place.rows, alloc, after),
+        None => Err(Refusal::Fault(SqlFault::Unattached)),
+    }
+}
+
+fn load_of(rows: &mut Rows, alloc: Global, after: &[u8]) -> Result<Option<Row>, Refusal>
+    ensures { IfOk result (λ row. IfSome row (λ r. IsUtf8 r.key × IsUtf8 r.body)) }
+{
+    match rows {
+        Rows::Memory(database) => database.load(alloc, after),
+        Rows::File(database) => database.load(alloc, after),
+    }
+}
+
+/// Writes the batch as a whole, or rolls it back.
+pub fn commit_at(place: &mut Option<Place>, batch: &Batch) -> Result<(), Refusal>
+    ensures nowhere { path_in place.old ≡ None → result ≡ Err (Refusal.Fault SqlFault.Unattached) }
+    ensures path { path_in place.new ≡ path_in place.old }
+{
+    match place {
+        Some(place) => commit_of(&mut place.rows, batch),
+        None => Err(Refusal::Fault(SqlFault::Unattached)),
+    }
+}
+
+fn commit_of(rows: &mut Rows, batch: &Batch) -> Result<(), Refusal> {
+    match rows {
+        Rows::Memory(database) => database.commit(batch),
+        Rows::File(database) => database.commit(batch),
+    }
+}
