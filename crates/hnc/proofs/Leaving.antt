@@ -1,48 +1,59 @@
 -- What runs leave.
-use Rattle.std.proofs.Common.{◌≡◌, ◌≢◌, ◌<◌, ◌≤◌, ℕ, Bool, List, [], None, Some, Ok, is_some, length, refl, sym, ap, subst, ◌∙◌, true≢false}
+use Rattle.std.proofs.Common.{◌≡◌, ◌≢◌, ◌<◌, ◌≤◌, ℕ, Bool, List, [], None, Some, Ok, is_some, length, refl, sym, ap, subst, ◌∙◌, true≢false, ◌⊎◌, inl, inr}
 use Rattle.std.specs.Prelude.{IfSome, IsSome, IsSomeAnd}
 use Rattle.std.specs.declared.option.Option.{Option}
 use Rattle.hx_ports.specs.Keeping.{Kept}
 use Rattle.hx_ports.specs.Causes.{Rose, KeeperCause}
 use Rattle.hx_ports.specs.Views.{KeeperView, SinkView, SourceView}
-use Rattle.hx_model.specs.declared.config.RunConfig.{RunConfig}
-use Rattle.hx_model.specs.Machine.{History, IsHistory, replay}
-use Rattle.hx_core.specs.Refinement.{ClusterView, Represents, IsKeptOf}
-use Rattle.hx_core.specs.Starting.{IsUndamaged}
+use Rattle.hx_model.specs.Machine.{History, IsHistory, opening_world, replay}
+use Rattle.hx_model.specs.State.{State}
+use Rattle.hx_model.specs.Valid.{IsValid}
+use Rattle.hx_core.specs.Refinement.{ClusterView, Represents, IsKeptOf, kept_of}
+use Rattle.hx_words.specs.declared.RunWords.{RunWords}
+use Rattle.hx_core.specs.Starting.{IsUndamaged, IsDamagedAt, IfDamaged}
+use Rattle.hx_core.specs.declared.start.StartFault.{StartFault}
+use Rattle.hx_core.specs.declared.start.StartFault.TheVariants as start
+use Rattle.hx_core.proofs.Reopening.{never_both}
+use Rattle.hnc.specs.declared.top.Status.{Status}
+use Rattle.hnc.specs.declared.top.Status.TheVariants as ending
 use Rattle.hx_script.specs.declared.script.RunEnd.{RunEnd}
 use Rattle.hx_script.specs.declared.script.RunEnd.TheVariants.{Done as Ended, NoMemory as Wanting}
 use Rattle.hx_script.specs.Lines.{Line, script_lines}
 use Rattle.hx_script.specs.Exchanges.{entries_of}
 use Rattle.hx_script.specs.Running.{Ran, Does, Cuts, OfScript, most_bytes}
-use Rattle.hnc.specs.Headline.{opening, Leaves, LeavesWhole, LeavesFront, OfRun}
+use Rattle.hnc.specs.Headline.{Leaves, LeavesWhole, LeavesFront, OfRun}
 
--- a cluster was started on a keeper that took its place in memory
-pub record Starts (config : RunConfig) (keeper : KeeperView) (c : ClusterView) : Type 0 where
-  pub place : c.keeper.place ≡ Some []
+-- a cluster was started on a keeper that took its place at the path of the words
+pub record Starts (run : RunWords) (keeper : KeeperView) (c : ClusterView) : Type 0 where
+  pub place : c.keeper.place ≡ Some run.db
   pub same : IfSome keeper.kept (λ held. c.keeper.kept ≡ Some held)
   pub whole : c.keeper.broken ≡ keeper.broken
   pub still : c.keeper.faults ≡ keeper.faults
-  pub opens : Represents c (opening config c.keeper.broken c.state.last)
-  pub version : IfSome c.keeper.kept (λ held. c.state.last ≡ held.version)
+  pub opens : Represents c (opening_world c.keeper.broken c.state)
+  pub configured : c.state.config ≡ run.config
+  pub valid : IsValid c.state
+  pub holds : IfSome c.keeper.kept (λ held. held ≡ kept_of c.state)
   pub undamaged : IfSome c.keeper.kept IsUndamaged
 
 -- a keeper that failed nothing counted nothing
-still_ok : {T : Type 0} (before now : ℕ) (x : T) → KeeperCause before now (Ok x) → now ≡ before
+pub still_ok : {T : Type 0} (before now : ℕ) (x : T) → KeeperCause before now (Ok x) → now ≡ before
 still_ok before now x cause = cause.still (λ e. cc)
 
 -- want of memory is no end of a script
 pub not_done : (end : RunEnd) → end ≡ Wanting → end ≢ Ended
 not_done end is e = cc
 
-pub starts_on : {T : Type 0} (config : RunConfig) (keeper attached : KeeperView) (c : ClusterView) → attached.place ≡ Some [] → IfSome keeper.kept (λ held. attached.kept ≡ Some held) → attached.broken ≡ keeper.broken → (x : T) → KeeperCause keeper.faults attached.faults (Ok x)
-    → c.keeper ≡ attached → Represents c (opening config c.keeper.broken c.state.last) → IfSome c.keeper.kept (λ held. c.state.last ≡ held.version) → IfSome c.keeper.kept IsUndamaged → Starts config keeper c
-starts_on config keeper attached c place same whole x cause is opens version undamaged = record {
+pub starts_on : {T : Type 0} (run : RunWords) (keeper attached : KeeperView) (c : ClusterView) → attached.place ≡ Some run.db → IfSome keeper.kept (λ held. attached.kept ≡ Some held) → attached.broken ≡ keeper.broken → (x : T) → KeeperCause keeper.faults attached.faults (Ok x)
+    → c.keeper ≡ attached → Represents c (opening_world c.keeper.broken c.state) → c.state.config ≡ run.config → IsValid c.state → IfSome c.keeper.kept (λ held. held ≡ kept_of c.state) → IfSome c.keeper.kept IsUndamaged → Starts run keeper c
+starts_on run keeper attached c place same whole x cause is opens configured valid holds undamaged = record {
   place = ap (λ k. k.place) is ∙ place;
   same = subst (λ k. IfSome keeper.kept (λ held. k.kept ≡ Some held)) (sym is) same;
   whole = ap (λ k. k.broken) is ∙ whole;
   still = ap (λ k. k.faults) is ∙ still_ok keeper.faults attached.faults x cause;
   opens = opens;
-  version = version;
+  configured = configured;
+  valid = valid;
+  holds = holds;
   undamaged = undamaged;
 }
 
@@ -58,29 +69,30 @@ tells_on (Some held) new None same tells = absurd (true≢false (sym (tells ∙ 
 tells_on (Some held) new (Some kept) same tells = refl
 
 -- a history with what it leaves in a keeper
-record Stands (config : RunConfig) (last : ℕ) (entries : History) (broken : Bool) (keeper : KeeperView) : Type 0 where
-  history : IsHistory (opening config broken last) entries
-  stored : IfSome keeper.kept (IsKeptOf (replay (opening config broken last) entries))
-  breaks : (replay (opening config broken last) entries).broken ≡ keeper.broken
+record Stands (first : State) (entries : History) (broken : Bool) (keeper : KeeperView) : Type 0 where
+  history : IsHistory (opening_world broken first) entries
+  stored : IfSome keeper.kept (IsKeptOf (replay (opening_world broken first) entries))
+  breaks : (replay (opening_world broken first) entries).broken ≡ keeper.broken
 
 -- a run of a cluster that was started
-leaves : (config : RunConfig) (script : List ℕ) (rest : List Line) (lacking : List ℕ) (sink sink' : SinkView) (keeper keeper' : KeeperView) (a b : ClusterView)
-    → Starts config keeper a → keeper' ≡ b.keeper → Ran (script_lines script) rest lacking a b sink.written sink'.written → Leaves config script rest lacking sink sink' keeper keeper'
-leaves config script rest lacking sink sink' keeper keeper' a b starts is ran =
+leaves : (words : RunWords) (script : List ℕ) (rest : List Line) (lacking : List ℕ) (sink sink' : SinkView) (keeper keeper' : KeeperView) (a b : ClusterView)
+    → Starts words keeper a → keeper' ≡ b.keeper → Ran (script_lines script) rest lacking a b sink.written sink'.written → Leaves words script rest lacking sink sink' keeper keeper'
+leaves words script rest lacking sink sink' keeper keeper' a b starts is ran =
     let entries = entries_of ran.exchanges in
-    let last = a.state.last in
-    let run = ran.simulates (opening config a.keeper.broken last, starts.opens) in
-    let steps = run.steps (opening config a.keeper.broken last) starts.opens in
-    let here : Stands config last entries a.keeper.broken b.keeper = record { history = steps.0; stored = steps.1.kept; breaks = steps.1.broken } in
-    let there : Stands config last entries keeper.broken keeper' = subst (Stands config last entries keeper.broken) (sym is) (subst (λ broken. Stands config last entries broken b.keeper) starts.whole here) in
+    let run = ran.simulates (opening_world a.keeper.broken a.state, starts.opens) in
+    let steps = run.steps (opening_world a.keeper.broken a.state) starts.opens in
+    let here : Stands a.state entries a.keeper.broken b.keeper = record { history = steps.0; stored = steps.1.kept; breaks = steps.1.broken } in
+    let there : Stands a.state entries keeper.broken keeper' = subst (Stands a.state entries keeper.broken) (sym is) (subst (λ broken. Stands a.state entries broken b.keeper) starts.whole here) in
     record {
       exchanges = ran.exchanges;
       text = ran.text;
-      last = last;
+      first = a.state;
       each = ran.each;
       lines = ran.split;
       undamaged = told_before keeper.kept a.keeper.kept IsUndamaged starts.same starts.undamaged;
-      version = told_before keeper.kept a.keeper.kept (λ held. last ≡ held.version) starts.same starts.version;
+      valid = starts.valid;
+      configured = starts.configured;
+      opens = told_before keeper.kept a.keeper.kept (λ held. held ≡ kept_of a.state) starts.same starts.holds;
       history = there.history;
       says = ran.says;
       lacks = ran.lacks;
@@ -93,31 +105,45 @@ leaves config script rest lacking sink sink' keeper keeper' a b starts is ran =
       still = λ e. ap (λ k. k.faults) is ∙ run.still e ∙ starts.still;
     }
 
--- the configuration of the words
-of_run : (words : Option RunConfig) (given config : RunConfig) (source : SourceView) (P : RunConfig → List ℕ → Type 0) → Some given ≡ words → config ≡ given → OfScript source.left (P config) → OfRun words source P
-of_run words given config source P is same p =
-    let Q : Option RunConfig → Type 0 = λ o. IsSomeAnd o (λ config. OfScript source.left (P config)) in
-    subst Q is (subst (λ config. OfScript source.left (P config)) same p)
+-- what the words ask for
+of_run : (words : Option RunWords) (run : RunWords) (source : SourceView) (P : RunWords → List ℕ → Type 0) → words ≡ Some run → OfScript source.left (P run) → OfRun words source P
+of_run words run source P is p =
+    let Q : Option RunWords → Type 0 = λ o. IsSomeAnd o (λ asked. OfScript source.left (P asked)) in
+    subst Q (sym is) p
 
-pub of_run-whole : (words : Option RunConfig) (given config : RunConfig) (source : SourceView) (sink sink' : SinkView) (keeper keeper' : KeeperView) (a b : ClusterView) → Some given ≡ words → config ≡ given → Starts config keeper a → keeper' ≡ b.keeper
-    → OfScript source.left (λ script. (length script ≤ most_bytes) × Does (script_lines script) a b sink.written sink'.written) → OfRun words source (λ config script. LeavesWhole config script sink sink' keeper keeper')
-of_run-whole words given config source sink sink' keeper keeper' a b is same starts ends (script, told, (few, does)) =
-    of_run words given config source (λ config script. LeavesWhole config script sink sink' keeper keeper') is same
-    (script, told, record { few = few; leaves = leaves config script [] [] sink sink' keeper keeper' a b starts ends does })
+pub of_run-whole : (words : Option RunWords) (run : RunWords) (source : SourceView) (sink sink' : SinkView) (keeper keeper' : KeeperView) (a b : ClusterView) → words ≡ Some run → Starts run keeper a → keeper' ≡ b.keeper
+    → OfScript source.left (λ script. (length script ≤ most_bytes) × Does (script_lines script) a b sink.written sink'.written) → OfRun words source (λ run script. LeavesWhole run script sink sink' keeper keeper')
+of_run-whole words run source sink sink' keeper keeper' a b is starts ends (script, told, (few, does)) =
+    of_run words run source (λ run script. LeavesWhole run script sink sink' keeper keeper') is
+    (script, told, record { few = few; leaves = leaves run script [] [] sink sink' keeper keeper' a b starts ends does })
 
-front : (config : RunConfig) (script : List ℕ) (sink sink' : SinkView) (keeper keeper' : KeeperView) (a b : ClusterView) → Starts config keeper a → keeper' ≡ b.keeper
-    → Cuts (script_lines script) a b sink.written sink'.written → LeavesFront config script sink sink' keeper keeper'
-front config script sink sink' keeper keeper' a b starts ends cuts =
-    record { rest = cuts.rest; lacking = cuts.lacking; leaves = leaves config script cuts.rest cuts.lacking sink sink' keeper keeper' a b starts ends cuts.ran }
+front : (run : RunWords) (script : List ℕ) (sink sink' : SinkView) (keeper keeper' : KeeperView) (a b : ClusterView) → Starts run keeper a → keeper' ≡ b.keeper
+    → Cuts (script_lines script) a b sink.written sink'.written → LeavesFront run script sink sink' keeper keeper'
+front run script sink sink' keeper keeper' a b starts ends cuts =
+    record { rest = cuts.rest; lacking = cuts.lacking; leaves = leaves run script cuts.rest cuts.lacking sink sink' keeper keeper' a b starts ends cuts.ran }
 
-pub of_run-front : (words : Option RunConfig) (given config : RunConfig) (source : SourceView) (sink sink' : SinkView) (keeper keeper' : KeeperView) (a b : ClusterView) → Some given ≡ words → config ≡ given → Starts config keeper a → keeper' ≡ b.keeper
-    → OfScript source.left (λ script. Cuts (script_lines script) a b sink.written sink'.written) → OfRun words source (λ config script. LeavesFront config script sink sink' keeper keeper')
-of_run-front words given config source sink sink' keeper keeper' a b is same starts ends (script, told, cuts) =
-    of_run words given config source (λ config script. LeavesFront config script sink sink' keeper keeper') is same
-    (script, told, front config script sink sink' keeper keeper' a b starts ends cuts)
+pub of_run-front : (words : Option RunWords) (run : RunWords) (source : SourceView) (sink sink' : SinkView) (keeper keeper' : KeeperView) (a b : ClusterView) → words ≡ Some run → Starts run keeper a → keeper' ≡ b.keeper
+    → OfScript source.left (λ script. Cuts (script_lines script) a b sink.written sink'.written) → OfRun words source (λ run script. LeavesFront run script sink sink' keeper keeper')
+of_run-front words run source sink sink' keeper keeper' a b is starts ends (script, told, cuts) =
+    of_run words run source (λ run script. LeavesFront run script sink sink' keeper keeper') is
+    (script, told, front run script sink sink' keeper keeper' a b starts ends cuts)
 
-pub of_run-long : (words : Option RunConfig) (given config : RunConfig) (source : SourceView) (sink sink' : SinkView) (keeper keeper' : KeeperView) (a b : ClusterView) → Some given ≡ words → config ≡ given → Starts config keeper a → keeper' ≡ b.keeper
-    → OfScript source.left (λ script. (most_bytes < length script) × Cuts (script_lines script) a b sink.written sink'.written) → OfRun words source (λ config script. (most_bytes < length script) × LeavesFront config script sink sink' keeper keeper')
-of_run-long words given config source sink sink' keeper keeper' a b is same starts ends (script, told, (long, cuts)) =
-    of_run words given config source (λ config script. (most_bytes < length script) × LeavesFront config script sink sink' keeper keeper') is same
-    (script, told, (long, front config script sink sink' keeper keeper' a b starts ends cuts))
+pub of_run-long : (words : Option RunWords) (run : RunWords) (source : SourceView) (sink sink' : SinkView) (keeper keeper' : KeeperView) (a b : ClusterView) → words ≡ Some run → Starts run keeper a → keeper' ≡ b.keeper
+    → OfScript source.left (λ script. (most_bytes < length script) × Cuts (script_lines script) a b sink.written sink'.written) → OfRun words source (λ run script. (most_bytes < length script) × LeavesFront run script sink sink' keeper keeper')
+of_run-long words run source sink sink' keeper keeper' a b is starts ends (script, told, (long, cuts)) =
+    of_run words run source (λ run script. (most_bytes < length script) × LeavesFront run script sink sink' keeper keeper') is
+    (script, told, (long, front run script sink sink' keeper keeper' a b starts ends cuts))
+
+-- where nothing failed and the rows are undamaged, a start ends for want of memory alone
+pub wants_memory : (status : Status) (fault : StartFault) (old attached : KeeperView) (faults : ℕ) → (status ≡ ending.KeeperFault) ⊎ ((status ≡ ending.Damaged) ⊎ (status ≡ ending.NoMemory)) → (status ≡ ending.KeeperFault → fault ≡ start.KeeperFault)
+    → (status ≡ ending.Damaged → (row : ℕ) × (fault ≡ start.Damaged row)) → attached.faults ≡ old.faults → (fault ≡ start.KeeperFault → Rose attached.faults faults) → (Rose old.faults faults → ⊥) → IfSome old.kept (λ held. attached.kept ≡ Some held)
+    → IsSomeAnd old.kept IsUndamaged → IfDamaged fault (λ row. IfSome attached.kept (λ held. IsDamagedAt held row)) → status ≡ ending.NoMemory
+wants_memory status fault old attached faults (inl is) failed damaged still rose calm same sound found = absurd (calm (subst (λ n. Rose n faults) still (rose (failed is))))
+wants_memory status fault old attached faults (inr (inl is)) failed damaged still rose calm same sound found =
+    let row = damaged is in
+    absurd (never old.kept attached.kept row.0 same sound (subst (λ f. IfDamaged f (λ r. IfSome attached.kept (λ held. IsDamagedAt held r))) row.1 found))
+  where
+    never : (before now : Option Kept) (row : ℕ) → IfSome before (λ held. now ≡ Some held) → IsSomeAnd before IsUndamaged → IfSome now (λ held. IsDamagedAt held row) → ⊥
+    never None now row s good bad = good
+    never (Some held) now row s good bad = never_both held row good (subst (λ o. IfSome o (λ h. IsDamagedAt h row)) s bad)
+wants_memory status fault old attached faults (inr (inr is)) failed damaged still rose calm same sound found = is

@@ -1,50 +1,55 @@
 //! `hnc`: the control service of hierarchical namespaces, as a program over scripts of requests.
 #![tactic(auto)]
 
-ghost use Rattle.std.specs.Prelude.{◌≡◌, None};
-
 #[cfg(test)]
 mod tests;
 mod top;
-mod words;
 
 use crate::top::{Status, top};
-use crate::words::{first_untaken, run_words};
-use hx_core::SCHEMA;
-use hx_ports::{Keeper, MemKeeper, Meta, StdSink, StdSource};
-use std::alloc::Global;
+use hx_ports::{StdSink, StdSource};
+use hx_sqlite::{SqlFault, SqlKeeper};
+use hx_words::{WordsFault, first_untaken, read_words};
 use std::hash::RandomState;
 use std::process::ExitCode;
 use std::{env, io};
 
 /// How the command is used.
-const USAGE: &str = "usage: hnc run [--allow-skip] [--excluded-namespace NAMES] <SCRIPT";
+const USAGE: &str =
+    "usage: hnc run [--db PATH] [--excluded-namespace NAMES] [--allow-skip] <SCRIPT";
 
 fn main(rt: HostRuntime) -> ExitCode {
     let words = match words_of(&rt) {
         Ok(words) => words,
         Err(error) => return exit_without_words(&rt, error.kind()),
     };
-    let keys = match RandomState::new(&rt) {
-        Ok(keys) => keys,
-        Err(error) => return exit_without_keys(&rt, words.as_slice(), error.kind()),
-    };
+    match RandomState::new(&rt) {
+        Ok(keys) => exit_with(&rt, words.as_slice(), run(&rt, words.as_slice(), keys)),
+        Err(error) => exit_without_keys(&rt, words.as_slice(), error.kind()),
+    }
+}
+
+/// How a run over the real ports ended, and why a port failed if it did.
+#[derive(Clone, Copy)]
+struct Outcome {
+    status: Status,
+    damaged_row: Option<u64>,
+    database_fault: Option<SqlFault>,
+    read_fault: Option<io::ErrorKind>,
+    write_fault: Option<io::ErrorKind>,
+}
+
+/// Runs the command over standard input and output, with the rows in a database.
+fn run(rt: &HostRuntime, words: &[String], keys: RandomState) -> Outcome {
     let mut source = StdSource::new(rt.stdin());
     let mut sink = StdSink::new(rt.stdout());
-    let keeper = empty_keeper(rt.alloc());
-    let ended = top(
-        rt.alloc(),
-        words.as_slice(),
-        &mut source,
-        &mut sink,
-        keeper,
-        keys,
-    );
-    match ended.status {
-        Status::Usage => exit_with_usage(&rt, first_untaken(words.as_slice())),
-        Status::ReadFault => exit_with_fault(&rt, Status::ReadFault, source.last_fault()),
-        Status::WriteFault => exit_with_fault(&rt, Status::WriteFault, sink.last_fault()),
-        status => exit_with(&rt, status),
+    let keeper = SqlKeeper::new(rt);
+    let ended = top(rt.alloc(), words, &mut source, &mut sink, keeper, keys);
+    Outcome {
+        status: ended.status,
+        damaged_row: ended.damaged_row,
+        database_fault: ended.keeper.last_fault(),
+        read_fault: source.last_fault(),
+        write_fault: sink.last_fault(),
     }
 }
 
@@ -57,30 +62,41 @@ fn words_of(rt: &(impl env::Env + AllocGlobal)) -> io::Result<Vec<String>> {
     Ok(words)
 }
 
-/// A keeper without rows, in memory.
-fn empty_keeper(alloc: Global) -> MemKeeper
-    ensures { (⟦<MemKeeper as Keeper>⟧.shown result).place ≡ None }
-{
-    let meta = Meta {
-        schema: SCHEMA,
-        version: 0,
-        rows: 0,
-    };
-    MemKeeper::new(Vec::new(alloc), meta, Vec::new(alloc), Vec::new(alloc))
+/// Says on standard error how a run ended, unless it is `Done` and the database didn't fail, and ends with the status's number.
+fn exit_with(rt: &HostRuntime, words: &[String], outcome: Outcome) -> ExitCode {
+    match outcome.status {
+        Status::Usage => exit_with_usage(rt, first_untaken(words)),
+        Status::ReadFault => exit_with_fault(rt, Status::ReadFault, outcome.read_fault),
+        Status::WriteFault => exit_with_fault(rt, Status::WriteFault, outcome.write_fault),
+        Status::Damaged => exit_with_damage(rt, outcome.damaged_row),
+        status => exit_with_status(rt, status, outcome.database_fault),
+    }
 }
 
-/// Names a status other than `Done` on standard error, and ends with its number.
-fn exit_with(rt: &HostRuntime, status: Status) -> ExitCode {
-    if status != Status::Done {
-        let _ = eprintln!(rt; "hnc: {status:?}");
-    }
+/// Names a status other than `Done`, and why the database failed if it did.
+fn exit_with_status(rt: &HostRuntime, status: Status, fault: Option<SqlFault>) -> ExitCode {
+    let _ = match fault {
+        Some(fault) => eprintln!(rt; "hnc: {status:?}: the database failed: {fault}"),
+        None if status != Status::Done => eprintln!(rt; "hnc: {status:?}"),
+        None => Ok(()),
+    };
+    ExitCode::from(status.code())
+}
+
+/// Says which stored row is damaged first.
+fn exit_with_damage(rt: &HostRuntime, row: Option<u64>) -> ExitCode {
+    let status = Status::Damaged;
+    let _ = match row {
+        Some(0) | None => eprintln!(rt; "hnc: {status:?}: the schema or the version of the rows"),
+        Some(row) => eprintln!(rt; "hnc: {status:?}: row {row} in the order of keys"),
+    };
     ExitCode::from(status.code())
 }
 
 /// Where the words aren't had: a word that isn't UTF-8 isn't taken, and all else is want of memory.
 fn exit_without_words(rt: &HostRuntime, kind: io::ErrorKind) -> ExitCode {
     if kind != io::ErrorKind::InvalidData {
-        return exit_with(rt, Status::NoMemory);
+        return exit_with_status(rt, Status::NoMemory, None);
     }
     let _ = eprintln!(rt; "hnc: {:?}: a word is not UTF-8", Status::Usage);
     let _ = eprintln!(rt; "{USAGE}");
@@ -89,7 +105,7 @@ fn exit_without_words(rt: &HostRuntime, kind: io::ErrorKind) -> ExitCode {
 
 /// Where the system gives no random bytes: words that aren't taken go before, and all else is a read that failed.
 fn exit_without_keys(rt: &HostRuntime, words: &[String], kind: io::ErrorKind) -> ExitCode {
-    if run_words(words).is_none() {
+    if matches!(read_words(rt.alloc(), words), Err(WordsFault::Usage)) {
         return exit_with_usage(rt, first_untaken(words));
     }
     let status = Status::ReadFault;

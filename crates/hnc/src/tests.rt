@@ -2,7 +2,7 @@
 ghost use Rattle.std.specs.Prelude.{◌<◌};
 
 use crate::top::{Ended, Status, top};
-use hx_object::NoMemory;
+use hx_object::{List, NoMemory};
 use hx_ports::{
     FailCommit, MemKeeper, MemSink, MemSource, Meta, Row, SureKeeper, SureSink, SureSource,
 };
@@ -57,12 +57,24 @@ fn plain(keys: RandomState) -> Setting {
 #[derive(Drop)]
 struct Left {
     status: Status,
+    damaged_row: Option<u64>,
     sink: MemSink,
     keeper: MemKeeper,
 }
 
-// The run of a script. The words are joined by spaces.
+// The run of a script over no rows. The words are joined by spaces.
 fn run(alloc: Global, words: &str, script: &[u8], setting: &Setting) -> Result<Left, NoMemory> {
+    run_on(alloc, Vec::new(alloc), words, script, setting)
+}
+
+// The run of a script over rows.
+fn run_on(
+    alloc: Global,
+    rows: Vec<Row>,
+    words: &str,
+    script: &[u8],
+    setting: &Setting,
+) -> Result<Left, NoMemory> {
     let words = split_words(alloc, words)?;
     let script = Vec::from_slice(alloc, script)?;
     let fails = Vec::from_slice(alloc, &[setting.failing_read])?;
@@ -72,8 +84,12 @@ fn run(alloc: Global, words: &str, script: &[u8], setting: &Setting) -> Result<L
     let mut sink = MemSink::new(room, setting.write_piece, fails);
     let commits = Vec::from_slice(alloc, &[setting.failing_commit])?;
     let fails = Vec::from_slice(alloc, &[setting.failing_keeper])?;
-    let keeper = MemKeeper::new(Vec::new(alloc), setting.meta, commits, fails);
-    let Ended { status, keeper } = top(
+    let keeper = MemKeeper::new(rows, setting.meta, commits, fails);
+    let Ended {
+        status,
+        damaged_row,
+        keeper,
+    } = top(
         alloc,
         words.as_slice(),
         &mut source,
@@ -83,6 +99,7 @@ fn run(alloc: Global, words: &str, script: &[u8], setting: &Setting) -> Result<L
     );
     Ok(Left {
         status,
+        damaged_row,
         sink,
         keeper,
     })
@@ -288,17 +305,37 @@ fn words(rt: HostRuntime) -> Result<(), Fail> {
         ("run", Status::Done),
         ("run --allow-skip", Status::Done),
         ("run --excluded-namespace a,b", Status::Done),
-        ("run --allow-skip --excluded-namespace a,b", Status::Done),
+        ("run --excluded-namespace=a,b", Status::Done),
         ("run --excluded-namespace ", Status::Done),
-        ("run --excluded-namespace a --allow-skip", Status::Usage),
+        ("run --excluded-namespace a --allow-skip", Status::Done),
+        (
+            "run --allow-skip --db x --excluded-namespace a",
+            Status::Done,
+        ),
+        ("run --db x", Status::Done),
+        ("run --db=x", Status::Done),
+        ("run --db ", Status::Done),
+        ("run --db -", Status::Done),
+        ("run --db=-x", Status::Done),
+        ("run --", Status::Done),
+        ("run --db -x", Status::Usage),
+        ("run --db", Status::Usage),
+        ("run --db x --db x", Status::Usage),
+        ("run --db x y", Status::Usage),
         ("run --allow-skip --allow-skip", Status::Usage),
+        ("run --allow-skip=true", Status::Usage),
+        ("run --allow", Status::Usage),
         ("run --excluded-namespace a,,b", Status::Usage),
         ("run --excluded-namespace A", Status::Usage),
         ("run --excluded-namespace", Status::Usage),
         ("run x", Status::Usage),
+        ("run -- x", Status::Usage),
+        ("--db x run", Status::Usage),
         ("", Status::Usage),
         ("Run", Status::Usage),
         ("--help", Status::Usage),
+        ("run --help", Status::Usage),
+        ("run --version", Status::Usage),
     ] {
         let left = run(rt.alloc(), words, b"", &plain(random))?;
         assert_eq!(rt; left.status, status, "{words}");
@@ -306,19 +343,49 @@ fn words(rt: HostRuntime) -> Result<(), Fail> {
     Ok(())
 }
 
+// ---- runs on rows that are kept
+
+fn row(alloc: Global, key: &str, version: u64, body: &str) -> Result<Row, NoMemory> {
+    Ok(Row {
+        key: List::of(Vec::from_slice(alloc, key.as_bytes())?),
+        version,
+        body: List::of(Vec::from_slice(alloc, body.as_bytes())?),
+    })
+}
+
+const ACME: &str =
+    r#"{"apiVersion":"v1","kind":"Namespace","metadata":{"name":"acme","resourceVersion":"1"},"status":{"phase":"Active"}}"#;
+
+// The row of the namespace acme alone.
+fn acme(alloc: Global) -> Result<Vec<Row>, NoMemory> {
+    let mut rows = Vec::new(alloc);
+    rows.push(row(alloc, "01//acme", 1, ACME)?)?;
+    Ok(rows)
+}
+
+// Whether a run that didn't begin answered nothing and left the row of acme alone.
+fn is_untouched(left: &mut Left, version: u64) -> Result<bool, NoMemory> {
+    let rows = left.keeper.rows()?;
+    let is_kept = matches!(rows.as_slice(), [row] if row.body.as_slice() == ACME.as_bytes());
+    Ok(is_kept && left.keeper.version() == version && left.sink.bytes().is_empty())
+}
+
 #[test]
 fn no_run_begins(rt: HostRuntime) -> Result<(), Fail> {
     let random = RandomState::new(&rt)?;
-    // schema, version and rows of the keeper; the number of its call that fails
-    for (schema, version, rows, fails, status) in [
-        (1, 0, 0, 0, Status::Damaged),
-        (2, 1, 0, 0, Status::Done),
-        (2, MOST_VERSION, 0, 0, Status::Done),
-        (2, MOST_VERSION + 1, 0, 0, Status::Damaged),
-        (2, 0, 1, 0, Status::Damaged),
-        (2, 0, 0, 1, Status::KeeperFault),
-        (2, 0, 0, 2, Status::KeeperFault),
-        (2, 0, 0, 3, Status::Done),
+    // schema, version and rows that the keeper of one row tells; the number of its call that fails; status and damaged row
+    for (schema, version, rows, fails, status, row) in [
+        (1, 1, 1, 0, Status::Damaged, Some(0)),
+        (2, 0, 1, 0, Status::Damaged, Some(1)),
+        (2, 1, 0, 0, Status::Damaged, Some(1)),
+        (2, 1, 2, 0, Status::Damaged, Some(2)),
+        (2, MOST_VERSION + 1, 1, 0, Status::Damaged, Some(0)),
+        (1, 1, 1, 3, Status::Damaged, Some(0)),
+        (2, 0, 1, 4, Status::Damaged, Some(1)),
+        (2, 1, 1, 1, Status::KeeperFault, None),
+        (1, 1, 1, 2, Status::KeeperFault, None),
+        (2, 0, 1, 3, Status::KeeperFault, None),
+        (2, 1, 1, 4, Status::KeeperFault, None),
     ] {
         let mut setting = plain(random);
         setting.meta = Meta {
@@ -327,9 +394,182 @@ fn no_run_begins(rt: HostRuntime) -> Result<(), Fail> {
             rows,
         };
         setting.failing_keeper = fails;
-        let left = run(rt.alloc(), "run", b"GET /x", &setting)?;
-        assert_eq!(rt; left.status, status, "version {version}, call {fails}");
-        assert_eq!(rt; left.sink.bytes().is_empty(), status != Status::Done);
+        let script = create(rt.alloc(), "b")?;
+        let rows = acme(rt.alloc())?;
+        let mut left = run_on(
+            rt.alloc(),
+            rows,
+            "run",
+            script.as_str().as_bytes(),
+            &setting,
+        )?;
+        let is_untouched = is_untouched(&mut left, version)?;
+        assert_eq!(rt;
+            (left.status, left.damaged_row, is_untouched),
+            (status, row, true),
+            "schema {schema}, version {version}, call {fails}"
+        );
+    }
+    Ok(())
+}
+
+#[test]
+fn a_run_begins(rt: HostRuntime) -> Result<(), Fail> {
+    let random = RandomState::new(&rt)?;
+    for (version, fails) in [(1, 0), (1, 5), (MOST_VERSION, 0)] {
+        let mut setting = plain(random);
+        setting.meta = Meta {
+            schema: 2,
+            version,
+            rows: 1,
+        };
+        setting.failing_keeper = fails;
+        let script = get(rt.alloc(), "acme")?;
+        let rows = acme(rt.alloc())?;
+        let left = run_on(
+            rt.alloc(),
+            rows,
+            "run",
+            script.as_str().as_bytes(),
+            &setting,
+        )?;
+        assert_eq!(rt; (left.status, left.damaged_row), (Status::Done, None));
+        let answer = left.sink.bytes().strip_prefix(b"200 ".as_slice());
+        assert!(rt;
+            answer.is_some_and(|rest| rest.starts_with(ACME.as_bytes())),
+            "version {version}"
+        );
+    }
+    Ok(())
+}
+
+// A damaged row behind that of acme, and how the run on both ends.
+#[test]
+fn a_later_row_is_damaged(rt: HostRuntime) -> Result<(), Fail> {
+    let random = RandomState::new(&rt)?;
+    for (key, version) in [("01//b", 1), ("01//acme/", 1), ("02//acme", 1)] {
+        let mut setting = plain(random);
+        setting.meta = Meta {
+            schema: 2,
+            version: 1,
+            rows: 2,
+        };
+        let mut rows = acme(rt.alloc())?;
+        rows.push(row(rt.alloc(), key, version, ACME)?)?;
+        let left = run_on(rt.alloc(), rows, "run", b"GET /x\n", &setting)?;
+        assert_eq!(rt;
+            (left.status, left.damaged_row, left.sink.bytes().is_empty()),
+            (Status::Damaged, Some(2), true),
+            "{key}"
+        );
+    }
+    Ok(())
+}
+
+// ---- a run that is stopped and begun again
+
+// Requests over several kinds, with a tree among them.
+const LINES: [&str; 15] = [
+    r#"POST /api/v1/namespaces {"apiVersion":"v1","kind":"Namespace","metadata":{"labels":{"b":"2","a":"1"},"name":"acme"}}"#,
+    r#"POST /api/v1/namespaces {"apiVersion":"v1","kind":"Namespace","metadata":{"annotations":{"a/b":"é\n"},"name":"team"}}"#,
+    r#"POST /apis/hnc.x-k8s.io/v1alpha2/namespaces/team/hierarchyconfigurations {"apiVersion":"hnc.x-k8s.io/v1alpha2","kind":"HierarchyConfiguration","metadata":{"name":"hierarchy"},"spec":{"parent":"acme"}}"#,
+    r#"POST /api/v1/namespaces/acme/configmaps {"apiVersion":"v1","kind":"ConfigMap","metadata":{"name":"c"},"data":{"l":"","k":[1,{}]}}"#,
+    r#"POST /apis/hnc.x-k8s.io/v1alpha2/hncconfigurations {"apiVersion":"hnc.x-k8s.io/v1alpha2","kind":"HNCConfiguration","metadata":{"name":"config"},"spec":{"resources":[{"resource":"secrets"}]}}"#,
+    r#"PUT /api/v1/namespaces/acme/configmaps/c {"apiVersion":"v1","kind":"ConfigMap","metadata":{"resourceVersion":"3"}}"#,
+    r#"PUT /api/v1/namespaces/acme/configmaps/c {"apiVersion":"v1","kind":"ConfigMap","metadata":{"resourceVersion":"4"},"data":{"k":"v"}}"#,
+    r#"POST /apis/rbac.authorization.k8s.io/v1/namespaces/team/roles {"apiVersion":"rbac.authorization.k8s.io/v1","kind":"Role","metadata":{"name":"system:r"},"rules":[]}"#,
+    r#"POST /apis/hnc.x-k8s.io/v1alpha2/namespaces/acme/hierarchyconfigurations {"apiVersion":"hnc.x-k8s.io/v1alpha2","kind":"HierarchyConfiguration","metadata":{"name":"hierarchy"},"spec":{"parent":"team"}}"#,
+    "DELETE /api/v1/namespaces/acme/configmaps/c",
+    r#"PUT /apis/hnc.x-k8s.io/v1alpha2/namespaces/team/hierarchyconfigurations/hierarchy {"apiVersion":"hnc.x-k8s.io/v1alpha2","kind":"HierarchyConfiguration","metadata":{},"spec":{"allowCascadingDeletion":true}}"#,
+    r#"POST /apis/hnc.x-k8s.io/v1alpha2/namespaces/acme/hierarchyconfigurations {"apiVersion":"hnc.x-k8s.io/v1alpha2","kind":"HierarchyConfiguration","metadata":{"name":"hierarchy"},"spec":{"parent":"team"}}"#,
+    r#"PUT /api/v1/namespaces/acme {"apiVersion":"v1","kind":"Namespace","metadata":{"labels":{"a":"2"}}}"#,
+    "DELETE /apis/rbac.authorization.k8s.io/v1/namespaces/team/roles/system:r",
+    "GET /api/v1/namespaces",
+];
+
+const LINE_CODES: &str = "201 201 201 201 201 409 200 201 403 H2 200 200 201 200 200 200 ";
+
+// What a run keeps, and what it answered.
+#[derive(Drop)]
+struct Kept {
+    rows: Vec<Row>,
+    version: u64,
+    answers: Vec<u8>,
+}
+
+// The lines from one on, up to another.
+fn lines(alloc: Global, from: usize, to: usize) -> Result<String, NoMemory> {
+    let mut script = String::new(alloc);
+    for line in LINES.iter().take(to).skip(from) {
+        script.push_str(line)?;
+        script.push('\n')?;
+    }
+    Ok(script)
+}
+
+// Runs a part of the lines on what a run kept, which is put in the place of that.
+fn run_part(
+    alloc: Global,
+    keys: RandomState,
+    from: usize,
+    to: usize,
+    kept: Kept,
+) -> Result<Kept, NoMemory> {
+    let Kept {
+        rows,
+        version,
+        mut answers,
+    } = kept;
+    let mut setting = plain(keys);
+    setting.meta = Meta {
+        schema: 2,
+        version,
+        rows: rows.len() as u64,
+    };
+    let script = lines(alloc, from, to)?;
+    let mut left = run_on(alloc, rows, "run", script.as_str().as_bytes(), &setting)?;
+    answers.extend_from_slice(left.sink.bytes())?;
+    Ok(Kept {
+        rows: left.keeper.rows()?,
+        version: left.keeper.version(),
+        answers,
+    })
+}
+
+// The lines in two runs, of which the second begins on what the first kept.
+fn run_twice(alloc: Global, keys: RandomState, first: usize) -> Result<Kept, NoMemory> {
+    let none = Kept {
+        rows: Vec::new(alloc),
+        version: 0,
+        answers: Vec::new(alloc),
+    };
+    let kept = run_part(alloc, keys, 0, first, none)?;
+    run_part(alloc, keys, first, LINES.len(), kept)
+}
+
+fn are_same(one: &Kept, other: &Kept) -> bool {
+    one.version == other.version
+        && one.rows.as_slice() == other.rows.as_slice()
+        && one.answers.as_slice() == other.answers.as_slice()
+}
+
+// Whether two runs leave the same as one.
+fn is_same_in_two(alloc: Global, keys: RandomState, first: usize) -> Result<bool, NoMemory> {
+    let whole = run_twice(alloc, keys, 0)?;
+    let parted = run_twice(alloc, keys, first)?;
+    Ok(are_same(&whole, &parted))
+}
+
+#[test]
+fn a_stop_changes_nothing(rt: HostRuntime) -> Result<(), Fail> {
+    let random = RandomState::new(&rt)?;
+    let whole = run_twice(rt.alloc(), random, 0)?;
+    let codes = codes_of(rt.alloc(), whole.answers.as_slice())?;
+    assert_eq!(rt; codes.as_slice(), LINE_CODES.as_bytes());
+    assert_eq!(rt; (whole.version, whole.rows.len()), (12, 5));
+    for first in 1..16usize {
+        let is_same = is_same_in_two(rt.alloc(), random, first)?;
+        assert!(rt; is_same, "after {first} lines");
     }
     Ok(())
 }

@@ -1,16 +1,16 @@
 // The top call.
-ghost use Rattle.std.specs.Prelude.{ℕ, ◌≡◌, ◌≢◌, ◌≤◌, ◌<◌, ◌⊎◌, ◌↔◌, true, false, [], None, IfSome, IsSomeAnd, map, length, string_bytes};
+ghost use Rattle.std.specs.Prelude.{ℕ, ◌≡◌, ◌≢◌, ◌≤◌, ◌<◌, ◌⊎◌, true, false, [], None, Some, IfSome, IsSomeAnd, map, length, string_bytes};
 ghost use Rattle.std.specs.Io.KnownBytes.{IsAtEnd};
 ghost use Rattle.hx_ports.specs.Causes.{Rose};
-ghost use Rattle.hx_core.specs.Starting.{IsDamaged, IsUndamaged};
+ghost use Rattle.hx_core.specs.Starting.{IsDamagedAt, IsUndamaged};
 ghost use Rattle.hnc.specs.Headline.{LeavesWhole, LeavesFront, OfRun, IsUnbegun, is_cut_short, has_not_begun, code_of_status};
-ghost use Rattle.hnc.specs.Words.{config_of};
+ghost use Rattle.hx_words.specs.Words.{run_of};
 ghost use Rattle.hx_script.specs.Running.{IsCalm, most_bytes};
 
-use crate::words::run_words;
 use hx_core::{Cluster, StartFault, Unstarted};
 use hx_ports::{KeepFault, Keeper, Sink, Source};
 use hx_script::{RunEnd, run_script};
+use hx_words::{RunWords, WordsFault, read_words};
 use std::alloc::Global;
 use std::hash::RandomState;
 
@@ -46,10 +46,12 @@ impl Status {
 #[derive(Drop)]
 pub struct Ended<K> {
     pub status: Status,
+    /// Where the status is `Damaged`, the first damaged row: counted from 1, or 0 for what the keeper says of itself.
+    pub damaged_row: Option<u64>,
     pub keeper: K,
 }
 
-/// Does all that the program does: reads the script of `run` and answers its lines, over a keeper of the stored rows, which takes its place in memory.
+/// Does all that the program does: reads the script of `run` and answers its lines, over a keeper of the stored rows, which takes its place at the path that the words give, or in memory.
 ///
 /// The keys hash what is held in memory, so that names can't be chosen to collide. Nothing that is answered or stored depends on them.
 pub fn top<S: Source, W: Sink, K: Keeper>(
@@ -63,58 +65,68 @@ pub fn top<S: Source, W: Sink, K: Keeper>(
     requires { (K.shown keeper).place ≡ None }
 
     // Answers and stored objects are a run of the machine.
-    ensures done { result.status ≡ Status.Done → OfRun (config_of (map string_bytes words.now)) (S.shown source.old) (λ config script. LeavesWhole config script (W.shown sink.old) (W.shown sink.new) (K.shown keeper) (K.shown result.keeper)) }
-    ensures cut { is_cut_short result.status ≡ true → OfRun (config_of (map string_bytes words.now)) (S.shown source.old) (λ config script. LeavesFront config script (W.shown sink.old) (W.shown sink.new) (K.shown keeper) (K.shown result.keeper)) }
-    ensures unbegun { has_not_begun result.status ≡ true → IsUnbegun source.old source.new sink.old sink.new (K.shown keeper) (K.shown result.keeper) }
-    ensures memory { result.status ≡ Status.NoMemory → IsUnbegun source.old source.new sink.old sink.new (K.shown keeper) (K.shown result.keeper) ⊎ OfRun (config_of (map string_bytes words.now)) (S.shown source.old) (λ config script. LeavesFront config script (W.shown sink.old) (W.shown sink.new) (K.shown keeper) (K.shown result.keeper)) }
+    ensures done { result.status ≡ Status.Done → OfRun (run_of (map string_bytes words.now)) (S.shown source.old) (λ run script. LeavesWhole run script (W.shown sink.old) (W.shown sink.new) (K.shown keeper) (K.shown result.keeper)) }
+    ensures cut { is_cut_short result.status ≡ true → OfRun (run_of (map string_bytes words.now)) (S.shown source.old) (λ run script. LeavesFront run script (W.shown sink.old) (W.shown sink.new) (K.shown keeper) (K.shown result.keeper)) }
+    ensures unbegun { has_not_begun result.status ≡ true → IsUnbegun (run_of (map string_bytes words.now)) source.old source.new sink.old sink.new (K.shown keeper) (K.shown result.keeper) }
+    ensures memory { result.status ≡ Status.NoMemory → IsUnbegun (run_of (map string_bytes words.now)) source.old source.new sink.old sink.new (K.shown keeper) (K.shown result.keeper) ⊎ OfRun (run_of (map string_bytes words.now)) (S.shown source.old) (λ run script. LeavesFront run script (W.shown sink.old) (W.shown sink.new) (K.shown keeper) (K.shown result.keeper)) }
 
     // Each status has its cause; want of memory alone is free.
-    ensures usage { (result.status ≡ Status.Usage) ↔ (config_of (map string_bytes words.now) ≡ None) }
+    ensures usage { result.status ≡ Status.Usage → run_of (map string_bytes words.now) ≡ None }
+    ensures untaken { run_of (map string_bytes words.now) ≡ None → (result.status ≡ Status.Usage) ⊎ (result.status ≡ Status.NoMemory) }
     ensures read_fault { result.status ≡ Status.ReadFault → Rose (S.shown source.old).faults (S.shown source.new).faults }
     ensures write_fault { result.status ≡ Status.WriteFault → Rose (W.shown sink.old).faults (W.shown sink.new).faults ⊎ Rose (W.shown sink.old).stalls (W.shown sink.new).stalls }
     ensures keeper_fault { result.status ≡ Status.KeeperFault → Rose (K.shown keeper).faults (K.shown result.keeper).faults }
-    ensures damaged { result.status ≡ Status.Damaged → IfSome (K.shown keeper).kept IsDamaged }
-    ensures too_long { result.status ≡ Status.TooLong → OfRun (config_of (map string_bytes words.now)) (S.shown source.old) (λ config script. (most_bytes < length script) × LeavesFront config script (W.shown sink.old) (W.shown sink.new) (K.shown keeper) (K.shown result.keeper)) }
+    ensures damaged { result.status ≡ Status.Damaged → IsSomeAnd result.damaged_row (λ row. IfSome (K.shown keeper).kept (λ held. IsDamagedAt held row)) }
+    ensures too_long { result.status ≡ Status.TooLong → OfRun (run_of (map string_bytes words.now)) (S.shown source.old) (λ run script. (most_bytes < length script) × LeavesFront run script (W.shown sink.old) (W.shown sink.new) (K.shown keeper) (K.shown result.keeper)) }
     ensures unasked { result.status ≡ Status.Usage → result.keeper ≡ keeper }
     ensures calm { result.status ≡ Status.Done → ((S.shown source.new).faults ≡ (S.shown source.old).faults) × IsCalm (W.shown sink.old) (W.shown sink.new) }
     ensures end { result.status ≡ Status.Done → IsAtEnd (S.shown source.new).left }
-    ensures complete { config_of (map string_bytes words.now) ≢ None
+    ensures complete { run_of (map string_bytes words.now) ≢ None
         → (Rose (S.shown source.old).faults (S.shown source.new).faults → ⊥)
         → (Rose (W.shown sink.old).faults (W.shown sink.new).faults ⊎ Rose (W.shown sink.old).stalls (W.shown sink.new).stalls → ⊥)
         → (Rose (K.shown keeper).faults (K.shown result.keeper).faults → ⊥)
         → IsSomeAnd (K.shown keeper).kept IsUndamaged
         → (result.status ≡ Status.Done) ⊎ (result.status ≡ Status.TooLong) ⊎ (result.status ≡ Status.NoMemory) }
 {
-    let Some(run) = run_words(words) else {
-        return Ended {
-            status: Status::Usage,
-            keeper,
-        };
+    let RunWords { db, config } = match read_words(alloc, words) {
+        Ok(run) => run,
+        Err(fault) => return end_with(status_of_words(fault), keeper),
     };
-    let Ok(config) = run.config(alloc) else {
-        return Ended {
-            status: Status::NoMemory,
-            keeper,
-        };
-    };
-    if let Err(fault) = keeper.attach("") {
-        return Ended {
-            status: status_of_keeper(fault),
-            keeper,
-        };
+    if let Err(fault) = keeper.attach(db.as_str()) {
+        return end_with(status_of_keeper(fault), keeper);
     }
     match Cluster::start(alloc, keeper, config, keys) {
         Err(Unstarted { fault, keeper }) => Ended {
             status: status_of_start(fault),
+            damaged_row: damaged_row_of(fault),
             keeper,
         },
         Ok(mut cluster) => {
             let end = run_script(alloc, source, sink, &mut cluster);
-            Ended {
-                status: status_of_end(end),
-                keeper: cluster.close(),
-            }
+            end_with(status_of_end(end), cluster.close())
         }
+    }
+}
+
+/// The end of a command that found no damaged row.
+fn end_with<K>(status: Status, keeper: K) -> Ended<K>
+    ensures { (result.status ≡ status) × (result.keeper ≡ keeper) }
+{
+    Ended {
+        status,
+        damaged_row: None,
+        keeper,
+    }
+}
+
+/// The status of words that aren't read.
+fn status_of_words(fault: WordsFault) -> Status
+    ensures usage { result ≡ Status.Usage → fault ≡ WordsFault.Usage }
+    ensures memory { (result ≡ Status.Usage) ⊎ (result ≡ Status.NoMemory) }
+{
+    match fault {
+        WordsFault::Usage => Status::Usage,
+        WordsFault::NoMemory => Status::NoMemory,
     }
 }
 
@@ -141,6 +153,16 @@ fn status_of_start(fault: StartFault) -> Status
         StartFault::KeeperFault => Status::KeeperFault,
         StartFault::Damaged { .. } => Status::Damaged,
         StartFault::NoMemory => Status::NoMemory,
+    }
+}
+
+/// The row that a start found damaged.
+fn damaged_row_of(fault: StartFault) -> Option<u64>
+    ensures { (row : ℕ) → fault ≡ StartFault.Damaged row → result ≡ Some row }
+{
+    match fault {
+        StartFault::Damaged { row } => Some(row),
+        _ => None,
     }
 }
 

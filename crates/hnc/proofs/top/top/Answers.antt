@@ -1,32 +1,38 @@
-use Rattle.std.proofs.Common.{inr}
-use Rattle.hnc.proofs.Leaving.{Starts, starts_on, not_done, of_run-whole, of_run-front, of_run-long}
+use Rattle.std.proofs.Common.{◌∙◌, Some, ap, inr, sym}
+use Rattle.hnc.proofs.Leaving.{Starts, starts_on, not_done, of_run-front, of_run-long, of_run-whole, still_ok, wants_memory}
+use Rattle.hnc.specs.Headline.{is_cut_short}
 use Rattle.hnc.proofs.top.top.Given.{Over}
 use Rattle.hnc.proofs.top.top.Goals as goal
-use Rattle.hnc.proofs.top.top.Goals.{After-close}
+use Rattle.hnc.proofs.top.top.Goals.{After-drop-db-inside-2}
 
 -- what the run stands on
-started : (g : Over) (c : After-close g) → Starts c.in-Ok.config (g.K.Keeper.shown c.args.keeper) c.in-Ok-start.cluster
+started : (g : Over) (c : After-drop-db-inside-2 g) → Starts c.in-Ok.run' (g.K.Keeper.shown c.args.keeper) c.in-Ok-start.cluster
 started g c =
-    let attached = c.in_default-attach.ensures in
+    let attached = c.in_default.ensures in
     let begun = c.in-Ok-start.ensures in
-    starts_on c.in-Ok.config (g.K.Keeper.shown c.args.keeper) (g.K.Keeper.shown c.attach.new.self) c.in-Ok-start.cluster attached.place attached.same attached.whole _ attached.cause begun.keeper begun.opens begun.version begun.undamaged
+    starts_on c.in-Ok.run' (g.K.Keeper.shown c.args.keeper) (g.K.Keeper.shown c.attach.new.self) c.in-Ok-start.cluster (attached.place ∙ ap Some c.as_str.ensures.value) attached.same attached.whole _ attached.cause begun.keeper begun.opens begun.config begun.valid begun.holds begun.undamaged
 
-pub returns-in-Ok-start-clause-done : goal.returns-in-Ok-start-clause-done
-returns-in-Ok-start-clause-done g c = λ e.
-    of_run-whole _ _ _ (g.S.Source.shown c.args.source.now) (g.W.Sink.shown c.args.sink.now) (g.W.Sink.shown c.run_script-end.new.sink) (g.K.Keeper.shown c.args.keeper) (g.K.Keeper.shown c.close.result) c.in-Ok-start.cluster c.run_script-end.new.cluster
-    c.in-Some.ensures c.in-Ok.ensures (started g c) c.close.ensures (c.run_script-end.ensures.done (c.status_of_end.ensures.done e))
+pub returns-in-Err-start-clause-complete : goal.returns-in-Err-start-clause-complete
+returns-in-Err-start-clause-complete g c = λ _ _ _ calm sound.
+    inr (inr (wants_memory c.status_of_start.result c.in-Err-start.field-0.fault (g.K.Keeper.shown c.args.keeper) (g.K.Keeper.shown c.attach.new.self) (g.K.Keeper.shown c.in-Err-start.field-0.keeper).faults c.status_of_start.ensures.unbegun c.status_of_start.ensures.keeper_fault
+    c.status_of_start.ensures.damaged (still_ok (g.K.Keeper.shown c.args.keeper).faults (g.K.Keeper.shown c.attach.new.self).faults _ c.in_default.ensures.cause) c.in-Err-start.ensures.failed calm c.in_default.ensures.same sound c.in-Err-start.ensures.damaged))
 
-pub returns-in-Ok-start-clause-cut : goal.returns-in-Ok-start-clause-cut
-returns-in-Ok-start-clause-cut g c = λ e.
-    of_run-front _ _ _ (g.S.Source.shown c.args.source.now) (g.W.Sink.shown c.args.sink.now) (g.W.Sink.shown c.run_script-end.new.sink) (g.K.Keeper.shown c.args.keeper) (g.K.Keeper.shown c.close.result) c.in-Ok-start.cluster c.run_script-end.new.cluster
-    c.in-Some.ensures c.in-Ok.ensures (started g c) c.close.ensures (c.run_script-end.ensures.cut (c.status_of_end.ensures.cut e))
+pub returns-clause-done : goal.returns-clause-done
+returns-clause-done g c = λ e.
+    of_run-whole _ c.in-Ok.run' (g.S.Source.shown c.args.source.now) (g.W.Sink.shown c.args.sink.now) (g.W.Sink.shown c.run_script-end.new.sink) (g.K.Keeper.shown c.args.keeper) (g.K.Keeper.shown c.end_with-in-Ok-start.result.keeper) c.in-Ok-start.cluster c.run_script-end.new.cluster
+    c.in-Ok.ensures.words (started g c) (ap g.K.Keeper.shown c.end_with-in-Ok-start.ensures.1 ∙ c.close.ensures) (c.run_script-end.ensures.done (c.status_of_end.ensures.done (sym c.end_with-in-Ok-start.ensures.0 ∙ e)))
 
-pub returns-in-Ok-start-clause-memory : goal.returns-in-Ok-start-clause-memory
-returns-in-Ok-start-clause-memory g c = λ e.
-    inr (of_run-front _ _ _ (g.S.Source.shown c.args.source.now) (g.W.Sink.shown c.args.sink.now) (g.W.Sink.shown c.run_script-end.new.sink) (g.K.Keeper.shown c.args.keeper) (g.K.Keeper.shown c.close.result) c.in-Ok-start.cluster c.run_script-end.new.cluster
-    c.in-Some.ensures c.in-Ok.ensures (started g c) c.close.ensures (c.run_script-end.ensures.cut (not_done _ (c.status_of_end.ensures.memory e))))
+pub returns-clause-cut : goal.returns-clause-cut
+returns-clause-cut g c = λ e.
+    of_run-front _ c.in-Ok.run' (g.S.Source.shown c.args.source.now) (g.W.Sink.shown c.args.sink.now) (g.W.Sink.shown c.run_script-end.new.sink) (g.K.Keeper.shown c.args.keeper) (g.K.Keeper.shown c.end_with-in-Ok-start.result.keeper) c.in-Ok-start.cluster c.run_script-end.new.cluster
+    c.in-Ok.ensures.words (started g c) (ap g.K.Keeper.shown c.end_with-in-Ok-start.ensures.1 ∙ c.close.ensures) (c.run_script-end.ensures.cut (c.status_of_end.ensures.cut (ap is_cut_short (sym c.end_with-in-Ok-start.ensures.0) ∙ e)))
 
-pub returns-in-Ok-start-clause-too_long : goal.returns-in-Ok-start-clause-too_long
-returns-in-Ok-start-clause-too_long g c = λ e.
-    of_run-long _ _ _ (g.S.Source.shown c.args.source.now) (g.W.Sink.shown c.args.sink.now) (g.W.Sink.shown c.run_script-end.new.sink) (g.K.Keeper.shown c.args.keeper) (g.K.Keeper.shown c.close.result) c.in-Ok-start.cluster c.run_script-end.new.cluster
-    c.in-Some.ensures c.in-Ok.ensures (started g c) c.close.ensures (c.run_script-end.ensures.too_long (c.status_of_end.ensures.too_long e))
+pub returns-clause-memory : goal.returns-clause-memory
+returns-clause-memory g c = λ e.
+    inr (of_run-front _ c.in-Ok.run' (g.S.Source.shown c.args.source.now) (g.W.Sink.shown c.args.sink.now) (g.W.Sink.shown c.run_script-end.new.sink) (g.K.Keeper.shown c.args.keeper) (g.K.Keeper.shown c.end_with-in-Ok-start.result.keeper) c.in-Ok-start.cluster c.run_script-end.new.cluster
+    c.in-Ok.ensures.words (started g c) (ap g.K.Keeper.shown c.end_with-in-Ok-start.ensures.1 ∙ c.close.ensures) (c.run_script-end.ensures.cut (not_done _ (c.status_of_end.ensures.memory (sym c.end_with-in-Ok-start.ensures.0 ∙ e)))))
+
+pub returns-clause-too_long : goal.returns-clause-too_long
+returns-clause-too_long g c = λ e.
+    of_run-long _ c.in-Ok.run' (g.S.Source.shown c.args.source.now) (g.W.Sink.shown c.args.sink.now) (g.W.Sink.shown c.run_script-end.new.sink) (g.K.Keeper.shown c.args.keeper) (g.K.Keeper.shown c.end_with-in-Ok-start.result.keeper) c.in-Ok-start.cluster c.run_script-end.new.cluster
+    c.in-Ok.ensures.words (started g c) (ap g.K.Keeper.shown c.end_with-in-Ok-start.ensures.1 ∙ c.close.ensures) (c.run_script-end.ensures.too_long (c.status_of_end.ensures.too_long (sym c.end_with-in-Ok-start.ensures.0 ∙ e)))
