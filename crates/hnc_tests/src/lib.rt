@@ -6,6 +6,8 @@
 #[cfg(test)]
 mod bodies;
 #[cfg(test)]
+mod files;
+#[cfg(test)]
 mod forests;
 #[cfg(test)]
 mod graphs;
@@ -17,6 +19,8 @@ mod readings;
 mod requests;
 #[cfg(test)]
 mod scripts;
+#[cfg(test)]
+mod starts;
 #[cfg(test)]
 mod stores;
 #[cfg(test)]
