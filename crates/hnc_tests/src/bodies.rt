@@ -10,13 +10,13 @@ use std::alloc::Global;
 const SAID: &str =
     r#"{"metadata":{"name":"x","resourceVersion":"7"},"kind":"ConfigMap","data":1,"apiVersion":"v1"}"#;
 
-/// What a reader gives for a body of the ConfigMap.
-fn read(alloc: Global, reader: &mut BodyReader, said: &str) -> Result<Read, JsonFault>
+/// What reading it gives.
+fn read(alloc: Global) -> Result<Read, JsonFault>
     ensures { IfOk result (λ r. IsLegal r.object) }
 {
     let ns = Text::of(alloc, "a")?;
     let name = Text::of(alloc, "x")?;
-    reader.read_object(said.as_bytes(), Kind::ConfigMap, &ns, Some(&name))
+    BodyReader::new(alloc).read_object(SAID.as_bytes(), Kind::ConfigMap, &ns, Some(&name))
 }
 
 /// Whether the two are one object. Where their texts are the same, a theorem says so.
@@ -30,27 +30,19 @@ fn are_same(one: &Object, other: &Object) -> bool
     one.is_same(other)
 }
 
-/// How many bytes the text of an object has, or none where memory is wanting.
-fn size_of_text(alloc: Global, object: &Object) -> usize
-    requires { IsLegal object.now }
-{
-    match write_object(alloc, object) {
-        Ok(text) => text.as_str().len(),
-        Err(_) => 0,
-    }
-}
-
-/// Whether the text of the object that a body says has so many bytes.
-fn is_written(alloc: Global, said: &str, size: usize) -> bool {
-    match read(alloc, &mut BodyReader::new(alloc), said) {
-        Ok(read) => are_same(&read.object, &read.object)
-            && size_of_text(alloc, &read.object) == size,
-        Err(_) => false,
-    }
+/// How many bytes the text has of the object that the body says.
+fn written(alloc: Global) -> Result<usize, JsonFault> {
+    let read = read(alloc)?;
+    let text = write_object(alloc, &read.object)?;
+    Ok(if are_same(&read.object, &read.object) {
+        text.as_str().len()
+    } else {
+        0
+    })
 }
 
 #[test]
 fn a_body_is_read_and_written(rt: HostRuntime) {
     // {"apiVersion":"v1","data":1,"kind":"ConfigMap","metadata":{"name":"x","namespace":"a","resourceVersion":"0"}}
-    assert!(rt; is_written(rt.alloc(), SAID, 109));
+    assert!(rt; matches!(written(rt.alloc()), Ok(109)));
 }

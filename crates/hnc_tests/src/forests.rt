@@ -1,5 +1,4 @@
 // What is staged, and made or dropped, in a small tree.
-use crate::graphs::{only, plant};
 use hx_forest::{Change, Forest, Halt, Node};
 use hx_object::{NoMemory, Text};
 use std::alloc::Global;
@@ -10,22 +9,21 @@ use std::test::Fail;
 fn add_all(alloc: Global, forest: &mut Forest, rows: &[(&str, &str)]) -> Result<(), NoMemory> {
     for (name, parent) in rows {
         let name = Text::of(alloc, name)?;
-        plant(alloc, forest, name, node_under(alloc, parent)?)?;
+        let parent = match parent.is_empty() {
+            true => None,
+            false => Some(Text::of(alloc, parent)?),
+        };
+        let node = Node {
+            parent,
+            terminating: false,
+            excluded: false,
+        };
+        if forest.node(&name).is_none() {
+            forest.stage(Vec::from_array(alloc, [Change::Add { name, node }])?)?;
+            forest.apply();
+        }
     }
     Ok(())
-}
-
-/// A node with this parent, or with none where the text is empty.
-fn node_under(alloc: Global, parent: &str) -> Result<Node, NoMemory> {
-    let parent = match parent.is_empty() {
-        true => None,
-        false => Some(Text::of(alloc, parent)?),
-    };
-    Ok(Node {
-        parent,
-        terminating: false,
-        excluded: false,
-    })
 }
 
 /// Stages that a namespace gets another parent, where it is there.
@@ -38,7 +36,7 @@ fn stage_move(
     let name = Text::of(alloc, name)?;
     let parent = Some(Text::of(alloc, parent)?);
     if forest.node(&name).is_some() {
-        forest.stage(only(alloc, Change::SetParent { name, parent })?)?;
+        forest.stage(Vec::from_array(alloc, [Change::SetParent { name, parent }])?)?;
     }
     Ok(())
 }
@@ -47,7 +45,7 @@ fn stage_move(
 fn stage_end(alloc: Global, forest: &mut Forest, name: &str) -> Result<(), NoMemory> {
     let name = Text::of(alloc, name)?;
     if forest.node(&name).is_some() {
-        forest.stage(only(alloc, Change::SetTerminating { name })?)?;
+        forest.stage(Vec::from_array(alloc, [Change::SetTerminating { name }])?)?;
     }
     Ok(())
 }
@@ -56,7 +54,7 @@ fn stage_end(alloc: Global, forest: &mut Forest, name: &str) -> Result<(), NoMem
 fn stage_removal(alloc: Global, forest: &mut Forest, name: &str) -> Result<(), NoMemory> {
     let name = Text::of(alloc, name)?;
     if forest.node(&name).is_some() {
-        forest.stage(only(alloc, Change::Remove { name })?)?;
+        forest.stage(Vec::from_array(alloc, [Change::Remove { name }])?)?;
     }
     Ok(())
 }
@@ -90,8 +88,8 @@ fn has_children(
     are(alloc, forest.children(&Text::of(alloc, name)?), wanted)
 }
 
-/// A small tree: web under team under acme, and beta.
-fn add_tree(alloc: Global, forest: &mut Forest) -> Result<(), NoMemory> {
+/// A small tree, and what each staged change leaves of it: none where it is dropped.
+fn changes_are_alike(alloc: Global, forest: &mut Forest) -> Result<bool, NoMemory> {
     add_all(
         alloc,
         forest,
@@ -101,55 +99,27 @@ fn add_tree(alloc: Global, forest: &mut Forest) -> Result<(), NoMemory> {
             ("acme", ""),
             ("beta", ""),
         ],
-    )
-}
-
-/// Whether a removal that is dropped leaves the tree.
-fn drops_a_removal(alloc: Global, forest: &mut Forest) -> Result<bool, NoMemory> {
+    )?;
     stage_removal(alloc, forest, "team")?;
     forest.discard();
     forest.apply();
-    has_chain(alloc, forest, "web", "web team acme ")
-}
-
-/// Whether team moves to beta, but not before the staged move is made.
-fn makes_a_move(alloc: Global, forest: &mut Forest) -> Result<bool, NoMemory> {
+    let dropped = has_chain(alloc, forest, "web", "web team acme ")?;
     stage_move(alloc, forest, "team", "beta")?;
     let staged = has_chain(alloc, forest, "web", "web team acme ")?;
     forest.apply();
-    Ok(staged && has_chain(alloc, forest, "web", "web team beta ")?)
-}
-
-/// Whether web is halted where team is on its way out.
-fn makes_an_end(alloc: Global, forest: &mut Forest) -> Result<bool, NoMemory> {
+    let moved = has_chain(alloc, forest, "web", "web team beta ")?;
     stage_end(alloc, forest, "team")?;
     forest.apply();
-    let web = Text::of(alloc, "web")?;
-    Ok(forest.halt(&web) == Some(Halt::ParentMissing))
-}
-
-/// Whether team goes, and stays the parent of web.
-fn makes_a_removal(alloc: Global, forest: &mut Forest) -> Result<bool, NoMemory> {
+    let halted = forest.halt(&Text::of(alloc, "web")?) == Some(Halt::ParentMissing);
     stage_removal(alloc, forest, "team")?;
     forest.apply();
-    Ok(has_children(alloc, forest, "team", "web ")? && forest.len() == 3)
-}
-
-/// Whether each staged change leaves of the tree what it should: all of it where it is dropped.
-fn changes_are_alike(alloc: Global, forest: &mut Forest) -> Result<bool, NoMemory> {
-    add_tree(alloc, forest)?;
-    Ok(
-        drops_a_removal(alloc, forest)?
-            && makes_a_move(alloc, forest)?
-            && makes_an_end(alloc, forest)?
-            && makes_a_removal(alloc, forest)?,
-    )
+    let removed = has_children(alloc, forest, "team", "web ")? && forest.len() == 3;
+    Ok(dropped && staged && moved && halted && removed)
 }
 
 #[test]
 fn staged_changes_are_made_or_dropped(rt: HostRuntime) -> Result<(), Fail> {
     let mut forest = Forest::new(rt.alloc(), RandomState::new(&rt)?);
-    let are_alike = changes_are_alike(rt.alloc(), &mut forest)?;
-    assert!(rt; are_alike);
+    assert!(rt; changes_are_alike(rt.alloc(), &mut forest)?);
     Ok(())
 }

@@ -1,6 +1,4 @@
 // All graphs of parents on up to four names, beside the plain programs of the definitions.
-ghost use Rattle.std.specs.Prelude.{◌≡◌, ◌∷◌, [], IfOk};
-
 use hx_forest::{Change, Forest, Node};
 use hx_model::plain;
 use hx_object::{NoMemory, Text};
@@ -58,30 +56,16 @@ fn copy_of(node: &Node) -> Result<Node, NoMemory> {
     })
 }
 
-/// A list of one change.
-pub fn only(alloc: Global, change: Change) -> Result<Vec<Change>, NoMemory>
-    ensures { IfOk result (λ changes. changes.items ≡ change ∷ []) }
-{
-    let mut changes = Vec::new(alloc);
-    changes.push(change)?;
-    Ok(changes)
-}
-
-/// Adds a node, where there is none of its name.
-pub fn plant(alloc: Global, forest: &mut Forest, name: Text, node: Node) -> Result<(), NoMemory> {
-    if forest.node(&name).is_none() {
-        forest.stage(only(alloc, Change::Add { name, node })?)?;
-        forest.apply();
-    }
-    Ok(())
-}
-
 /// The forest of the nodes, which are added from the last to the first.
 fn planted(alloc: Global, keys: RandomState, nodes: &[(Text, Node)]) -> Result<Forest, NoMemory> {
     let mut forest = Forest::new(alloc, keys);
     for entry in nodes.iter().rev() {
         let name = entry.0.clone()?;
-        plant(alloc, &mut forest, name, copy_of(&entry.1)?)?;
+        let node = copy_of(&entry.1)?;
+        if forest.node(&name).is_none() {
+            forest.stage(Vec::from_array(alloc, [Change::Add { name, node }])?)?;
+            forest.apply();
+        }
     }
     Ok(forest)
 }
@@ -97,55 +81,6 @@ fn children_of(alloc: Global, nodes: &[(Text, Node)], name: &Text) -> Result<Vec
     Ok(children)
 }
 
-/// Whether a forest has the chain of a name as the plain program does.
-fn has_alike_chain(
-    alloc: Global,
-    forest: &Forest,
-    nodes: &[(Text, Node)],
-    name: &Text,
-) -> Result<bool, NoMemory> {
-    let chain = plain::chain_of(alloc, nodes, name)?;
-    Ok(forest.chain(name)? == chain)
-}
-
-/// Whether it has alike the subtree of a name, without the name.
-fn has_alike_subtree(
-    alloc: Global,
-    forest: &Forest,
-    nodes: &[(Text, Node)],
-    name: &Text,
-) -> Result<bool, NoMemory> {
-    let below = plain::subtree_of(alloc, nodes, name)?;
-    Ok(forest.below(name)? == below)
-}
-
-/// Whether it has alike the children of a name.
-fn has_alike_children(
-    alloc: Global,
-    forest: &Forest,
-    nodes: &[(Text, Node)],
-    name: &Text,
-) -> Result<bool, NoMemory> {
-    let children = children_of(alloc, nodes, name)?;
-    Ok(forest.children(name) == children.as_slice())
-}
-
-/// Whether it has alike the depth, the halt and the parent of a name.
-fn has_alike_place(
-    alloc: Global,
-    forest: &Forest,
-    nodes: &[(Text, Node)],
-    name: &Text,
-) -> Result<bool, NoMemory> {
-    let depth = plain::depth_of(alloc, nodes, name)?;
-    let halt = plain::halt_of(alloc, nodes, name)?;
-    Ok(
-        forest.depth(name) == depth
-            && forest.halt(name) == halt
-            && forest.parent(name) == plain::parent_of(nodes, name),
-    )
-}
-
 /// Whether a forest answers of one name as the plain programs do.
 fn is_alike(
     alloc: Global,
@@ -153,11 +88,16 @@ fn is_alike(
     nodes: &[(Text, Node)],
     name: &Text,
 ) -> Result<bool, NoMemory> {
+    let chain = plain::chain_of(alloc, nodes, name)?;
+    let below = plain::subtree_of(alloc, nodes, name)?;
+    let children = children_of(alloc, nodes, name)?;
     Ok(
-        has_alike_chain(alloc, forest, nodes, name)?
-            && has_alike_subtree(alloc, forest, nodes, name)?
-            && has_alike_children(alloc, forest, nodes, name)?
-            && has_alike_place(alloc, forest, nodes, name)?,
+        forest.chain(name)? == chain
+            && forest.below(name)? == below
+            && forest.children(name) == children.as_slice()
+            && forest.depth(name) == plain::depth_of(alloc, nodes, name)?
+            && forest.halt(name) == plain::halt_of(alloc, nodes, name)?
+            && forest.parent(name) == plain::parent_of(nodes, name),
     )
 }
 
@@ -177,42 +117,17 @@ fn has_alike_below(
     Ok(true)
 }
 
-/// Whether it answers alike of one name, and of what is below it.
-fn has_alike_name(
-    alloc: Global,
-    forest: &Forest,
-    nodes: &[(Text, Node)],
-    name: &str,
-) -> Result<bool, NoMemory> {
-    let name = Text::of(alloc, name)?;
-    Ok(is_alike(alloc, forest, nodes, &name)? && has_alike_below(alloc, forest, nodes, &name)?)
-}
-
 /// Whether it answers alike of all names, one that isn't there among them.
-fn has_alike_names(
-    alloc: Global,
-    forest: &Forest,
-    nodes: &[(Text, Node)],
-) -> Result<bool, NoMemory> {
+fn all_alike(alloc: Global, keys: RandomState, nodes: &[(Text, Node)]) -> Result<bool, NoMemory> {
+    let forest = planted(alloc, keys, nodes)?;
     for name in ["a", "b", "c", "d", "gone"] {
-        if !has_alike_name(alloc, forest, nodes, name)? {
+        let name = Text::of(alloc, name)?;
+        let is_alike = is_alike(alloc, &forest, nodes, &name)?;
+        if !is_alike || !has_alike_below(alloc, &forest, nodes, &name)? {
             return Ok(false);
         }
     }
     Ok(true)
-}
-
-/// Whether the forest of a graph answers as the plain programs do.
-fn is_alike_graph(
-    alloc: Global,
-    keys: RandomState,
-    count: usize,
-    parents: usize,
-    marks: usize,
-) -> Result<bool, NoMemory> {
-    let nodes = graph(alloc, count, parents, marks)?;
-    let forest = planted(alloc, keys, &nodes)?;
-    has_alike_names(alloc, &forest, &nodes)
 }
 
 #[test]
@@ -221,8 +136,11 @@ fn each_graph_is_that_of_the_definitions(rt: HostRuntime) -> Result<(), Fail> {
     for (count, parents, marks) in SIZES {
         for parents in 0..parents {
             for marks in 0..marks {
-                let is_alike = is_alike_graph(rt.alloc(), keys, count, parents, marks)?;
-                assert!(rt; is_alike, "{count} names, parents {parents}, marks {marks}");
+                let nodes = graph(rt.alloc(), count, parents, marks)?;
+                assert!(rt;
+                    all_alike(rt.alloc(), keys, &nodes)?,
+                    "{count} names, parents {parents}, marks {marks}"
+                );
             }
         }
     }

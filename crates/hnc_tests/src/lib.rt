@@ -6,8 +6,6 @@
 #[cfg(test)]
 mod bodies;
 #[cfg(test)]
-mod files;
-#[cfg(test)]
 mod forests;
 #[cfg(test)]
 mod graphs;
@@ -19,8 +17,6 @@ mod readings;
 mod requests;
 #[cfg(test)]
 mod scripts;
-#[cfg(test)]
-mod starts;
 #[cfg(test)]
 mod stores;
 #[cfg(test)]

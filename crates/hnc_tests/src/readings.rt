@@ -2,7 +2,6 @@
 ghost use Rattle.std.specs.Prelude.{IfOk};
 ghost use Rattle.hx_object.specs.Faults.{IsLegal};
 
-use crate::starts::push_times;
 use hx_json::{BodyReader, JsonFault, Read, write_object};
 use hx_object::{Kind, NoMemory, Object, ObjectFault, Text};
 use serde_json::{Map, Value, put};
@@ -265,20 +264,6 @@ fn is_printed(alloc: Global, object: &Object, body: &str) -> Result<bool, NoMemo
     Ok(written.as_str() == printed.as_str())
 }
 
-/// The same of what a body was read as. Of a fault nothing is asked.
-fn is_found_printed(
-    alloc: Global,
-    found: &Result<Read, JsonFault>,
-    body: &str,
-) -> Result<bool, NoMemory>
-    requires { IfOk found.now (λ r. IsLegal r.object) }
-{
-    match found {
-        Ok(read) => is_printed(alloc, &read.object, body),
-        Err(_) => Ok(true),
-    }
-}
-
 /// The same where a body says an object of a kind that keeps its members as they came. Of others nothing is asked.
 fn is_written(
     alloc: Global,
@@ -289,10 +274,10 @@ fn is_written(
     if !matches!(kind, Kind::ConfigMap | Kind::Secret) {
         return Ok(true);
     }
-    let found = read(alloc, reader, kind, body);
-    let is_printed = is_found_printed(alloc, &found, body);
-    drop(found);
-    is_printed
+    match read(alloc, reader, kind, body) {
+        Ok(read) => is_printed(alloc, &read.object, body),
+        Err(_) => Ok(true),
+    }
 }
 
 /// A body as serde_json prints it again, or nothing where it isn't JSON.
@@ -300,38 +285,6 @@ fn reprinted(alloc: Global, body: &str) -> Result<Option<String>, NoMemory> {
     match Value::from_str(alloc, body) {
         Ok(value) => Ok(Some(value.to_string(alloc)?)),
         Err(_) => Ok(None),
-    }
-}
-
-/// Whether a print is read as a body was.
-fn is_found_again(
-    alloc: Global,
-    reader: &mut BodyReader,
-    kind: Kind,
-    print: &str,
-    found: &Result<Read, JsonFault>,
-) -> bool {
-    let other = read(alloc, reader, kind, print);
-    let are_same = are_same(found, &other);
-    drop(other);
-    are_same
-}
-
-fn is_not_json(found: &Result<Read, JsonFault>) -> bool {
-    matches!(found, Err(JsonFault::NotJson))
-}
-
-/// Whether what was found in a body is that which its print says, or that it has no print.
-fn is_found(
-    alloc: Global,
-    reader: &mut BodyReader,
-    kind: Kind,
-    print: &Option<String>,
-    found: &Result<Read, JsonFault>,
-) -> bool {
-    match print {
-        Some(print) => is_found_again(alloc, reader, kind, print.as_str(), found),
-        None => is_not_json(found),
     }
 }
 
@@ -344,9 +297,10 @@ fn is_read(
     print: &Option<String>,
 ) -> bool {
     let found = read(alloc, reader, kind, body);
-    let is_found = is_found(alloc, reader, kind, print, &found);
-    drop(found);
-    is_found
+    match print {
+        Some(print) => are_same(&found, &read(alloc, reader, kind, print.as_str())),
+        None => matches!(&found, Err(JsonFault::NotJson)),
+    }
 }
 
 /// Whether a body is read as serde_json's print of it is, and what it says is written as serde_json prints it.
@@ -360,38 +314,30 @@ fn is_alike(
     Ok(is_read(alloc, reader, kind, body, &print) && is_written(alloc, reader, kind, body)?)
 }
 
-/// Whether a row is read alike in each place.
-fn is_row_alike(
+/// The first place in which a row isn't read alike, or how many there are.
+fn first_unlike(
     alloc: Global,
     reader: &mut BodyReader,
     kind: Kind,
     row: &str,
-) -> Result<bool, NoMemory> {
+) -> Result<usize, NoMemory> {
     for place in 0..PLACES {
         let body = body(alloc, kind, row, place)?;
         if !is_alike(alloc, reader, kind, body.as_str())? {
-            return Ok(false);
+            return Ok(place);
         }
     }
-    Ok(true)
-}
-
-/// Whether a row is read alike in bodies of each kind.
-fn is_alike_in_kinds(alloc: Global, reader: &mut BodyReader, row: &str) -> Result<bool, NoMemory> {
-    for kind in KINDS {
-        if !is_row_alike(alloc, reader, kind, row)? {
-            return Ok(false);
-        }
-    }
-    Ok(true)
+    Ok(PLACES)
 }
 
 #[test]
 fn rows_are_read_alike(rt: HostRuntime) -> Result<(), Fail> {
     let mut reader = BodyReader::new(rt.alloc());
-    for row in ROWS {
-        let is_alike = is_alike_in_kinds(rt.alloc(), &mut reader, row)?;
-        assert!(rt; is_alike, "{row}");
+    for kind in KINDS {
+        for row in ROWS {
+            let place = first_unlike(rt.alloc(), &mut reader, kind, row)?;
+            assert_eq!(rt; place, PLACES, "{row}");
+        }
     }
     Ok(())
 }
@@ -446,18 +392,12 @@ fn orders_are_read_alike(rt: HostRuntime) -> Result<(), Fail> {
 
 /// A body in which so many lists nest in a member.
 fn nested(alloc: Global, depth: usize) -> Result<String, NoMemory> {
-    let mut row = String::from_str(alloc, "\"data\":")?;
-    push_times(&mut row, "[", depth)?;
-    push_times(&mut row, "]", depth)?;
+    let open = vec![in alloc; b'['; depth]?;
+    let close = vec![in alloc; b']'; depth]?;
+    let open = String::from_utf8_lossy(alloc, open.as_slice())?;
+    let close = String::from_utf8_lossy(alloc, close.as_slice())?;
+    let row = format!(in alloc; "\"data\":{}{}", open.as_str(), close.as_str())?;
     body(alloc, Kind::ConfigMap, row.as_str(), 0)
-}
-
-/// Whether a body is read without a fault.
-fn is_taken(alloc: Global, reader: &mut BodyReader, kind: Kind, body: &str) -> bool {
-    let found = read(alloc, reader, kind, body);
-    let is_taken = found.is_ok();
-    drop(found);
-    is_taken
 }
 
 #[test]
@@ -472,9 +412,10 @@ fn depths_are_read_alike(rt: HostRuntime) -> Result<(), Fail> {
         (128, false),
     ] {
         let body = nested(rt.alloc(), lists)?;
-        let is_taken = is_taken(rt.alloc(), &mut reader, Kind::ConfigMap, body.as_str());
+        let found = read(rt.alloc(), &mut reader, Kind::ConfigMap, body.as_str());
+        assert_eq!(rt; found.is_ok(), is_read, "{lists} lists");
         let is_alike = is_alike(rt.alloc(), &mut reader, Kind::ConfigMap, body.as_str())?;
-        assert_eq!(rt; (is_taken, is_alike), (is_read, true), "{lists} lists");
+        assert!(rt; is_alike, "{lists} lists");
     }
     Ok(())
 }

@@ -1,48 +1,45 @@
 // What lines at the edges of the script's forms are answered, over ports that can't fail.
-use crate::starts::start;
-use hx_core::{Cluster, StartFault};
+use hx_core::{Cluster, Unstarted};
+use hx_model::RunConfig;
+use hx_object::List;
 use hx_ports::{Keeper, Meta, SureKeeper, SureSink, SureSource};
 use hx_script::{RunEnd, run_script};
 use std::alloc::{AllocError, Global};
 use std::hash::RandomState;
 use std::test::Fail;
 
-/// A cluster without objects, over a keeper that can't fail.
-fn empty_cluster(alloc: Global, keys: RandomState) -> Result<Cluster<SureKeeper>, StartFault> {
+/// How a run of the script ends, and what it answers.
+pub fn answers(
+    alloc: Global,
+    keys: RandomState,
+    script: &[u8],
+    room: usize,
+) -> Result<(RunEnd, SureSink), AllocError> {
+    let mut source = SureSource::new(Vec::from_slice(alloc, script)?, 4096);
+    let mut sink = SureSink::new(Vec::with_capacity(alloc, room)?);
     let meta = Meta {
         schema: 2,
         version: 0,
         rows: 0,
     };
     let mut keeper = SureKeeper::new(Vec::new(alloc), meta);
-    keeper.attach("")?;
-    start(alloc, keeper, keys)
-}
-
-/// How a run of the script on a cluster ends, and what it answers.
-fn run_on(
-    alloc: Global,
-    mut cluster: Cluster<SureKeeper>,
-    mut source: SureSource,
-    mut sink: SureSink,
-) -> (RunEnd, SureSink) {
-    let end = run_script(alloc, &mut source, &mut sink, &mut cluster);
-    drop(cluster.close());
-    (end, sink)
-}
-
-/// How a run of the script ends, and what it answers.
-fn answers(
-    alloc: Global,
-    keys: RandomState,
-    script: &[u8],
-    room: usize,
-) -> Result<(RunEnd, SureSink), AllocError> {
-    let source = SureSource::new(Vec::from_slice(alloc, script)?, 4096);
-    let sink = SureSink::new(Vec::with_capacity(alloc, room)?);
-    match empty_cluster(alloc, keys) {
-        Ok(cluster) => Ok(run_on(alloc, cluster, source, sink)),
-        Err(_) => Err(AllocError),
+    if keeper.attach("").is_err() {
+        return Err(AllocError);
+    }
+    let config = RunConfig {
+        excluded: List::of(Vec::new(alloc)),
+        allow_skip: false,
+    };
+    match Cluster::start(alloc, keeper, config, keys) {
+        Err(Unstarted { fault: _, keeper }) => {
+            drop(keeper);
+            Err(AllocError)
+        }
+        Ok(mut cluster) => {
+            let end = run_script(alloc, &mut source, &mut sink, &mut cluster);
+            drop(cluster.close());
+            Ok((end, sink))
+        }
     }
 }
 
@@ -55,23 +52,6 @@ fn codes_of(alloc: Global, answers: &[u8]) -> Result<Vec<u8>, AllocError> {
         }
     }
     Ok(codes)
-}
-
-/// A script of a byte so often, and what follows.
-fn script_of(alloc: Global, byte: u8, count: usize, rest: &[u8]) -> Result<Vec<u8>, AllocError> {
-    let mut script = vec![in alloc; byte; count]?;
-    script.extend_from_slice(rest)?;
-    Ok(script)
-}
-
-/// How a run of the script ends, and the codes that it answers.
-fn codes_of_run(
-    alloc: Global,
-    keys: RandomState,
-    script: &[u8],
-) -> Result<(RunEnd, Vec<u8>), AllocError> {
-    let (end, sink) = answers(alloc, keys, script, 4096)?;
-    Ok((end, codes_of(alloc, sink.bytes())?))
 }
 
 #[test]
@@ -89,9 +69,11 @@ fn lines(rt: HostRuntime) -> Result<(), Fail> {
         (b'x', 131_072, b"\xff", "413 "),
         (b'x', 200_000, b"\r\n", "413 "),
     ] {
-        let script = script_of(rt.alloc(), byte, count, rest)?;
-        let (end, found) = codes_of_run(rt.alloc(), keys, script.as_slice())?;
+        let mut script = vec![in rt.alloc(); byte; count]?;
+        script.extend_from_slice(rest)?;
+        let (end, sink) = answers(rt.alloc(), keys, script.as_slice(), 4096)?;
         assert_eq!(rt; end, RunEnd::Done);
+        let found = codes_of(rt.alloc(), sink.bytes())?;
         assert_eq!(rt; found.as_slice(), codes.as_bytes(), "{count} of {byte}");
     }
     Ok(())

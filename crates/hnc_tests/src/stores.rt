@@ -156,29 +156,6 @@ fn are_alike(store: &Store, objects: &[Object]) -> Result<bool, NoMemory> {
     )
 }
 
-/// The next of a row of numbers.
-fn next(number: usize) -> usize {
-    number.wrapping_mul(1_103_515_245).wrapping_add(12_345) >> 8
-}
-
-/// Up to three writes, by a number that moves on.
-fn some_changes(alloc: Global, number: &mut usize, version: u64) -> Result<Vec<Change>, NoMemory> {
-    let mut changes = Vec::new(alloc);
-    for _ in 0..*number % 4 {
-        *number = next(*number);
-        changes.push(change(alloc, *number, version)?)?;
-    }
-    *number = next(*number);
-    Ok(changes)
-}
-
-fn make_all(objects: &mut Vec<Object>, changes: &[Change]) -> Result<(), NoMemory> {
-    for change in changes {
-        make(objects, change)?;
-    }
-    Ok(())
-}
-
 #[test]
 fn a_store_answers_as_a_list(rt: HostRuntime) -> Result<(), Fail> {
     let alloc = rt.alloc();
@@ -186,15 +163,22 @@ fn a_store_answers_as_a_list(rt: HostRuntime) -> Result<(), Fail> {
     let mut objects = Vec::new(alloc);
     let mut number: usize = 1;
     for version in 1..400u64 {
-        store.stage(some_changes(alloc, &mut number, version)?)?;
+        let mut changes = Vec::new(alloc);
+        for _ in 0..number % 4 {
+            number = number.wrapping_mul(1_103_515_245).wrapping_add(12_345) >> 8;
+            changes.push(change(alloc, number, version)?)?;
+        }
+        number = number.wrapping_mul(1_103_515_245).wrapping_add(12_345) >> 8;
+        store.stage(changes)?;
         if number % 5 == 0 {
             store.discard();
         } else {
-            make_all(&mut objects, store.staged())?;
+            for change in store.staged() {
+                make(&mut objects, change)?;
+            }
             store.apply(version);
         }
-        let are_alike = are_alike(&store, objects.as_slice())?;
-        assert!(rt; are_alike, "version {version}");
+        assert!(rt; are_alike(&store, objects.as_slice())?, "version {version}");
     }
     Ok(())
 }
