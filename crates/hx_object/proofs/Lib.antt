@@ -3,3 +3,4 @@ pub mod KindTests
 pub mod NameExamples
 pub mod Sameness
 pub mod Sizes
+pub mod Putting

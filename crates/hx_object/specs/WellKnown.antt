@@ -20,3 +20,23 @@ subnamespace_of = codes "hnc.x-k8s.io/subnamespace-of"
 -- the only name of a HierarchyConfiguration
 abbrev pub hierarchy : List ℕ
 hierarchy = codes "hierarchy"
+
+-- the only name of an HNCConfiguration
+abbrev pub config : List ℕ
+config = codes "config"
+
+-- the exceptions to propagation, which are annotations: a selector of labels
+abbrev pub select_exception : List ℕ
+select_exception = codes "propagate.hnc.x-k8s.io/select"
+
+-- names of namespaces whose subtrees a source goes to, or doesn't
+abbrev pub tree_select_exception : List ℕ
+tree_select_exception = codes "propagate.hnc.x-k8s.io/treeSelect"
+
+-- `true` where a source goes nowhere
+abbrev pub none_exception : List ℕ
+none_exception = codes "propagate.hnc.x-k8s.io/none"
+
+-- the ConfigMap of certificates that Kubernetes keeps in each namespace
+abbrev pub root_certificates : List ℕ
+root_certificates = codes "kube-root-ca.crt"

@@ -126,8 +126,9 @@ pub(crate) fn is_counted(label: &(Text, Text)) -> bool
     !is_tree_key(label.0.as_bytes()) && !is_reconciled_key(label.0.as_bytes())
 }
 
+/// Whether the key is that of a label of the tree, by which a namespace tells an ancestor (HNC user guide, "Hierarchical labels").
 #[tactic(auto, unfolding(crate::specs::Sizes::is_tree_key))]
-fn is_tree_key(key: &[u8]) -> bool
+pub fn is_tree_key(key: &[u8]) -> bool
     ensures { result ≡ is_tree_key key.now }
 {
     TREE_SUFFIX.len() < key.len() && key.ends_with(TREE_SUFFIX.as_bytes())

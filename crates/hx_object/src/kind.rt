@@ -1,7 +1,7 @@
 // The kinds of objects.
 ghost use Rattle.std.specs.Prelude.{◌≡◌, find};
 ghost use Rattle.std.specs.Str.{bytes_eq};
-ghost use Rattle.hx_object.specs.Kinds.{kind_row, number_of, resource_of, is_in_cluster, is_namespace, is_hierarchy, can_be_copied, kind_of_plural, name_of, api_version_of, plural_of};
+ghost use Rattle.hx_object.specs.Kinds.{kind_row, number_of, resource_of, is_in_cluster, is_namespace, is_hierarchy, can_be_copied, kind_of_plural, name_of, api_version_of, group_of, plural_of};
 
 /// A kind of object: a resource of the Kubernetes core, RBAC or networking API, or of HNC's own group `hnc.x-k8s.io/v1alpha2`.
 ///
@@ -35,6 +35,8 @@ enum Scope {
 #[derive(Clone, Copy)]
 struct Row {
     number: u8,
+    /// The API group. The core group is the empty text.
+    group: &'static str,
     plural: &'static str,
     /// The plural, and behind a point the API group where that isn't the core group.
     resource: &'static str,
@@ -49,6 +51,7 @@ macro_rules! row {
     ($number:literal, "", $version:literal, $plural:literal, $name:literal, $scope:ident) => {
         Row {
             number: $number,
+            group: "",
             plural: $plural,
             resource: $plural,
             name: $name,
@@ -59,6 +62,7 @@ macro_rules! row {
     ($number:literal, $group:literal, $version:literal, $plural:literal, $name:literal, $scope:ident) => {
         Row {
             number: $number,
+            group: $group,
             plural: $plural,
             resource: concat!($plural, ".", $group),
             name: $name,
@@ -81,6 +85,7 @@ impl Kind {
     /// The kind's row in the table of kinds.
     fn row(self) -> Row
         ensures number { result.number ≡ number_of self }
+        ensures group { result.group.now ≡ group_of self }
         ensures plural { result.plural.now ≡ plural_of self }
         ensures name { result.name.now ≡ name_of self }
         ensures resource { result.resource.now ≡ resource_of self }
@@ -117,6 +122,20 @@ impl Kind {
         ensures { result ≡ is_in_cluster self }
     {
         matches!(self.row().scope, Scope::Cluster)
+    }
+
+    /// The API group of the kind. The core group is the empty text.
+    pub fn group(self) -> &'static str
+        ensures { result.now ≡ group_of self }
+    {
+        self.row().group
+    }
+
+    /// The plural under which objects of the kind are listed.
+    pub fn plural(self) -> &'static str
+        ensures { result.now ≡ plural_of self }
+    {
+        self.row().plural
     }
 
     /// The name of the kind's resource as messages give it: the plural, and behind a point the API group where that isn't the core group.

@@ -17,11 +17,12 @@ mod size;
 mod text;
 pub mod well_known;
 
+pub use faults::is_tree_key;
 pub use kind::Kind;
 pub use list::List;
 pub use members::{Members, Places};
 pub use memory::NoMemory;
-pub use names::is_dns_label;
+pub use names::{is_dns_label, is_label_key, is_label_value};
 pub use object::{
     AnchorStatus, Condition, Container, Id, Limit, Mode, ModeEntry, Need, Object, ObjectFault,
     Payload, Usage,

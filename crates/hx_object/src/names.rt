@@ -54,8 +54,8 @@ pub(crate) fn is_name_of(kind: Kind, name: &[u8]) -> bool
     }
 }
 
-/// Whether the bytes may be the key of a label.
-pub(crate) fn is_label_key(key: &[u8]) -> bool
+/// Whether the bytes may be the key of a label ("Labels and Selectors" of the Kubernetes documentation).
+pub fn is_label_key(key: &[u8]) -> bool
     ensures { result ≡ is_label_key key.now }
 {
     is_key(false, key)
@@ -68,8 +68,8 @@ pub(crate) fn is_annotation_key(key: &[u8]) -> bool
     is_key(true, key)
 }
 
-/// Whether the bytes may be the value of a label.
-pub(crate) fn is_label_value(value: &[u8]) -> bool
+/// Whether the bytes may be the value of a label: empty, or 1 to 63 letters, digits, `-`, `_` and `.`, with a letter or digit at either end.
+pub fn is_label_value(value: &[u8]) -> bool
     ensures { result ≡ is_label_value value.now }
 {
     value.is_empty() || is_qualified_part(value)

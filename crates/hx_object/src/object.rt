@@ -175,6 +175,13 @@ impl Id {
 }
 
 impl Payload {
+    /// Another payload that is equal to this one.
+    pub fn copy(&self) -> Result<Payload, NoMemory>
+        ensures { IfOk result (λ p. p ≡ self.now) }
+    {
+        Ok(self.clone()?)
+    }
+
     /// Whether the two are one payload.
     #[tactic(auto, using(crate::proofs::Sameness::same_payload_from))]
     pub fn is_same(&self, other: &Payload) -> bool

@@ -1,9 +1,11 @@
 // Labels and annotations.
-ghost use Rattle.std.specs.Prelude.{◌≡◌, ◌↔◌, IsTrue, option_copied, []};
+ghost use Rattle.std.specs.Prelude.{◌≡◌, ◌↔◌, IsTrue, OnErr, OnOk, option_copied, [], is_ok, length, take_while, if◌then◌else◌};
+ghost use Rattle.std.specs.Ordering.{is_gt};
 ghost use Rattle.std.specs.Cmp.Lexicographic.{pointwise};
-ghost use Rattle.hx_object.specs.Pairs.{has_ascending_keys, value_of, same_pair, same_pairs_law, same_pairs_partial};
+ghost use Rattle.hx_object.specs.Pairs.{has_ascending_keys, value_of, with_pair, same_pair, same_pairs_law, same_pairs_partial};
+ghost use Rattle.hx_object.specs.Texts.{bytes_cmp};
 
-use crate::Text;
+use crate::{NoMemory, Text};
 use std::alloc::{AllocError, Global};
 use std::marker::Model;
 
@@ -71,6 +73,14 @@ impl Pairs {
         value_in(self.items.as_slice(), key)
     }
 
+    /// Puts a value for a key, in its place among the keys. Where the key is there, its value goes. Nothing is changed where no memory is left.
+    pub fn put(&mut self, key: Text, value: Text) -> Result<(), NoMemory>
+        ensures ok { OnOk result (self.new ≡ with_pair key value self.old) }
+        ensures err { OnErr result (self.new ≡ self.old) }
+    {
+        put_in(&mut self.items, key, value)
+    }
+
     /// Whether the two are the same pairs.
     #[tactic(auto, using(crate::proofs::Sameness::same_pairs_from))]
     pub fn is_same(&self, other: &Pairs) -> bool
@@ -89,6 +99,25 @@ fn value_in<'a>(pairs: &'a [(Text, Text)], key: &str) -> Option<&'a Text>
         }
     }
     None
+}
+
+fn put_in(pairs: &mut Vec<(Text, Text)>, key: Text, value: Text) -> Result<(), NoMemory>
+    ensures { pairs.new.items ≡ (if is_ok result then with_pair key value pairs.old.items else pairs.old.items) }
+{
+    let place = place_of(pairs, &key);
+    if place < pairs.len() && pairs[place].0 == key {
+        pairs[place] = (key, value);
+    } else {
+        pairs.insert(place, (key, value))?;
+    }
+    Ok(())
+}
+
+/// How many pairs stand before the place of a key.
+fn place_of(pairs: &[(Text, Text)], key: &Text) -> usize
+    ensures { result ≡ length (take_while (λ pair. is_gt (bytes_cmp key.now pair.0)) pairs.now) }
+{
+    pairs.iter().take_while(|pair| *key > pair.0).count()
 }
 
 impl Clone for Pairs {

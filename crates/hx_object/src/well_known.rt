@@ -14,3 +14,18 @@ pub const SUBNAMESPACE_OF: &str = "hnc.x-k8s.io/subnamespace-of";
 
 /// The only name of a HierarchyConfiguration.
 pub const HIERARCHY: &str = "hierarchy";
+
+/// The only name of an HNCConfiguration.
+pub const CONFIG: &str = "config";
+
+/// The exception that names labels of the namespaces which a source goes to: a selector.
+pub const SELECT_EXCEPTION: &str = "propagate.hnc.x-k8s.io/select";
+
+/// The exception that names namespaces whose subtrees a source goes to, or doesn't.
+pub const TREE_SELECT_EXCEPTION: &str = "propagate.hnc.x-k8s.io/treeSelect";
+
+/// The exception that is `true` where a source goes nowhere.
+pub const NONE_EXCEPTION: &str = "propagate.hnc.x-k8s.io/none";
+
+/// The ConfigMap of certificates that Kubernetes keeps in each namespace. It is propagated nowhere.
+pub const ROOT_CERTIFICATES: &str = "kube-root-ca.crt";
