@@ -1,0 +1,4 @@
+pub mod Inside
+pub mod Tokens
+pub mod Selectors
+pub mod TreeSelects
