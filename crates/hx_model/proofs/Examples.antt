@@ -12,6 +12,7 @@ use Rattle.hx_object.specs.declared.object.Object.{Object}
 use Rattle.hx_object.specs.declared.object.Payload.TheVariants.{Namespace as NamespaceOf, Hierarchy, Anchor, Plain}
 use Rattle.hx_object.specs.declared.object.Condition.TheVariants.{ParentMissing, AnchorMissing}
 use Rattle.hx_object.specs.declared.object.AnchorStatus.TheVariants.{Ok}
+use Rattle.hx_select.specs.Selectors.{everything}
 use Rattle.hx_model.specs.declared.ask.Ask.TheVariants.{Get, List as ListOf, Create, Replace, Delete}
 use Rattle.hx_model.specs.declared.ask.Answer.TheVariants.{One, Many, Gone, Refused as Refusing}
 use Rattle.hx_model.specs.declared.refusal.Refusal.TheVariants.{BadQuery, NotKind, Broken, NoPath, NotFound, NoMethod, Exists, OtherVersion, TooLong, Missing, WrongType, NotServed}
@@ -202,22 +203,22 @@ replacements =
     ∷ []
 
 pub replacements_legal : IsHistory (opening_world false (opening_state no_config 0)) replacements
-unfolding same_object counts
+unfolding same_object counts is_copy
 replacements_legal = ((refl, λ _. refl), ((refl, λ _. refl), ((refl, λ _. refl), ((refl, λ _. refl), ((refl, λ _. refl), tt)))))
 
 pub replacements_leave : replay (opening_world false (opening_state no_config 0)) replacements ≡ record { state = record { objects = labelled 2 ∷ []; last = 2; config = no_config }; hands = []; broken = false; torn = None }
-unfolding same_object counts
+unfolding same_object counts is_copy
 replacements_leave = refl
 
 -- the same content leaves the state as it is
 pub same_content : answer_to (record { objects = stored acme 1 ∷ []; last = 4; config = no_config }) (Replace (new_namespace acme) (Some 1) false) ≡ (One (stored acme 1) false, record { objects = stored acme 1 ∷ []; last = 4; config = no_config })
-unfolding same_object counts
+unfolding same_object counts is_copy
 same_content = refl
 
 -- a terminating namespace goes on terminating when it gets a label
 pub same_phase : answer_to (record { objects = record (stored acme 1) { payload = NamespaceOf true } ∷ []; last = 4; config = no_config }) (Replace (labelled 0) None false)
     ≡ (One (record (labelled 5) { payload = NamespaceOf true }) false, record { objects = record (labelled 5) { payload = NamespaceOf true } ∷ []; last = 5; config = no_config })
-unfolding same_object counts
+unfolding same_object counts is_copy
 same_phase = refl
 
 -- a ConfigMap wants its namespace, is listed where it lies, and is removed once
@@ -226,12 +227,12 @@ config_requests =
     Request (Create (config acme (codes "c") 0) false) (Refusing (NotFound Namespace acme))
     ∷ Request (Create (new_namespace acme) false) (One (stored acme 1) true)
     ∷ Request (Create (config acme (codes "c") 0) false) (One (config acme (codes "c") 2) true)
-    ∷ Request (ListOf ConfigMap (Some acme)) (Many ConfigMap (config acme (codes "c") 2 ∷ []) 2)
-    ∷ Request (ListOf ConfigMap (Some team)) (Many ConfigMap [] 2)
+    ∷ Request (ListOf ConfigMap (Some acme) everything) (Many ConfigMap (config acme (codes "c") 2 ∷ []) 2)
+    ∷ Request (ListOf ConfigMap (Some team) everything) (Many ConfigMap [] 2)
     ∷ Request (Delete (config_id acme (codes "c")) false) (Gone 3)
     ∷ Request (Get (config_id acme (codes "c"))) (Refusing (NotFound ConfigMap (codes "c")))
     ∷ Request (Delete (config_id acme (codes "c")) false) (Refusing (NotFound ConfigMap (codes "c")))
-    ∷ Request (ListOf ConfigMap None) (Many ConfigMap [] 3)
+    ∷ Request (ListOf ConfigMap None everything) (Many ConfigMap [] 3)
     ∷ []
 
 pub config_requests_legal : IsHistory (opening_world false (opening_state no_config 0)) config_requests
@@ -251,9 +252,9 @@ listings =
     ∷ Request (Create (new_namespace (codes "a")) false) (One (stored (codes "a") 3) true)
     ∷ Request (Create (config (codes "a") (codes "d") 0) false) (One (config (codes "a") (codes "d") 4) true)
     ∷ Request (Create (config (codes "a") (codes "b") 0) false) (One (config (codes "a") (codes "b") 5) true)
-    ∷ Request (ListOf ConfigMap None) (Many ConfigMap (config (codes "a") (codes "b") 5 ∷ config (codes "a") (codes "d") 4 ∷ config (codes "a-b") (codes "c") 2 ∷ []) 5)
-    ∷ Request (ListOf ConfigMap (Some (codes "a"))) (Many ConfigMap (config (codes "a") (codes "b") 5 ∷ config (codes "a") (codes "d") 4 ∷ []) 5)
-    ∷ Request (ListOf Namespace None) (Many Namespace (stored (codes "a") 3 ∷ stored (codes "a-b") 1 ∷ []) 5)
+    ∷ Request (ListOf ConfigMap None everything) (Many ConfigMap (config (codes "a") (codes "b") 5 ∷ config (codes "a") (codes "d") 4 ∷ config (codes "a-b") (codes "c") 2 ∷ []) 5)
+    ∷ Request (ListOf ConfigMap (Some (codes "a")) everything) (Many ConfigMap (config (codes "a") (codes "b") 5 ∷ config (codes "a") (codes "d") 4 ∷ []) 5)
+    ∷ Request (ListOf Namespace None everything) (Many Namespace (stored (codes "a") 3 ∷ stored (codes "a-b") 1 ∷ []) 5)
     ∷ []
 
 pub listings_legal : IsHistory (opening_world false (opening_state no_config 0)) listings
@@ -274,7 +275,7 @@ abbrev used_up : History
 used_up =
     Request (Create (new_namespace acme) false) (Refusing (Broken L4))
     ∷ Request (Get (namespace_id acme)) (Refusing (NotFound Namespace acme))
-    ∷ Request (ListOf Namespace None) (Many Namespace [] 9223372036854775807)
+    ∷ Request (ListOf Namespace None everything) (Many Namespace [] 9223372036854775807)
     ∷ []
 
 pub used_up_legal : IsHistory (opening_world false (opening_state no_config 9223372036854775807)) used_up
@@ -323,7 +324,7 @@ no_write_when_broken legal = true≢false (legal.1 (refl, λ none. cc))
 
 -- a broken store answers a replacement by the same content, which writes nothing
 pub same_content_when_broken : IsLegal (record { state = record { objects = stored acme 1 ∷ []; last = 1; config = no_config }; hands = []; broken = true; torn = None }) (Request (Replace (new_namespace acme) None false) (One (stored acme 1) false))
-unfolding same_object counts
+unfolding same_object counts is_copy
 same_content_when_broken = (refl, λ changes. absurd (changes.1 refl))
 
 -- an answer from another state isn't legal

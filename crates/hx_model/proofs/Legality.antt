@@ -12,6 +12,7 @@ use Rattle.hx_object.specs.Kinds.{is_in_cluster}
 use Rattle.hx_object.specs.Names.{is_dns_label, is_dns_byte, is_dns_end, is_name_of, has_length, has_ends}
 use Rattle.hx_object.specs.Sizes.{size_of, specified_size, hierarchy_size, quota_size}
 use Rattle.hx_object.specs.declared.kind.Kind.{Kind}
+use Rattle.hx_object.specs.declared.kind.Kind.TheVariants.{Secret}
 use Rattle.hx_object.specs.declared.object.Object.{Object}
 use Rattle.hx_object.specs.declared.object.AnchorStatus.{AnchorStatus}
 use Rattle.hx_object.specs.declared.object.Condition.{Condition}
@@ -23,7 +24,7 @@ use Rattle.hx_object.specs.declared.object.Payload.{Payload}
 use Rattle.hx_object.specs.declared.object.Payload.TheVariants.{Namespace as NamespaceOf, Config, Hierarchy, Anchor, Quota, Plain}
 use Rattle.hx_model.specs.State.{with_version}
 use Rattle.hx_model.specs.Answers.{with_status, replaced_by}
-use Rattle.hx_model.specs.Serving.{IsGiven, is_given}
+use Rattle.hx_model.specs.Serving.{IsGiven, is_given, is_typed}
 use Rattle.hx_model.proofs.Storing.{HasNoSlash, IsKeyed}
 
 -- ---- versions
@@ -91,7 +92,7 @@ same_size old x = rw (same_specified old.payload x.payload) refl
 -- ---- what requests give
 
 pub given_with_version : (x : Object) (version : ℕ) → IsGiven x → IsGiven (with_version x version)
-given_with_version x version given = record { labels = given.labels; annotations = given.annotations; payload = given.payload }
+given_with_version x version given = record { labels = given.labels; annotations = given.annotations; payload = given.payload; typed = given.typed }
 
 still_given : (old x : Payload) → is_given old ≡ true → is_given x ≡ true → is_given (with_status old x) ≡ true
 still_given (NamespaceOf t) (NamespaceOf u) p q = p
@@ -103,11 +104,16 @@ still_given (Quota h []) (Quota k t) p q = refl
 still_given (Quota h (s ∷ ss)) (Quota k t) p q = p
 still_given old x p q = q
 
+still_typed : (kind : Kind) (old x : Payload) → is_typed kind x ≡ true → is_typed kind (with_status old x) ≡ true
+still_typed Secret old x is = by_status (λ x y. is_typed Secret x ≡ true → is_typed Secret y ≡ true) (λ t u is. is) (λ p c a b d e is. is) (λ s t is. is) (λ h s t is. is) (λ x is. is) old x is
+still_typed kind old x is = refl
+
 pub given_replaced : (old x : Object) → IsGiven old → IsGiven x → IsGiven (replaced_by old x)
 given_replaced old x before given = record {
   labels = given.labels;
   annotations = given.annotations;
   payload = still_given old.payload x.payload before.payload given.payload;
+  typed = still_typed x.id.kind old.payload x.payload given.typed;
 }
 
 -- ---- keys

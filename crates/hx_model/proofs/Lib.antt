@@ -10,8 +10,13 @@ pub mod Climbing
 pub mod Parents
 pub mod Walking
 pub mod Moving
+pub mod Opening
 pub mod Planting
+pub mod Conflicting
 pub mod Listing
 pub mod Examples
 pub mod TreeExamples
+pub mod RuleExamples
+pub mod PropagationExamples
 pub mod NextParents
+pub mod Displacing

@@ -187,7 +187,7 @@ far_apart f n None m apart has mem = true≢false (sym mem)
 far_apart f n (Some p) m apart has mem = true≢false (sym (chain_trans f p m n mem has) ∙ apart)
 
 -- the chain of a namespace before n doesn't come back to it
-no_return : (f : Forest) (n : List ℕ) (parent : Option (List ℕ)) (m q : List ℕ) (i : ℕ) → IsApart f n parent → Steps f n m (suc i) → Steps f n q i → in_chain (with_parent n parent f) q m ≡ false
+pub no_return : (f : Forest) (n : List ℕ) (parent : Option (List ℕ)) (m q : List ℕ) (i : ℕ) → IsApart f n parent → Steps f n m (suc i) → Steps f n q i → in_chain (with_parent n parent f) q m ≡ false
 no_return f n parent m q i apart long short = false_from_ne_true (in_chain (with_parent n parent f) q m) (λ h.
     elim (on_the_way f n parent q m i apart short (chain_above (with_parent n parent f) q m h)) [
       | inl near ↦ omega (arith, near.1, one_count f n m (suc i) near.0 long near.2)

@@ -3,18 +3,14 @@ use Rattle.std.proofs.Common.{◌≡◌, ℕ, Bool, true, false, cond, not, ◌&
 use Rattle.std.proofs.lemmas.Bool.{and_parts, and_from, or_cases, or_left, not-true, not_from_false, false_from_ne_true}
 use Rattle.std.specs.Str.{bytes_eq}
 use Rattle.hx_model.specs.Forest.{Forest, is_in, names_of, is_there, parent_of, goes_on, chain_of, in_chain, subtree_of}
+pub use Rattle.hx_model.specs.Moves.{up_to}
 use Rattle.hx_model.proofs.Climbing.{Climbs, at_top, stopped, onward, chain-Climbs, is_same, same_itself, one_end, stop_reason, is_in_push}
 
--- the names before n
-abbrev pub up_to : List ℕ → List (List ℕ) → List (List ℕ)
-up_to n [] = []
-up_to n (m ∷ ms) = cond (bytes_eq n m) [] (m ∷ up_to n ms)
-
-out_head : (a b : Bool) → (a || b) ≡ false → a ≡ false
+pub out_head : (a b : Bool) → (a || b) ≡ false → a ≡ false
 out_head true b h = h
 out_head false b h = refl
 
-out_tail : (a b : Bool) → (a || b) ≡ false → b ≡ false
+pub out_tail : (a b : Bool) → (a || b) ≡ false → b ≡ false
 out_tail true b h = absurd (true≢false h)
 out_tail false b h = h
 

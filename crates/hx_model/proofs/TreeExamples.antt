@@ -17,7 +17,7 @@ use Rattle.hx_model.specs.declared.rule.Rule.TheVariants.{X1, H7, N3, H1, H2, H3
 use Rattle.hx_model.specs.State.{State, Objects, ascends, with_version}
 use Rattle.hx_model.specs.Texts.{new_namespace, two_digits}
 use Rattle.hx_model.specs.Replies.{status_text}
-use Rattle.hx_model.specs.Limits.{counts}
+use Rattle.hx_model.specs.Limits.{is_copy, counts}
 use Rattle.hx_model.specs.Forest.{chain_of, depth_of, subtree_of, halt_of}
 use Rattle.hx_model.specs.Tree.{hierarchy_id, forest_of}
 use Rattle.hx_model.specs.Answers.{same_object, answer_to, refusal_of}
@@ -108,12 +108,15 @@ pub rooted_in_order : ascends rooted.objects ≡ true
 rooted_in_order = refl
 
 pub put_under_app : answer_to rooted (Replace (under acme app 0) None false) ≡ (Refused (Broken H2), rooted)
+unfolding is_copy
 put_under_app = refl
 
 pub put_under_itself : answer_to rooted (Replace (under acme acme 0) None false) ≡ (Refused (Broken H2), rooted)
+unfolding is_copy
 put_under_itself = refl
 
 pub put_under_gone : answer_to rooted (Replace (under acme gone 0) None false) ≡ (Refused (Broken H1), rooted)
+unfolding is_copy
 put_under_gone = refl
 
 -- ---- a ring
@@ -162,11 +165,11 @@ chain_of_c = refl
 
 -- c doesn't leave while an ancestor is halted, and a may
 pub c_stays : answer_to ring (Replace (root c 0) None false) ≡ (Refused (Broken H4), ring)
-unfolding same_object
+unfolding is_copy same_object
 c_stays = refl
 
 pub a_leaves : refusal_of ring (Replace (root a 0) None false) ≡ None
-unfolding same_object counts
+unfolding is_copy same_object counts
 a_leaves = refl
 
 -- ---- the greatest depth
@@ -213,6 +216,7 @@ pub nested_in_order : ascends nested.objects ≡ true
 nested_in_order = refl
 
 pub put_unannotated : answer_to nested (Replace (new_namespace team) None false) ≡ (Refused (Broken N3), nested)
+unfolding is_copy
 put_unannotated = refl
 
 -- the annotation names the parent
@@ -244,7 +248,7 @@ lost = state (stored team 1 ∷ under team gone 2 ∷ []) 2
 
 -- a PUT that names the same parent brings no new one
 pub same_parent : answer_to lost (Replace (named team (Some gone) true 0) None false) ≡ (One (named team (Some gone) true 3) false, record lost { objects = stored team 1 ∷ named team (Some gone) true 3 ∷ []; last = 3 })
-unfolding same_object counts
+unfolding is_copy same_object counts
 same_parent = refl
 
 -- ---- what is said of a broken rule

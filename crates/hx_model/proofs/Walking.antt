@@ -21,6 +21,7 @@ use Rattle.hx_model.specs.declared.node.Node.{Node}
 use Rattle.hx_model.specs.declared.node.Halt.TheVariants.{InCycle, ParentMissing, IllegalParent}
 use Rattle.hx_model.specs.Forest.{Forest, is_in, names_of, node_of, is_there, is_live, is_excluded, parent_of, chain_of, in_chain, comes_back, own_halt_of, tail_of, has_halted_ancestor}
 use Rattle.hx_model.specs.Walks.{walk_has, walk_to, walk_ends, walk_halts, length_from}
+pub use Rattle.hx_model.specs.Moves.{chain_from}
 use Rattle.hx_model.proofs.Climbing.{Climbs, at_top, stopped, onward, chain-Climbs, AreThere, AreThere-push, none_there, few, Above, itself, through, chain_above, above_chain, is_same, same_itself}
 use Rattle.hx_model.proofs.Parents.{up_to_all, chain_alone, chain_parent, is_in_filter}
 
@@ -235,11 +236,6 @@ chain_length_counts f n distinct = length-from_same_keys nat_list_eq_equiv (chai
         (λ h. (and_parts (is_in a (names_of f)) (in_chain f n a) (sym (is_in_filter (λ m. in_chain f n m) a (names_of f)) ∙ h)).1)
 
 -- ---- halted ancestors
-
--- the chain from a name that may be none
-abbrev pub chain_from : Forest → Option (List ℕ) → List (List ℕ)
-chain_from f None = []
-chain_from f (Some p) = chain_of f p
 
 walk_any_none : (t : List ℕ → Bool) (left : ℕ) (f : Forest) → walk_any t left f None ≡ false
 walk_any_none t zero f = refl

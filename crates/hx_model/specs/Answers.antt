@@ -5,6 +5,7 @@
 --     limit_refusals    the refusals by the limits, in their order
 --     refusal_of        the first refusal that holds
 --     writes_of         what an ask changes where nothing refuses it
+--     selected          the objects of a list, in order
 --     answer_to         the answer and the next state. A refusal and a read leave the state
 use Rattle.std.specs.Prelude.{◌≡◌, ◌≢◌, ℕ, ◌+◌, Bool, true, false, not, ◌&&◌, ◌||◌, ◌==◌, nat_lt, nat_le, is_some, is_none, List, [], ◌∷◌, filter, Option, Some, None, if◌then◌else◌, option_map, option_and_then}
 use Rattle.std.specs.Option.{option_map_or}
@@ -17,6 +18,8 @@ use Rattle.hx_object.specs.declared.object.Id.{Id}
 use Rattle.hx_object.specs.declared.object.Object.{Object}
 use Rattle.hx_object.specs.declared.object.Payload.{Payload}
 use Rattle.hx_object.specs.declared.object.Payload.TheVariants.{Namespace as NamespaceOf, Hierarchy, Anchor, Quota}
+use Rattle.hx_select.specs.Selectors.{selects}
+use Rattle.hx_select.specs.declared.selector.Selector.{Selector}
 use Rattle.hx_model.specs.declared.ask.Ask.{Ask}
 use Rattle.hx_model.specs.declared.ask.Ask.TheVariants.{Get, List as ListOf, Create, Replace, Delete}
 use Rattle.hx_model.specs.declared.ask.Answer.{Answer}
@@ -30,6 +33,8 @@ use Rattle.hx_model.specs.First.{so, first}
 use Rattle.hx_model.specs.Limits.{is_namespace, is_anchor, is_named, counts, names_in, objects_in, bytes_in, most_names, most_objects, most_bytes, greatest_version}
 use Rattle.hx_model.specs.Cases.{Case}
 use Rattle.hx_model.specs.Denials.{refusal_by}
+use Rattle.hx_model.specs.Conflicts.{with_written, makes_conflict}
+use Rattle.hx_model.specs.Modes.{config_id}
 use Rattle.hx_model.specs.Rules.{rules}
 use Rattle.hx_model.specs.Tree.{forest_of}
 use Rattle.hx_model.specs.State.{State, Objects, object_at, home_in, with_version, after_writes, state_after}
@@ -60,7 +65,7 @@ replacing (Some old) x version = if same_object (replaced_by old x) old then [] 
 -- what an ask changes. Every object that it puts has the new version
 abbrev pub writes_of : State → Ask → List Write
 writes_of s (Get id) = []
-writes_of s (ListOf kind ns) = []
+writes_of s (ListOf kind ns selector) = []
 writes_of s (Create x skip) = Put (with_version x (s.last + 1)) ∷ []
 writes_of s (Replace x expected skip) = replacing (object_at s.objects x.id) x (s.last + 1)
 writes_of s (Delete id skip) = Cut id ∷ []
@@ -80,7 +85,7 @@ lacks_namespace s id = not (is_in_cluster id.kind) && is_none (home_in s.objects
 -- the object or its namespace isn't there, or the object is there already
 abbrev pub place_refusal : State → Ask → Option Refusal
 place_refusal s (Get id) = so (is_none (object_at s.objects id)) (not_found id)
-place_refusal s (ListOf kind ns) = None
+place_refusal s (ListOf kind ns selector) = None
 place_refusal s (Create x skip) = first (so (lacks_namespace s x.id) (NotFound Namespace x.id.ns) ∷ so (is_some (object_at s.objects x.id)) (already_there x.id) ∷ [])
 place_refusal s (Replace x expected skip) = so (is_none (object_at s.objects x.id)) (not_found x.id)
 place_refusal s (Delete id skip) = so (is_none (object_at s.objects id)) (not_found id)
@@ -96,7 +101,7 @@ version_refusal s _ = None
 
 -- what the rules look at, by the identity, what is there and what is given
 abbrev pub case_at : State → Id → Option Object → Option Object → Bool → Case
-case_at s id old new skip = record { id = id; old = old; new = new; home = home_in s.objects id; tree = forest_of s; config = s.config; skip = skip }
+case_at s id old new skip = record { id = id; old = old; new = new; home = home_in s.objects id; hnc_config = object_at s.objects config_id; conflict = makes_conflict s (with_written s id new); tree = forest_of s; config = s.config; skip = skip }
 
 -- the case of a write or a removal
 abbrev pub case_of : State → Ask → Option Case
@@ -147,6 +152,10 @@ refusal_of s ask = first (place_refusal s ask ∷ version_refusal s ask ∷ rule
 abbrev pub is_listed : Kind → Option (List ℕ) → Object → Bool
 is_listed kind ns x = (number_of kind == number_of x.id.kind) && option_map_or (bytes_eq x.id.ns) ns true
 
+-- the objects of a list, in order: those of its kind and namespace whose labels the selector holds for
+abbrev pub selected : Kind → Option (List ℕ) → Selector → Objects → Objects
+selected kind ns selector objects = filter (λ (x : Object). selects selector x.labels) (filter (is_listed kind ns) objects)
+
 -- the object that is found
 abbrev pub answer_found : Option Object → Bool → Id → Answer
 answer_found None fresh id = Refused (not_found id)
@@ -155,7 +164,7 @@ answer_found (Some x) fresh id = One x fresh
 -- the answer of a success, by the state before it and the one after
 abbrev pub success : State → State → Ask → Answer
 success s t (Get id) = answer_found (object_at s.objects id) false id
-success s t (ListOf kind ns) = Many kind (filter (is_listed kind ns) s.objects) s.last
+success s t (ListOf kind ns selector) = Many kind (selected kind ns selector s.objects) s.last
 success s t (Create x skip) = answer_found (object_at t.objects x.id) true x.id
 success s t (Replace x expected skip) = answer_found (object_at t.objects x.id) false x.id
 success s t (Delete id skip) = Gone t.last

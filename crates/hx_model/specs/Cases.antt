@@ -1,24 +1,27 @@
 -- What the rules of admission look at: a write or a removal, and where it is made.
 --     Case         the objects before and after, the namespace and the tree
 --     breaks       the denial by a rule, where a test finds that it is broken
+--     is_kept_out  a namespace is excluded
 use Rattle.std.specs.Prelude.{ℕ, Bool, false, List, Option, is_some}
 use Rattle.std.specs.Option.{option_map_or, option_eq}
 use Rattle.std.specs.Str.{bytes_eq}
 use Rattle.hx_object.specs.declared.object.Id.{Id}
 use Rattle.hx_object.specs.declared.object.Object.{Object}
 use Rattle.hx_model.specs.First.{so}
-use Rattle.hx_model.specs.Forest.{Forest}
+use Rattle.hx_model.specs.Forest.{Forest, is_in}
 use Rattle.hx_model.specs.declared.config.RunConfig.{RunConfig}
 use Rattle.hx_model.specs.declared.denial.Denial.{Denial}
 use Rattle.hx_model.specs.declared.denial.Denial.TheVariants.{Broken}
 use Rattle.hx_model.specs.declared.rule.Rule.{Rule}
 
--- `old` is the object that is there, `new` the one that is given, and `home` the namespace that the identity lies in. `tree` is the tree before the write
+-- `old` is the object that is there, `new` the one that is given, and `home` the namespace that the identity lies in. `hnc_config` is the HNCConfiguration that is stored, and `tree` the tree before the write. `conflict` says that some source is overwritten after the write that wasn't before
 pub record Case : Type 0 where
   pub id : Id
   pub old : Option Object
   pub new : Option Object
   pub home : Option Object
+  pub hnc_config : Option Object
+  pub conflict : Bool
   pub tree : Forest
   pub config : RunConfig
   pub skip : Bool
@@ -34,6 +37,10 @@ breaks rule test = so test (Broken rule)
 -- a test holds of what is there
 abbrev pub any_of : {A : Type 0} → (A → Bool) → Option A → Bool
 any_of test found = option_map_or test found false
+
+-- a namespace is excluded, also where it isn't there
+abbrev pub is_kept_out : Case → List ℕ → Bool
+is_kept_out c n = is_in n c.config.excluded
 
 -- both are there and alike, or neither is there
 abbrev pub same_name : Option (List ℕ) → Option (List ℕ) → Bool

@@ -1,18 +1,18 @@
 -- The rules on HierarchyConfigurations.
 --     parent_after c        the parent that the namespace has once the write is made
---     tree_rules c          the rules on the tree that a write or a removal breaks, in their order
---     hierarchy_rules c     all of its rules. `admission=skip` passes over those on the tree
+--     misses_hierarchy c    a write of another name
+--     hierarchy_rules c     the rules on the tree that a write or a removal breaks, in their order. `admission=skip` passes over them
 use Rattle.std.specs.Prelude.{ℕ, Bool, true, false, not, ◌&&◌, ◌||◌, List, [], ◌∷◌, Option, Some, option_and_then, is_some, if◌then◌else◌}
 use Rattle.std.specs.Str.{bytes_eq}
 use Rattle.hx_object.specs.declared.object.Object.{Object}
-use Rattle.hx_model.specs.Cases.{Case, breaks, is_write, any_of, same_name}
+use Rattle.hx_model.specs.Cases.{Case, breaks, is_write, any_of, is_kept_out, same_name}
 use Rattle.hx_model.specs.First.{so}
-use Rattle.hx_model.specs.Forest.{is_in, is_live, parent_of, in_chain, reaches_deeper, halt_of, with_parent}
+use Rattle.hx_model.specs.Forest.{is_live, parent_of, in_chain, reaches_deeper, halt_of, with_parent}
 use Rattle.hx_model.specs.Tree.{hierarchy, subnamespace_parent, named_parent, parent_with}
 use Rattle.hx_model.specs.declared.denial.Denial.{Denial}
 use Rattle.hx_model.specs.declared.node.Halt.{Halt}
 use Rattle.hx_model.specs.declared.node.Halt.TheVariants.{Ancestor}
-use Rattle.hx_model.specs.declared.rule.Rule.TheVariants.{H1, H2, H3, H4, H6, H7, H8}
+use Rattle.hx_model.specs.declared.rule.Rule.TheVariants.{H1, H2, H3, H4, H5, H6, H8}
 
 -- no namespace is moved to a greater depth
 abbrev pub greatest_depth : ℕ
@@ -61,10 +61,6 @@ is_ancestor _ = false
 abbrev pub moves_halted : Case → Bool
 moves_halted c = changes_parent c && (any_of is_ancestor (halt_of c.tree c.id.ns) || any_of (λ p. is_some (halt_of c.tree p)) (parent_after c))
 
--- a namespace is excluded, also where it isn't there
-abbrev pub is_kept_out : Case → List ℕ → Bool
-is_kept_out c n = is_in n c.config.excluded
-
 -- the namespace or the new parent is excluded
 abbrev pub meets_excluded : Case → Bool
 meets_excluded c = is_kept_out c c.id.ns || any_of (is_kept_out c) (new_parent c)
@@ -75,15 +71,20 @@ grows_too_deep c = changes_parent c && reaches_deeper greatest_depth (with_paren
 
 -- ---- the rules
 
+-- a HierarchyConfiguration has one name
+abbrev pub misses_hierarchy : Case → Bool
+misses_hierarchy c = is_write c && not (bytes_eq c.id.name hierarchy)
+
 abbrev pub tree_rules : Case → List (Option Denial)
 tree_rules c =
     breaks H1 (lacks_parent c)
     ∷ breaks H2 (closes_cycle c)
     ∷ breaks H3 (contradicts c)
     ∷ breaks H4 (moves_halted c)
+    ∷ breaks H5 c.conflict
     ∷ breaks H6 (is_write c && meets_excluded c)
     ∷ breaks H8 (is_write c && grows_too_deep c)
     ∷ []
 
 abbrev pub hierarchy_rules : Case → List (Option Denial)
-hierarchy_rules c = breaks H7 (is_write c && not (bytes_eq c.id.name hierarchy)) ∷ (if c.skip then [] else tree_rules c)
+hierarchy_rules c = if c.skip then [] else tree_rules c

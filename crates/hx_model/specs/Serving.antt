@@ -1,16 +1,23 @@
 -- What is served so far.
 --     is_written       the kinds whose objects may be stored: anchors, quotas, Pods and claims aren't yet
 --     is_given         a payload that requests give: what reconcilers report isn't stored yet
---     IsGiven          an object of such a payload, whose labels and annotations are in order
+--     is_text_or_none  a text, or none
+--     has_type         the type of a Secret is a text, where it has one
+--     is_typed         the same of what is kept of it
+--     IsGiven          an object of such a payload, whose type is a text if it has one, and whose labels and annotations are in order
 --     IsServed         an object that may be stored
 --     IsServedAsk      an ask that a cluster takes. No namespace is removed yet
 --     IsLegalAnswer    an answer whose objects are legal
-use Rattle.std.specs.Prelude.{◌≡◌, Bool, true, false, not, [], None}
+use Rattle.std.specs.Prelude.{◌≡◌, Bool, true, false, not, [], Option, Some, None, codes}
 use Rattle.std.specs.List.{AllByRecursion, list_all}
+use Rattle.std.specs.Option.{option_map_or}
+use Rattle.serde_json.specs.Data.{Data, null, string}
+use Rattle.serde_json.specs.Find.{get}
+use Rattle.serde_json.specs.Read.{read}
 use Rattle.hx_object.specs.Faults.{IsLegal}
 use Rattle.hx_object.specs.Pairs.{has_ascending_keys}
 use Rattle.hx_object.specs.declared.kind.Kind.{Kind}
-use Rattle.hx_object.specs.declared.kind.Kind.TheVariants.{SubnamespaceAnchor, HierarchicalResourceQuota, Pod, PersistentVolumeClaim}
+use Rattle.hx_object.specs.declared.kind.Kind.TheVariants.{SubnamespaceAnchor, HierarchicalResourceQuota, Secret, Pod, PersistentVolumeClaim}
 use Rattle.hx_object.specs.declared.object.Mode.{Mode}
 use Rattle.hx_object.specs.declared.object.Mode.TheVariants.{AllowPropagate}
 use Rattle.hx_object.specs.declared.object.ModeEntry.{ModeEntry}
@@ -48,11 +55,29 @@ is_given (Quota hard []) = true
 is_given (Quota hard status) = false
 is_given (Plain members need) = true
 
--- such a payload, with labels and annotations in order
+-- a text, or none: null counts as none
+abbrev pub is_text_or_none : Option Data → Bool
+is_text_or_none None = true
+is_text_or_none (Some null) = true
+is_text_or_none (Some (string text)) = true
+is_text_or_none (Some other) = false
+
+-- the type of a Secret is a text, where it has one
+abbrev pub has_type : Kind → Data → Bool
+has_type Secret d = is_text_or_none (get (codes "type") d)
+has_type kind d = true
+
+-- the same of what is kept of it
+abbrev pub is_typed : Kind → Payload → Bool
+is_typed Secret (Plain members need) = option_map_or (has_type Secret) (read members) true
+is_typed kind payload = true
+
+-- such a payload, with labels and annotations in order, and a type that is a text
 pub record IsGiven (x : Object) : Type 0 where
   pub labels : has_ascending_keys x.labels ≡ true
   pub annotations : has_ascending_keys x.annotations ≡ true
   pub payload : is_given x.payload ≡ true
+  pub typed : is_typed x.id.kind x.payload ≡ true
 
 -- a legal object of such a kind, as requests give them
 pub record IsServed (x : Object) : Type 0 where
@@ -63,7 +88,7 @@ pub record IsServed (x : Object) : Type 0 where
 -- an object that is to be stored is served, and has no version yet
 abbrev pub IsServedAsk : Ask → Type 0
 IsServedAsk (Get id) = Unit {0}
-IsServedAsk (ListOf kind ns) = Unit {0}
+IsServedAsk (ListOf kind ns selector) = Unit {0}
 IsServedAsk (Create x skip) = IsServed x × (x.version ≡ 0)
 IsServedAsk (Replace x expected skip) = IsServed x × (x.version ≡ 0)
 IsServedAsk (Delete id skip) = is_namespace id.kind ≡ false

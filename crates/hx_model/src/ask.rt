@@ -1,6 +1,7 @@
 // Requests and their answers.
 use crate::Refusal;
 use hx_object::{Id, Kind, List, Object, Shared, Text};
+use hx_select::Selector;
 
 /// What is asked of a cluster. `skip` asks to pass over the rules of admission that may be passed over.
 #[derive(Drop)]
@@ -9,10 +10,11 @@ pub enum Ask {
     Get {
         id: Id,
     },
-    /// The objects of a kind, in a namespace or in all of them.
+    /// The objects of a kind, in a namespace or in all of them, whose labels the selector holds for.
     List {
         kind: Kind,
         ns: Option<Text>,
+        selector: Selector,
     },
     /// To store an object that isn't there. Its version is 0: the write gives it one.
     Create {

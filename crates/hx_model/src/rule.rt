@@ -11,6 +11,10 @@ pub enum Rule {
     X1,
     /// A HierarchyConfiguration is named `hierarchy`.
     H7,
+    /// An HNCConfiguration is named `config`.
+    C1,
+    /// Copies are made, changed and removed by reconcilers alone.
+    O1,
     /// The annotation that makes a subnamespace is set by reconcilers alone.
     N3,
     /// A new parent is there, and isn't on its way out.
@@ -21,10 +25,26 @@ pub enum Rule {
     H3,
     /// Nothing moves where an ancestor is halted, or below a halted parent.
     H4,
+    /// No move lets a copy overwrite a source.
+    H5,
     /// Neither the namespace of a HierarchyConfiguration nor a new parent is excluded.
     H6,
     /// No namespace is moved to a depth over 64.
     H8,
+    /// Each entry of an HNCConfiguration names a resource that is known.
+    C2,
+    /// No resource is named twice.
+    C3,
+    /// No entry names roles or rolebindings.
+    C4,
+    /// No entry names pods, services or persistentvolumeclaims.
+    C6,
+    /// No change of modes lets a copy overwrite a source.
+    C5,
+    /// An object that can be copied has at most one exception, and one that can be read.
+    O3,
+    /// No source is written where a copy would overwrite it, or so that its copy would overwrite another.
+    O2,
     /// At most 4,096 names of namespaces and anchors.
     L1,
     /// At most 65,536 objects that count.
@@ -73,13 +93,23 @@ impl Rule {
         match self {
             Rule::X1 => forbids("X1", "skipping admission is not allowed"),
             Rule::H7 => forbids("H7", "the name must be hierarchy"),
+            Rule::C1 => forbids("C1", "the name must be config"),
+            Rule::O1 => forbids("O1", "propagated copies cannot be made or changed"),
             Rule::N3 => forbids("N3", "the subnamespace annotation cannot be changed"),
             Rule::H1 => forbids("H1", "the new parent does not exist"),
             Rule::H2 => forbids("H2", "the new parent is in the subtree of the namespace"),
             Rule::H3 => forbids("H3", "the parent of a subnamespace cannot be changed"),
             Rule::H4 => forbids("H4", "the tree is halted"),
+            Rule::H5 => forbids("H5", "a source would be overwritten"),
             Rule::H6 => forbids("H6", "the namespace is excluded"),
             Rule::H8 => forbids("H8", "the tree would be deeper than 64"),
+            Rule::C2 => forbids("C2", "the resource is unknown"),
+            Rule::C3 => forbids("C3", "the resource is named twice"),
+            Rule::C4 => forbids("C4", "the mode of this resource is fixed"),
+            Rule::C6 => forbids("C6", "the resource cannot be propagated"),
+            Rule::C5 => forbids("C5", "a source would be overwritten"),
+            Rule::O3 => forbids("O3", "the exception is not valid"),
+            Rule::O2 => forbids("O2", "a source would overwrite or be overwritten"),
             Rule::L1 => limits("L1", "too many namespaces"),
             Rule::L2 => limits("L2", "too many objects"),
             Rule::L3 => limits("L3", "too many bytes"),
