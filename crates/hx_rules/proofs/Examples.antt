@@ -1,0 +1,203 @@
+-- Plans, computed. Each expected value is written out.
+--     acme over team over app: Roles r of acme and of team, the second of other contents
+use Rattle.std.specs.Prelude.{codes}
+use Rattle.std.proofs.Common.{◌≡◌, ℕ, Bool, true, false, List, [], ◌∷◌, Option, None, Some, refl}
+use Rattle.std.specs.Fmt.{digits}
+use Rattle.hx_object.specs.Names.{is_dns_label, is_key, is_qualified_part}
+use Rattle.hx_object.specs.Sizes.{is_tree_key}
+use Rattle.hx_object.specs.declared.kind.Kind.TheVariants.{Role}
+use Rattle.hx_object.specs.declared.object.Mode.{Mode}
+use Rattle.hx_object.specs.declared.object.Mode.TheVariants.{Propagate, Remove, Ignore}
+use Rattle.hx_object.specs.declared.object.Need.{Need}
+use Rattle.hx_object.specs.declared.object.Object.{Object}
+use Rattle.hx_object.specs.declared.object.Payload.TheVariants.{Hierarchy, Plain}
+use Rattle.hx_select.specs.Selectors.{selector_of}
+use Rattle.hx_select.specs.TreeSelects.{tree_select_of}
+use Rattle.hx_model.specs.Answers.{same_object}
+use Rattle.hx_model.specs.Limits.{is_copy}
+use Rattle.hx_model.specs.Propagation.{id_in}
+use Rattle.hx_model.specs.State.{State, with_version}
+use Rattle.hx_model.specs.Texts.{new_namespace}
+use Rattle.hx_model.specs.Tree.{hierarchy_id}
+use Rattle.hx_model.specs.declared.config.RunConfig.{RunConfig}
+use Rattle.hx_model.specs.declared.key.Key.TheVariants as key
+use Rattle.hx_model.specs.declared.key.Write.{Write}
+use Rattle.hx_model.specs.declared.key.Write.TheVariants.{Put, Cut}
+use Rattle.hx_rules.specs.Briefs.{facts_of, planned}
+use Rattle.hx_rules.specs.declared.brief.Facts.{Facts}
+use Rattle.hx_rules.specs.declared.brief.Facts.TheVariants as facts
+
+abbrev acme : List ℕ
+acme = codes "acme"
+
+abbrev team : List ℕ
+team = codes "team"
+
+abbrev app : List ℕ
+app = codes "app"
+
+abbrev pair : List ℕ → List ℕ → List (List ℕ × List ℕ)
+pair key value = (key, value) ∷ []
+
+abbrev no_need : Need
+no_need = record { finished = false; token = false; storage = 0; containers = [] }
+
+-- a Role r with these labels, annotations and contents
+abbrev role : List ℕ → List (List ℕ × List ℕ) → List (List ℕ × List ℕ) → List ℕ → ℕ → Object
+role ns labels annotations text version = record { id = id_in Role (codes "r") ns; labels = labels; annotations = annotations; payload = Plain text no_need; version = version }
+
+abbrev far : List (List ℕ × List ℕ) → Object
+far annotations = role acme [] annotations (codes "{}") 6
+
+abbrev near : Object
+near = role team [] [] (codes "{\"rules\":[]}") 7
+
+abbrev from : List ℕ → List (List ℕ × List ℕ)
+from ns = pair (codes "hnc.x-k8s.io/inherited-from") ns
+
+abbrev copy_of_far : ℕ → Object
+copy_of_far version = role app (from acme) [] (codes "{}") version
+
+abbrev copy_of_near : Object
+copy_of_near = role app (from team) [] (codes "{\"rules\":[]}") 0
+
+-- app, which has a label of its own
+abbrev open_app : Object
+open_app = record (new_namespace app) { labels = pair (codes "tier") (codes "web"); version = 3 }
+
+-- what is planned for r in app, which takes part
+abbrev in_app : Mode → List Object → Option Object → Option Write
+in_app mode sources place = planned (key.Copy app Role (codes "r")) (facts.Copy (Some open_app) true place mode sources)
+
+-- ---- the source that wins
+
+farthest_source : in_app Propagate (far [] ∷ near ∷ []) None ≡ Some (Put (copy_of_far 0))
+unfolding is_copy same_object
+farthest_source = refl
+
+-- the exception of acme's Role keeps it away
+kept_away : in_app Propagate (far (pair (codes "propagate.hnc.x-k8s.io/none") (codes "true")) ∷ near ∷ []) None ≡ Some (Put copy_of_near)
+unfolding is_copy same_object
+kept_away = refl
+
+not_selected : in_app Propagate (far (pair (codes "propagate.hnc.x-k8s.io/select") (codes "tier=db")) ∷ near ∷ []) None ≡ Some (Put copy_of_near)
+unfolding is_copy same_object selector_of is_key is_qualified_part
+not_selected = refl
+
+-- the copy doesn't keep the exception, and keeps the other annotation
+selected : in_app Propagate (far ((codes "note", codes "x") ∷ (codes "propagate.hnc.x-k8s.io/select", codes "tier=web") ∷ []) ∷ near ∷ []) None
+    ≡ Some (Put (record (copy_of_far 0) { annotations = pair (codes "note") (codes "x") }))
+unfolding is_copy same_object selector_of is_key is_qualified_part
+selected = refl
+
+-- an exception that can't be read lets the source go nowhere
+unread : in_app Propagate (far (pair (codes "propagate.hnc.x-k8s.io/select") (codes "tier>1")) ∷ []) None ≡ None
+unfolding is_copy same_object selector_of is_key is_qualified_part
+unread = refl
+
+-- app isn't under team by its stored labels
+not_under : in_app Propagate (far (pair (codes "propagate.hnc.x-k8s.io/treeSelect") (codes "team")) ∷ near ∷ []) None ≡ Some (Put copy_of_near)
+unfolding is_copy same_object tree_select_of is_dns_label
+not_under = refl
+
+-- ---- what stands in the place
+
+right_copy : in_app Propagate (far [] ∷ near ∷ []) (Some (copy_of_far 9)) ≡ None
+unfolding is_copy same_object
+right_copy = refl
+
+-- also in place of a source of app's own
+own_source : in_app Propagate (far [] ∷ []) (Some (role app [] [] (codes "{\"rules\":[1]}") 9)) ≡ Some (Put (copy_of_far 0))
+unfolding is_copy same_object
+own_source = refl
+
+copy_without_source : in_app Propagate [] (Some (copy_of_far 9)) ≡ Some (Cut (id_in Role (codes "r") app))
+unfolding is_copy same_object
+copy_without_source = refl
+
+removed_copy : in_app Remove (far [] ∷ []) (Some (copy_of_far 9)) ≡ Some (Cut (id_in Role (codes "r") app))
+unfolding is_copy same_object
+removed_copy = refl
+
+removed_source : in_app Remove (far [] ∷ []) (Some (role app [] [] (codes "{}") 9)) ≡ None
+unfolding is_copy same_object
+removed_source = refl
+
+ignored_copy : in_app Ignore (far [] ∷ []) (Some (copy_of_far 9)) ≡ None
+unfolding is_copy same_object
+ignored_copy = refl
+
+-- ---- namespaces that take no part
+
+abbrev config : List (List ℕ) → RunConfig
+config excluded = record { excluded = excluded; allow_skip = false }
+
+abbrev under : List ℕ → List ℕ → ℕ → Object
+under ns parent version = record { id = hierarchy_id ns; labels = []; annotations = []; payload = Hierarchy (Some parent) false [] []; version = version }
+
+-- team under acme, and a copy in team
+abbrev tree : List (List ℕ) → State
+tree excluded = record {
+  objects = with_version (new_namespace acme) 1 ∷ with_version (new_namespace team) 2 ∷ under team acme 3 ∷ role acme [] [] (codes "{}") 4 ∷ role team (from app) [] (codes "{}") 5 ∷ [];
+  last = 5;
+  config = config excluded;
+}
+
+-- the same without acme
+abbrev orphan : State
+orphan = record (tree []) { objects = with_version (new_namespace team) 2 ∷ under team acme 3 ∷ role team (from app) [] (codes "{}") 5 ∷ [] }
+
+abbrev plan_by : Option Facts → Option Write
+plan_by (Some found) = planned (key.Copy team Role (codes "r")) found
+plan_by None = None
+
+-- what is planned for r in team
+abbrev plan_in : State → Option Write
+plan_in s = plan_by (facts_of s (key.Copy team Role (codes "r")))
+
+included : plan_in (tree []) ≡ Some (Put (role team (from acme) [] (codes "{}") 0))
+unfolding is_copy same_object
+included = refl
+
+excluded : plan_in (tree (team ∷ [])) ≡ None
+unfolding is_copy same_object
+excluded = refl
+
+-- the copy stays where the parent is missing
+halted : plan_in orphan ≡ None
+unfolding is_copy same_object
+halted = refl
+
+-- ---- tree labels
+
+-- app was under other
+abbrev moved_app : Object
+moved_app = record open_app {
+  labels =
+      (codes "app.tree.hnc.x-k8s.io/depth", codes "0")
+      ∷ (codes "other.tree.hnc.x-k8s.io/depth", codes "1")
+      ∷ (codes "tier", codes "web") ∷ [];
+}
+
+abbrev mended : List (List ℕ × List ℕ)
+mended =
+    (codes "acme.tree.hnc.x-k8s.io/depth", codes "2")
+    ∷ (codes "app.tree.hnc.x-k8s.io/depth", codes "0")
+    ∷ (codes "hnc.x-k8s.io/included-namespace", codes "true")
+    ∷ (codes "team.tree.hnc.x-k8s.io/depth", codes "1")
+    ∷ (codes "tier", codes "web") ∷ []
+
+abbrev labels_of : Object → Bool → Option Write
+labels_of x takes_part = planned (key.Tree app) (facts.Tree (Some x) takes_part (app ∷ team ∷ acme ∷ []))
+
+mended_labels : labels_of moved_app true ≡ Some (Put (record moved_app { labels = mended; version = 0 }))
+unfolding is_tree_key same_object digits
+mended_labels = refl
+
+right_labels : labels_of (record moved_app { labels = mended }) true ≡ None
+unfolding is_tree_key same_object digits
+right_labels = refl
+
+halted_labels : labels_of moved_app false ≡ None
+unfolding is_tree_key same_object digits
+halted_labels = refl

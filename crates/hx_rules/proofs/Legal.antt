@@ -1,0 +1,217 @@
+-- What is planned may be stored.
+--     legal_names          a legal object has legal names
+--     copy_served          the copy of a source that may be stored, in a namespace of a legal name
+--     labelled_served      a namespace that may be stored, with the labels that a short chain of such names prescribes
+use Rattle.std.proofs.Common.{◌≡◌, ℕ, suc, ◌+◌, ◌<◌, ◌≤◌, ◌^◌, Bool, true, false, not, ◌||◌, List, [], ◌∷◌, length, sum_by, codes, Option, None, Some, decimal, nat_lt, refl, sym, ap, ◌∙◌, true≢false, arith, if◌then◌else◌}
+use Rattle.std.specs.List.{list_all, AllByRecursion}
+use Rattle.std.proofs.lemmas.Bool.{and_parts, and_from, leb-true, le-leb}
+use Rattle.hx_object.specs.Faults.{IsLegal, object_fault, has_legal_names, has_legal_labels, has_legal_namespace, is_legal_label, is_legal_annotation, most_labels}
+use Rattle.hx_object.specs.Kinds.{can_be_copied, is_in_cluster}
+use Rattle.hx_object.specs.Names.{is_dns_label, is_name_of, is_key, is_subdomain, is_dns_part, is_qualified_part}
+use Rattle.hx_object.specs.Pairs.{has_ascending_keys, with_pair}
+use Rattle.hx_object.specs.Sizes.{counted, greatest_size, is_counted, is_tree_key, is_reconciled_key, pair_size, size_of, specified_size}
+use Rattle.hx_object.specs.WellKnown.{inherited_from, included_namespace}
+use Rattle.hx_object.specs.declared.kind.Kind.{Kind}
+use Rattle.hx_object.specs.declared.kind.Kind.TheVariants.{Namespace, HncConfiguration, HierarchyConfiguration, SubnamespaceAnchor, HierarchicalResourceQuota, Role, RoleBinding, ConfigMap, Secret, NetworkPolicy, LimitRange, Pod, Service, PersistentVolumeClaim}
+use Rattle.hx_object.specs.declared.object.Object.{Object}
+use Rattle.hx_object.specs.declared.object.ObjectFault.{ObjectFault}
+use Rattle.hx_object.specs.declared.object.ObjectFault.TheVariants.{BadName, BadLabel, TooManyLabels, TooLarge}
+use Rattle.hx_object.proofs.Putting.{ascending-with_pair, ascending-filter}
+use Rattle.hx_model.specs.Propagation.{copy_of, is_hnc_key}
+use Rattle.hx_model.specs.Serving.{IsServed}
+use Rattle.hx_model.specs.TreeLabels.{own_labels, tree_key, tree_labels_from, with_pairs}
+use Rattle.hx_model.specs.Wanted.{labelled}
+use Rattle.hx_rules.proofs.LabelNames.{label_value, tree_key_legal, tree_key_of_tree, depth_legal}
+use Rattle.hx_rules.proofs.Labels.{all-with_pair, all-filter, same-with_pair, tree_uncounted, counted-own, sum-filter}
+
+-- ---- faults
+
+-- an object without fault has none of the four
+record HasNoFault (x : Object) : Type 0 where
+  names : has_legal_names x.id ≡ true
+  labels : has_legal_labels x ≡ true
+  few : nat_lt most_labels (length (counted x.labels)) ≡ false
+  small : nat_lt greatest_size (size_of x) ≡ false
+
+abbrev fault_by : Bool → Bool → Bool → Bool → Option ObjectFault
+fault_by a b c d = if not a then Some BadName else (if not b then Some BadLabel else (if c then Some TooManyLabels else (if d then Some TooLarge else None)))
+
+fault_parts : (a b c d : Bool) → fault_by a b c d ≡ None → (a ≡ true) × (b ≡ true) × (c ≡ false) × (d ≡ false)
+fault_parts true true false false e = (refl, refl, refl, refl)
+fault_parts true true false true e = absurd (let h : Some TooLarge ≡ None = e in cc)
+fault_parts true true true d e = absurd (let h : Some TooManyLabels ≡ None = e in cc)
+fault_parts true false c d e = absurd (let h : Some BadLabel ≡ None = e in cc)
+fault_parts false b c d e = absurd (let h : Some BadName ≡ None = e in cc)
+
+no_fault : (x : Object) → object_fault x ≡ None → HasNoFault x
+unfolding object_fault
+no_fault x e =
+    let p = fault_parts (has_legal_names x.id) (has_legal_labels x) (nat_lt most_labels (length (counted x.labels))) (nat_lt greatest_size (size_of x)) e in
+    record { names = p.0; labels = p.1; few = p.2; small = p.3 }
+
+sound_of : (x : Object) → HasNoFault x → object_fault x ≡ None
+unfolding object_fault
+sound_of x none = λ i. fault_by (none.names i) (none.labels i) (none.few i) (none.small i)
+
+-- no more than what isn't too much
+still_small : (most a b : ℕ) → a ≤ b → nat_lt most b ≡ false → nat_lt most a ≡ false
+still_small most a b le e = by (nat_lt most a) refl
+  where
+    by : (t : Bool) → nat_lt most a ≡ t → t ≡ false
+    by false h = refl
+    by true h = let more : suc most ≤ a = leb-true (suc most) a h in absurd (true≢false (sym (le-leb (suc most) b (omega arith)) ∙ e))
+
+-- the labels that count are the same, and the annotations aren't more
+record IsNoLarger (x y : Object) : Type 0 where
+  counted_same : counted y.labels ≡ counted x.labels
+  annotations : sum_by pair_size y.annotations ≤ sum_by pair_size x.annotations
+  payload : y.payload ≡ x.payload
+
+size-no_larger : (x y : Object) → IsNoLarger x y → size_of y ≤ size_of x
+unfolding size_of
+size-no_larger x y less =
+    let l = ap (sum_by pair_size) less.counted_same in
+    let p = ap specified_size less.payload in
+    let a = less.annotations in
+    omega arith
+
+no_new_fault : (x y : Object) → IsNoLarger x y → has_legal_names y.id ≡ true → has_legal_labels y ≡ true → object_fault x ≡ None → object_fault y ≡ None
+no_new_fault x y less names labels e =
+    let none = no_fault x e in
+    sound_of y (record {
+      names = names;
+      labels = labels;
+      few = ap (λ (ls : List (List ℕ × List ℕ)). nat_lt most_labels (length ls)) less.counted_same ∙ none.few;
+      small = still_small greatest_size (size_of y) (size_of x) (size-no_larger x y less) none.small;
+    })
+
+label_parts : (x : Object) → has_legal_labels x ≡ true → (list_all is_legal_label x.labels ≡ true) × (list_all is_legal_annotation x.annotations ≡ true)
+unfolding has_legal_labels
+label_parts x e = and_parts (list_all is_legal_label x.labels) (list_all is_legal_annotation x.annotations) e
+
+labels_from : (x : Object) → list_all is_legal_label x.labels ≡ true → list_all is_legal_annotation x.annotations ≡ true → has_legal_labels x ≡ true
+unfolding has_legal_labels
+labels_from x p q = and_from (list_all is_legal_label x.labels) (list_all is_legal_annotation x.annotations) p q
+
+-- ---- copies
+
+copied_home : (kind : Kind) → can_be_copied kind ≡ true → is_in_cluster kind ≡ false
+copied_home Role e = refl
+copied_home RoleBinding e = refl
+copied_home ConfigMap e = refl
+copied_home Secret e = refl
+copied_home NetworkPolicy e = refl
+copied_home LimitRange e = refl
+copied_home Namespace e = absurd (true≢false (sym e))
+copied_home HncConfiguration e = absurd (true≢false (sym e))
+copied_home HierarchyConfiguration e = absurd (true≢false (sym e))
+copied_home SubnamespaceAnchor e = absurd (true≢false (sym e))
+copied_home HierarchicalResourceQuota e = absurd (true≢false (sym e))
+copied_home Pod e = absurd (true≢false (sym e))
+copied_home Service e = absurd (true≢false (sym e))
+copied_home PersistentVolumeClaim e = absurd (true≢false (sym e))
+
+-- a legal object has legal names
+pub legal_names : (x : Object) → IsLegal x → has_legal_names x.id ≡ true
+legal_names x legal = (no_fault x legal.sound).names
+
+-- the namespace of an object that lies in one is a DNS label
+home_label : (x : Object) → is_in_cluster x.id.kind ≡ false → has_legal_names x.id ≡ true → is_dns_label x.id.ns ≡ true
+unfolding has_legal_names
+home_label x outside e = sym (ap (λ b. b || is_dns_label x.id.ns) outside) ∙ (and_parts (has_legal_namespace x.id) (is_name_of x.id.kind x.id.name) e).0
+
+copy_names : (x : Object) (n : List ℕ) → is_dns_label n ≡ true → is_in_cluster x.id.kind ≡ false → has_legal_names x.id ≡ true → has_legal_names (copy_of x n).id ≡ true
+unfolding has_legal_names
+copy_names x n label outside e =
+    and_from (is_in_cluster x.id.kind || is_dns_label n) (is_name_of x.id.kind x.id.name) (ap (λ b. b || is_dns_label n) outside ∙ label) (and_parts (has_legal_namespace x.id) (is_name_of x.id.kind x.id.name) e).1
+
+inherited_legal : (ns : List ℕ) → is_dns_label ns ≡ true → is_legal_label (inherited_from, ns) ≡ true
+unfolding is_key is_subdomain is_dns_part is_qualified_part
+inherited_legal ns e = label_value ns e
+
+inherited_uncounted : (value : List ℕ) → is_counted (inherited_from, value) ≡ false
+unfolding is_counted is_tree_key is_reconciled_key
+inherited_uncounted value = refl
+
+pub copy_served : (x : Object) (n : List ℕ) → IsServed x → can_be_copied x.id.kind ≡ true → is_dns_label n ≡ true → IsServed (copy_of x n)
+copy_served x n served copied label =
+    let outside = copied_home x.id.kind copied in
+    let none = no_fault x served.legal.sound in
+    let legal = label_parts x none.labels in
+    record {
+      legal = record {
+        sound = no_new_fault x (copy_of x n) (record {
+          counted_same = same-with_pair is_counted inherited_from x.id.ns x.labels inherited_uncounted;
+          annotations = sum-filter pair_size (λ pair. not (is_hnc_key pair.0)) x.annotations;
+          payload = refl;
+        }) (copy_names x n label outside none.names) (labels_from (copy_of x n) (all-with_pair is_legal_label inherited_from x.id.ns x.labels (inherited_legal x.id.ns (home_label x outside none.names)) legal.0)
+            (all-filter is_legal_annotation (λ pair. not (is_hnc_key pair.0)) x.annotations legal.1)) served.legal.sound;
+        home = λ inside. absurd (true≢false (sym inside ∙ outside));
+        payload = served.legal.payload;
+      };
+      written = served.written;
+      given = record {
+        labels = ascending-with_pair inherited_from x.id.ns x.labels served.given.labels;
+        annotations = ascending-filter (λ pair. not (is_hnc_key pair.0)) x.annotations served.given.annotations;
+        payload = served.given.payload;
+        typed = served.given.typed;
+      };
+    }
+
+-- ---- tree labels
+
+-- names of namespaces
+abbrev pub AreLabels : List (List ℕ) → Type 0
+AreLabels names = AllByRecursion (λ n. is_dns_label n ≡ true) names
+
+included_legal : is_legal_label (included_namespace, codes "true") ≡ true
+unfolding is_key is_subdomain is_dns_part is_qualified_part
+included_legal = refl
+
+included_uncounted : (value : List ℕ) → is_counted (included_namespace, value) ≡ false
+unfolding is_counted is_tree_key is_reconciled_key
+included_uncounted value = refl
+
+ascending-tree : (far : ℕ) (chain : List (List ℕ)) (ps : List (List ℕ × List ℕ)) → has_ascending_keys ps ≡ true → has_ascending_keys (with_pairs (tree_labels_from far chain) ps) ≡ true
+ascending-tree far [] ps e = e
+ascending-tree far (a ∷ chain) ps e = ascending-with_pair (tree_key a) (decimal far) (with_pairs (tree_labels_from (suc far) chain) ps) (ascending-tree (suc far) chain ps e)
+
+counted-tree : (far : ℕ) (chain : List (List ℕ)) (ps : List (List ℕ × List ℕ)) → AreLabels chain → counted (with_pairs (tree_labels_from far chain) ps) ≡ counted ps
+counted-tree far [] ps labels = refl
+counted-tree far (a ∷ chain) ps labels =
+    same-with_pair is_counted (tree_key a) (decimal far) (with_pairs (tree_labels_from (suc far) chain) ps) (λ v. tree_uncounted (tree_key a) v (tree_key_of_tree a labels.0))
+    ∙ counted-tree (suc far) chain ps labels.1
+
+legal-tree : (far : ℕ) (chain : List (List ℕ)) (ps : List (List ℕ × List ℕ)) → AreLabels chain → far + length chain < 2 ^ 64 → list_all is_legal_label ps ≡ true → list_all is_legal_label (with_pairs (tree_labels_from far chain) ps) ≡ true
+legal-tree far [] ps labels short all = all
+legal-tree far (a ∷ chain) ps labels short all =
+    all-with_pair is_legal_label (tree_key a) (decimal far) (with_pairs (tree_labels_from (suc far) chain) ps)
+    (and_from _ _ (tree_key_legal a labels.0) (depth_legal far (omega arith)))
+    (legal-tree (suc far) chain ps labels.1 (omega arith) all)
+
+pub labelled_served : (x : Object) (chain : List (List ℕ)) → IsServed x → AreLabels chain → length chain < 2 ^ 64 → IsServed (labelled chain x)
+labelled_served x chain served names short =
+    let none = no_fault x served.legal.sound in
+    let legal = label_parts x none.labels in
+    let own = own_labels x.labels in
+    let taking = with_pair included_namespace (codes "true") own in
+    record {
+      legal = record {
+        sound = no_new_fault x (labelled chain x) (record {
+          counted_same = counted-tree 0 chain taking names ∙ (same-with_pair is_counted included_namespace (codes "true") own included_uncounted ∙ counted-own x.labels);
+          annotations = omega arith;
+          payload = refl;
+        }) none.names (labels_from (labelled chain x)
+            (legal-tree 0 chain taking names (omega arith) (all-with_pair is_legal_label included_namespace (codes "true") own included_legal (all-filter is_legal_label (λ pair. not (is_tree_key pair.0)) x.labels legal.0)))
+            legal.1) served.legal.sound;
+        home = served.legal.home;
+        payload = served.legal.payload;
+      };
+      written = served.written;
+      given = record {
+        labels = ascending-tree 0 chain taking (ascending-with_pair included_namespace (codes "true") own (ascending-filter (λ pair. not (is_tree_key pair.0)) x.labels served.given.labels));
+        annotations = served.given.annotations;
+        payload = served.given.payload;
+        typed = served.given.typed;
+      };
+    }

@@ -1,0 +1,7 @@
+pub mod Examples
+pub mod LabelNames
+pub mod Labels
+pub mod Legal
+pub mod Placing
+pub mod Standing
+pub mod Storable

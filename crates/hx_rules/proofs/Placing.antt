@@ -1,0 +1,71 @@
+-- When an object is written in its place.
+--     made_of, made_otherwise      an object without its version is one of these parts;  or it isn't
+--     put_where_new                what is put where it isn't there yet
+--     labels_stand, labels_differ  a namespace that has the prescribed labels isn't written;  one that hasn't is
+use Rattle.std.proofs.Common.{◌≡◌, ℕ, Bool, true, false, not, List, Option, Some, None, refl, sym, ap, ◌∙◌, true≢false}
+use Rattle.std.specs.Bool.{Decides}
+use Rattle.std.specs.Cmp.{both_ways}
+use Rattle.hx_object.proofs.Sameness.{same_object_from}
+use Rattle.hx_object.specs.declared.object.Id.{Id}
+use Rattle.hx_object.specs.declared.object.Object.{Object}
+use Rattle.hx_object.specs.declared.object.Payload.{Payload}
+use Rattle.hx_model.specs.Answers.{same_object}
+use Rattle.hx_model.specs.First.{so}
+use Rattle.hx_model.specs.Propagation.{copy_of}
+use Rattle.hx_model.specs.State.{with_version}
+use Rattle.hx_model.specs.TreeLabels.{prescribed_labels}
+use Rattle.hx_model.specs.Wanted.{labelled, placed}
+use Rattle.hx_model.specs.declared.key.Write.TheVariants.{Put}
+use Rattle.hx_rules.specs.Briefs.{is_placed}
+
+same_object-Decides : (a b : Object) → Decides (same_object a b) (a ≡ b)
+unfolding same_object
+same_object-Decides a b = same_object_from a b (same_object a b) refl
+
+-- an object of these parts, without a version
+abbrev pub made : Id → List (List ℕ × List ℕ) → List (List ℕ × List ℕ) → Payload → Object
+made id labels annotations payload = record { id = id; labels = labels; annotations = annotations; payload = payload; version = 0 }
+
+differ : (a b : Object) → (a ≡ b → ⊥) → same_object a b ≡ false
+differ a b apart = by (same_object a b) refl
+  where
+    by : (t : Bool) → same_object a b ≡ t → t ≡ false
+    by true e = absurd (apart ((same_object-Decides a b).0 e))
+    by false e = refl
+
+-- the last part decides where the others are the same
+pub made_of : (old : Object) (id : Id) (labels annotations : List (List ℕ × List ℕ)) (payload : Payload) (t : Bool) → old.id ≡ id → old.labels ≡ labels → old.annotations ≡ annotations
+    → Decides t (old.payload ≡ payload) → t ≡ same_object (with_version old 0) (made id labels annotations payload)
+made_of old id labels annotations payload t p q r d =
+    both_ways t (same_object (with_version old 0) (made id labels annotations payload))
+    (λ e. (same_object-Decides (with_version old 0) (made id labels annotations payload)).1 (λ i. made (p i) (q i) (r i) (d.0 e i)))
+    (λ e. d.1 (ap (λ (x : Object). x.payload) ((same_object-Decides (with_version old 0) (made id labels annotations payload)).0 e)))
+
+pub made_otherwise : (old : Object) (id : Id) (labels annotations : List (List ℕ × List ℕ)) (payload : Payload) → (old.id ≡ id → old.labels ≡ labels → old.annotations ≡ annotations → ⊥)
+    → false ≡ same_object (with_version old 0) (made id labels annotations payload)
+made_otherwise old id labels annotations payload apart =
+    sym (differ (with_version old 0) (made id labels annotations payload) (λ e. apart (ap (λ (x : Object). x.id) e) (ap (λ (x : Object). x.labels) e) (ap (λ (x : Object). x.annotations) e)))
+
+pub put_where_new : (x : Object) (place : Option Object) → is_placed place x ≡ false → Some (Put x) ≡ placed x place
+put_where_new x None e = refl
+put_where_new x (Some old) e = ap (λ t. so (not t) (Put x)) (sym e)
+
+pub kept_where_placed : (x : Object) (place : Option Object) → is_placed place x ≡ true → None ≡ placed x place
+kept_where_placed x None e = absurd (true≢false (sym e))
+kept_where_placed x (Some old) e = ap (λ t. so (not t) (Put x)) (sym e)
+
+pub put_copy : (source : Object) (n : List ℕ) (place : Option Object) (id : Id) (labels annotations : List (List ℕ × List ℕ)) (payload : Payload) → id ≡ (copy_of source n).id → labels ≡ (copy_of source n).labels
+    → annotations ≡ (copy_of source n).annotations → payload ≡ source.payload → is_placed place (made id labels annotations source.payload) ≡ false → Some (Put (made id labels annotations payload)) ≡ placed (copy_of source n) place
+put_copy source n place id labels annotations payload p q r s new =
+    (λ i. Some (Put (made (p i) (q i) (r i) (s i))))
+    ∙ put_where_new (copy_of source n) place ((λ i. is_placed place (made (sym p i) (sym q i) (sym r i) source.payload)) ∙ new)
+
+pub labels_stand : (chain : List (List ℕ)) (x : Object) (labels : List (List ℕ × List ℕ)) → labels ≡ prescribed_labels chain x.labels → labels ≡ x.labels → None ≡ placed (labelled chain x) (Some x)
+labels_stand chain x labels is same =
+    kept_where_placed (labelled chain x) (Some x) ((same_object-Decides (with_version x 0) (labelled chain x)).1 (λ i. made x.id ((sym same ∙ is) i) x.annotations x.payload))
+
+pub labels_differ : (chain : List (List ℕ)) (x : Object) (id : Id) (labels annotations : List (List ℕ × List ℕ)) (payload : Payload) → id ≡ x.id → labels ≡ prescribed_labels chain x.labels → annotations ≡ x.annotations
+    → payload ≡ x.payload → (labels ≡ x.labels → ⊥) → Some (Put (made id labels annotations payload)) ≡ placed (labelled chain x) (Some x)
+labels_differ chain x id labels annotations payload p q r s apart =
+    (λ i. Some (Put (made (p i) (q i) (r i) (s i))))
+    ∙ put_where_new (labelled chain x) (Some x) (differ (with_version x 0) (labelled chain x) (λ e. apart (q ∙ sym (ap (λ (o : Object). o.labels) e))))

@@ -1,0 +1,172 @@
+-- What is planned for a valid state may be stored in it.
+--     storable      an object that is put is served, and has no version
+use Rattle.std.proofs.Common.{◌≡◌, ℕ, ◌<◌, ◌^◌, Bool, true, false, cond, not, ◌||◌, List, [], ◌∷◌, ◌++◌, length, find, Option, None, Some, option_and_then, is_some, refl, sym, ap, ◌∙◌, subst, true≢false, bytes_eq}
+use Rattle.std.specs.List.{AllByRecursion}
+use Rattle.std.proofs.lemmas.Bool.{and_parts}
+use Rattle.hx_object.specs.Faults.{has_legal_names, has_legal_namespace}
+use Rattle.hx_object.specs.Kinds.{can_be_copied}
+use Rattle.hx_object.specs.Names.{is_dns_label, is_name_of}
+use Rattle.hx_object.specs.declared.kind.Kind.{Kind}
+use Rattle.hx_object.specs.declared.kind.Kind.TheVariants.{Namespace}
+use Rattle.hx_object.specs.declared.object.Id.{Id}
+use Rattle.hx_object.specs.declared.object.Mode.{Mode}
+use Rattle.hx_object.specs.declared.object.Mode.TheVariants.{Propagate, AllowPropagate, Remove, Ignore}
+use Rattle.hx_object.specs.declared.object.Object.{Object}
+use Rattle.hx_model.specs.Answers.{same_object}
+use Rattle.hx_model.specs.First.{so}
+use Rattle.hx_model.specs.Forest.{chain_of, is_in, tail_of}
+use Rattle.hx_model.specs.Limits.{is_copy}
+use Rattle.hx_model.specs.Modes.{mode_of}
+use Rattle.hx_model.specs.Propagation.{as_list, copy_of, goes_to, id_in, is_source, source_at, sources_above, sources_along, top_of}
+use Rattle.hx_model.specs.Serving.{IsServed}
+use Rattle.hx_model.specs.State.{State, Objects, namespace_id, object_at, with_version}
+use Rattle.hx_model.specs.Tree.{forest_of}
+use Rattle.hx_model.specs.TreeLabels.{is_open}
+use Rattle.hx_model.specs.Valid.{IsStored}
+use Rattle.hx_model.specs.Wanted.{copied_in, copy_write, labelled, placed, tree_write, without_copy}
+use Rattle.hx_model.specs.declared.key.Key.{Key}
+use Rattle.hx_model.specs.declared.key.Key.TheVariants as key
+use Rattle.hx_model.specs.declared.key.Write.{Write}
+use Rattle.hx_model.specs.declared.key.Write.TheVariants.{Put, Cut}
+use Rattle.hx_model.proofs.Climbing.{same_itself}
+use Rattle.hx_model.proofs.Objects.{found_id}
+use Rattle.hx_model.proofs.Planting.{there-objects}
+use Rattle.hx_model.proofs.Storing.{All-found}
+use Rattle.hx_model.proofs.Walking.{chain_there}
+use Rattle.hx_rules.specs.Briefs.{IsPlanned, IsShort, IsStorable, IsStorableFor, facts_of, planned}
+use Rattle.hx_rules.specs.declared.brief.Brief.{Brief}
+use Rattle.hx_rules.specs.declared.brief.Facts.{Facts}
+use Rattle.hx_rules.specs.declared.brief.Facts.TheVariants as facts
+use Rattle.hx_rules.proofs.Legal.{AreLabels, copy_served, labelled_served, legal_names}
+
+-- ---- what a write puts
+
+placed_storable : (x : Object) (place : Option Object) → IsServed x → x.version ≡ 0 → IsStorable (placed x place)
+placed_storable x None served fresh = (served, fresh)
+placed_storable x (Some old) served fresh = elim (same_object (with_version old 0) x) as (λ b. IsStorable (so (not b) (Put x))) [
+  | true ↦ tt
+  | false ↦ (served, fresh)
+]
+
+without_storable : (place : Option Object) → IsStorable (without_copy place)
+without_storable None = tt
+without_storable (Some x) = elim (is_copy x) as (λ b. IsStorable (so b (Cut x.id))) [ true ↦ tt | false ↦ tt ]
+
+in_mode : (mode : Mode) (top : Option Object) (n : List ℕ) (place : Option Object) → ((x : Object) → top ≡ Some x → IsServed (copy_of x n)) → IsStorable (copied_in mode top n place)
+in_mode Propagate (Some x) n place served = placed_storable (copy_of x n) place (served x refl) refl
+in_mode Propagate None n place served = without_storable place
+in_mode AllowPropagate (Some x) n place served = placed_storable (copy_of x n) place (served x refl) refl
+in_mode AllowPropagate None n place served = without_storable place
+in_mode Remove top n place served = without_storable place
+in_mode Ignore top n place served = tt
+
+-- what is found is one of the list
+found_in : (P : Object → Type 0) (test : Object → Bool) (xs : List Object) (x : Object) → AllByRecursion P xs → find test xs ≡ Some x → P x
+found_in P test [] x all e = absurd (let h : None ≡ Some x = e in cc)
+found_in P test (y ∷ xs) x all e =
+    elim (test y) as (λ b. cond b (Some y) (find test xs) ≡ Some x → P x) [
+      | true ↦ λ some. subst P (let h : y ≡ x = cc in h) all.0
+      | false ↦ λ rest. found_in P test xs x all.1 rest
+    ] e
+
+-- a source that may be stored
+record IsServedSource (x : Object) : Type 0 where
+  served : IsServed x
+  copied : can_be_copied x.id.kind ≡ true
+
+copy_storable : (acts : Bool) (ns : Option Object) (mode : Mode) (sources : List Object) (n : List ℕ) (place : Option Object) → ((y : Object) → ns ≡ Some y → is_dns_label n ≡ true) → AllByRecursion IsServedSource sources
+    → IsStorable (copy_write acts ns mode sources n place)
+copy_storable acts None mode sources n place named all = tt
+copy_storable false (Some y) mode sources n place named all = tt
+copy_storable true (Some y) mode sources n place named all =
+    in_mode mode (top_of mode y.labels sources) n place (λ x e.
+    let source = found_in IsServedSource (λ x. goes_to mode x y.labels) sources x all e in
+    copy_served x n source.served source.copied (named y refl))
+
+tree_storable : (acts : Bool) (chain : List (List ℕ)) (ns : Option Object) → ((y : Object) → ns ≡ Some y → IsServed y) → AreLabels chain → length chain < 2 ^ 64 → IsStorable (tree_write acts chain ns)
+tree_storable acts chain None served names short = tt
+tree_storable false chain (Some y) served names short = tt
+tree_storable true chain (Some y) served names short = placed_storable (labelled chain y) (Some y) (labelled_served y chain (served y refl) names short) refl
+
+-- ---- what a valid state has
+
+all_served : (last : ℕ) (objects : Objects) → AllByRecursion (IsStored last) objects → AllByRecursion IsServed objects
+all_served last [] all = tt
+all_served last (x ∷ objects) all = (all.0.served, all_served last objects all.1)
+
+-- a namespace that is there has a legal name
+named_there : (objects : Objects) (n : List ℕ) (y : Object) → AllByRecursion IsServed objects → object_at objects (namespace_id n) ≡ Some y → is_dns_label n ≡ true
+unfolding has_legal_names
+named_there objects n y all e =
+    let names : has_legal_names (namespace_id n) ≡ true = ap has_legal_names (found_id objects (namespace_id n) y e) ∙ legal_names y (All-found IsServed (namespace_id n) y objects all e).legal in
+    (and_parts (has_legal_namespace (namespace_id n)) (is_name_of Namespace n) names).1
+
+all_append : (P : Object → Type 0) (xs ys : List Object) → AllByRecursion P xs → AllByRecursion P ys → AllByRecursion P (xs ++ ys)
+all_append P [] ys p q = q
+all_append P (x ∷ xs) ys p q = (p.0, all_append P xs ys p.1 q)
+
+source_served : (objects : Objects) (id : Id) → AllByRecursion IsServed objects → AllByRecursion IsServedSource (as_list (source_at objects id))
+source_served objects id all =
+    elim (object_at objects id) as (λ o. object_at objects id ≡ o → AllByRecursion IsServedSource (as_list (option_and_then (λ x. so (is_source x) x) o))) [
+      | None ↦ λ e. tt
+      | Some y ↦ λ e. elim (is_source y) as (λ b. is_source y ≡ b → AllByRecursion IsServedSource (as_list (so b y))) [
+        | true ↦ λ t. (record { served = All-found IsServed id y objects all e; copied = (and_parts (can_be_copied y.id.kind) (not (is_copy y)) t).0 }, tt)
+        | false ↦ λ t. tt
+      ] refl
+    ] refl
+
+sources_served : (objects : Objects) (kind : Kind) (name : List ℕ) (chain : List (List ℕ)) → AllByRecursion IsServed objects → AllByRecursion IsServedSource (sources_along objects kind name chain)
+sources_served objects kind name [] all = tt
+sources_served objects kind name (a ∷ chain) all = all_append IsServedSource (sources_along objects kind name chain) (as_list (source_at objects (id_in kind name a))) (sources_served objects kind name chain all) (source_served objects (id_in kind name a) all)
+
+each_in : (P : List ℕ → Type 0) (names : List (List ℕ)) → ((a : List ℕ) → is_in a names ≡ true → P a) → AllByRecursion P names
+each_in P [] holds = tt
+each_in P (n ∷ names) holds = (holds n (ap (λ b. b || is_in n names) (same_itself n)), each_in P names (λ a e. holds a (later (bytes_eq a n) (is_in a names) e)))
+  where
+    later : (b c : Bool) → c ≡ true → (b || c) ≡ true
+    later true c e = refl
+    later false c e = e
+
+there_is : (o : Option Object) → is_some o ≡ true → (y : Object) × (o ≡ Some y)
+there_is (Some y) e = (y, refl)
+there_is None e = absurd (true≢false (sym e))
+
+-- each member of a chain has a legal name
+chain_named : (s : State) (n : List ℕ) → AllByRecursion IsServed s.objects → AreLabels (chain_of (forest_of s) n)
+chain_named s n all =
+    each_in (λ a. is_dns_label a ≡ true) (chain_of (forest_of s) n) (λ a e.
+    let found = there_is (object_at s.objects (namespace_id a)) (sym (there-objects s.config.excluded s.objects a all) ∙ (chain_there (forest_of s) n).there a e) in
+    named_there s.objects a found.0 all found.1)
+
+-- ---- what is planned
+
+by_facts : Key → Option Facts → Option Write
+by_facts k (Some found) = planned k found
+by_facts k None = None
+
+short_by : Option Facts → Option Write → Type 0
+short_by (Some found) write = IsShort found write
+short_by None write = Unit {0}
+
+planned_tree : (s : State) (n : List ℕ) (write : Option Write) → AllByRecursion IsServed s.objects
+    → IsShort (facts.Tree (object_at s.objects (namespace_id n)) (is_open (forest_of s) n) (chain_of (forest_of s) n)) write → write ≡ tree_write (is_open (forest_of s) n) (chain_of (forest_of s) n) (object_at s.objects (namespace_id n)) → IsStorable write
+planned_tree s n None all short e = tt
+planned_tree s n (Some write) all short e =
+    subst IsStorable (sym e) (tree_storable (is_open (forest_of s) n) (chain_of (forest_of s) n) (object_at s.objects (namespace_id n)) (λ y there. All-found IsServed (namespace_id n) y s.objects all there) (chain_named s n all) short)
+
+planned_storable : (s : State) (k : Key) (found : Facts) (write : Option Write) → AllByRecursion IsServed s.objects → facts_of s k ≡ Some found → IsShort found write → write ≡ planned k found → IsStorable write
+unfolding by_facts short_by
+planned_storable s (key.Copy n kind name) found write all e short is =
+    subst IsStorable (sym (is ∙ sym (ap (by_facts (key.Copy n kind name)) e)))
+    (copy_storable (is_open (forest_of s) n) (object_at s.objects (namespace_id n)) (mode_of s kind) (sources_above s n kind name) n (object_at s.objects (id_in kind name n)) (λ y there. named_there s.objects n y all there)
+    (sources_served s.objects kind name (tail_of (chain_of (forest_of s) n)) all))
+planned_storable s (key.Tree n) found write all e short is =
+    planned_tree s n write all (subst (λ (o : Option Facts). short_by o write) (sym e) short) (is ∙ sym (ap (by_facts (key.Tree n)) e))
+planned_storable s (key.Report n) found write all e short is = absurd (let h : None ≡ Some found = e in cc)
+planned_storable s (key.Child n name) found write all e short is = absurd (let h : None ≡ Some found = e in cc)
+planned_storable s (key.Anchor n name) found write all e short is = absurd (let h : None ≡ Some found = e in cc)
+planned_storable s (key.Used n name) found write all e short is = absurd (let h : None ≡ Some found = e in cc)
+planned_storable s (key.Purge n) found write all e short is = absurd (let h : None ≡ Some found = e in cc)
+
+pub storable : (brief : Brief) (write : Option Write) → IsPlanned brief write → IsStorableFor brief write
+storable brief write is s valid stands = planned_storable s brief.key brief.facts write (all_served s.last s.objects valid.stored) stands.facts is.short is.planned

@@ -1,0 +1,67 @@
+// Which source wins at a place.
+ghost use Rattle.std.specs.Prelude.{◌≡◌, IfOk, option_copied};
+ghost use Rattle.hx_model.specs.Limits.{is_copy};
+ghost use Rattle.hx_model.specs.Propagation.{goes_to, is_source, is_token, stays_home, top_of};
+
+use crate::exceptions::is_allowed;
+use hx_object::well_known::{INHERITED_FROM, ROOT_CERTIFICATES};
+use hx_object::{Kind, Mode, NoMemory, Object, Pairs, Payload, Shared};
+use std::alloc::Global;
+
+/// The source that wins where a namespace has these labels: the first one that goes there, of those in the namespaces above, the farthest first.
+pub(crate) fn top_source<'a>(
+    alloc: Global,
+    mode: Mode,
+    labels: &Pairs,
+    sources: &'a [Shared],
+) -> Result<Option<&'a Shared>, NoMemory>
+    ensures { IfOk result (λ top. option_copied top ≡ top_of mode labels.now sources.now) }
+{
+    for source in sources {
+        if goes_to(alloc, mode, source.object(), labels)? {
+            return Ok(Some(source));
+        }
+    }
+    Ok(None)
+}
+
+/// Whether a source of a kind in this mode goes to a namespace of these labels below its own.
+pub fn goes_to(alloc: Global, mode: Mode, source: &Object, labels: &Pairs) -> Result<bool, NoMemory>
+    ensures { IfOk result (λ goes. goes ≡ goes_to mode source.now labels.now) }
+{
+    if !matches!(mode, Mode::Propagate) || !is_source(source) || stays_home(source) {
+        return Ok(false);
+    }
+    is_allowed(alloc, source, labels)
+}
+
+pub fn is_source(object: &Object) -> bool
+    ensures { result ≡ is_source object.now }
+{
+    object.id.kind.can_be_copied() && !is_copy(object)
+}
+
+/// Whether the object is a copy, which its label tells.
+#[tactic(auto, unfolding(hx_model::specs::Limits::is_copy))]
+pub(crate) fn is_copy(object: &Object) -> bool
+    ensures { result ≡ is_copy object.now }
+{
+    object.id.kind.can_be_copied() && object.labels.get(INHERITED_FROM).is_some()
+}
+
+/// Whether the object goes nowhere: the certificates that Kubernetes keeps in each namespace, and the token of a service account.
+pub fn stays_home(object: &Object) -> bool
+    ensures { result ≡ stays_home object.now }
+{
+    matches!(object.id.kind, Kind::ConfigMap) && object.id.name.as_str() == ROOT_CERTIFICATES
+        || is_token(&object.payload)
+}
+
+fn is_token(payload: &Payload) -> bool
+    ensures { result ≡ is_token payload.now }
+{
+    match payload {
+        Payload::Plain { need, .. } => need.token,
+        _ => false,
+    }
+}
