@@ -42,7 +42,7 @@ module _ {Y V : Type 0} (f : V → List Object) where
   all_flat Q (e ∷ es) all = all_append Q (f e.1) (flat_map f (values_of es)) all.0 (all_flat Q es all.1)
 
   -- where the objects of each entry are apart, and have its key
-  flat_apart : (key : Id → List ℕ) (es : List (String Y × V)) → IsDistinct string_eq (keys_of es) → AllByRecursion (λ e. AreApart (f e.1)) es → AllByRecursion (λ e. AllByRecursion (λ x. key x.id ≡ string_bytes e.0) (f e.1)) es
+  pub flat_apart : (key : Id → List ℕ) (es : List (String Y × V)) → IsDistinct string_eq (keys_of es) → AllByRecursion (λ e. AreApart (f e.1)) es → AllByRecursion (λ e. AllByRecursion (λ x. key x.id ≡ string_bytes e.0) (f e.1)) es
       → ((q : Id) → AllByRecursion (λ e. bytes_eq (key q) (string_bytes e.0) ≡ false → object_at (f e.1) q ≡ None) es) → AreApart (flat_map f (values_of es))
   flat_apart key [] distinct inner own others = tt
   flat_apart key (e ∷ es) distinct inner own others =

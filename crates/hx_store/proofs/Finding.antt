@@ -73,11 +73,11 @@ module _ {Y V : Type 0} (f : V → List Object) (q : Id) (n : List ℕ) where
 abbrev pub id_of : Kind → List ℕ → List ℕ → Id
 id_of kind ns name = record { kind = kind; ns = ns; name = name }
 
-and_false : (b : Bool) → (b && false) ≡ false
+pub and_false : (b : Bool) → (b && false) ≡ false
 and_false true = refl
 and_false false = refl
 
-and_true : (b : Bool) → (b && true) ≡ b
+pub and_true : (b : Bool) → (b && true) ≡ b
 and_true true = refl
 and_true false = refl
 

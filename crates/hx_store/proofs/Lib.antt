@@ -2,6 +2,8 @@ pub mod Apart
 pub mod ByKind
 pub mod Edits
 pub mod Finding
+pub mod Indexing
 pub mod Listing
+pub mod Named
 pub mod Waiting
 pub mod Writing

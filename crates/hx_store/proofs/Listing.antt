@@ -35,7 +35,7 @@ use Rattle.hx_store.specs.Places.{IsSound, found, kind_at, place_in, place_of, p
 use Rattle.hx_store.specs.declared.shelf.Shelf.{Shelf}
 use Rattle.hx_store.specs.declared.shelves.Shelves.{Shelves}
 use Rattle.hx_store.specs.declared.places.Places.{Places}
-use Rattle.hx_store.proofs.Finding.{id_of, found_in, found_of, found_at, own_in}
+use Rattle.hx_store.proofs.Finding.{and_true, id_of, found_in, found_of, found_at, own_in}
 use Rattle.hx_store.proofs.Apart.{AreApart, shelf_apart, shelves_apart}
 
 -- whether two identities are one, as maps test it
@@ -130,7 +130,7 @@ distinct-apart (x ∷ xs) apart = IsDistinct-cons id_test x.id (ids xs) (others 
         by false e h rest = (id_test-same x.id y.id ∙ e, rest h)
 
 -- the sort of objects that are found where a filter keeps what is found is the filter
-listed : (p : Object → Bool) (objects : Objects) (xs ys : List Object) → ascends objects ≡ true → AreApart xs → IsPermutation xs ys → IsSortedByKey (λ x. x.id) id_cmp ys
+pub listed : (p : Object → Bool) (objects : Objects) (xs ys : List Object) → ascends objects ≡ true → AreApart xs → IsPermutation xs ys → IsSortedByKey (λ x. x.id) id_cmp ys
     → ((q : Id) → object_at xs q ≡ option_filter p (object_at objects q)) → ys ≡ filter p objects
 listed p objects xs ys up apart moved sorted finds =
     let distinct = distinct-apart xs apart in
@@ -143,18 +143,14 @@ listed p objects xs ys up apart moved sorted finds =
 is_under : Kind → Option (List ℕ) → Id → Bool
 is_under kind ns q = (number_of q.kind == number_of kind) && option_map_or (bytes_eq q.ns) ns true
 
-and_true : (b : Bool) → (b && true) ≡ b
-and_true true = refl
-and_true false = refl
-
-flip_eqb : (a b : ℕ) → (a == b) ≡ (b == a)
+pub flip_eqb : (a b : ℕ) → (a == b) ≡ (b == a)
 flip_eqb a b = both_ways (a == b) (b == a) (λ h. eq-eqb b a (sym (eqb-true a b h))) (λ h. eq-eqb a b (sym (eqb-true b a h)))
 
-same_then : (b : Bool) (u v : Option Object) → (b ≡ true → u ≡ v) → cond b u None ≡ cond b v None
+pub same_then : (b : Bool) (u v : Option Object) → (b ≡ true → u ≡ v) → cond b u None ≡ cond b v None
 same_then true u v same = same refl
 same_then false u v same = refl
 
-none_then : (b : Bool) (v : Option Object) → (b ≡ true → v ≡ None) → None ≡ cond b v None
+pub none_then : (b : Bool) (v : Option Object) → (b ≡ true → v ≡ None) → None ≡ cond b v None
 none_then true v none = sym (none refl)
 none_then false v none = refl
 

@@ -144,21 +144,21 @@ pub after_first : (w : Write) (rest : List Write) (objects : Objects) → after_
 after_first (Put x) rest objects = refl
 after_first (Cut id) rest objects = refl
 
--- one more place is made
-pub more_places : (old new : Places) (ws : List Write) (n : ℕ) (d : Write) → KeepsPlaces old new → ((i : ℕ) (w : Write) → i < n → slice_get ws i ≡ Some w → HasPlace old w) → HasPlace new (get_or ws n d)
-    → (i : ℕ) (w : Write) → i < n + 1 → slice_get ws i ≡ Some w → HasPlace new w
-more_places old new ws n d kept below this i w less e = by (i == n) refl
+-- what holds of the writes so far, and of one more
+pub more_hold : (Before After : Write → Type 0) (ws : List Write) (n : ℕ) (d : Write) → ((w : Write) → Before w → After w) → ((i : ℕ) (w : Write) → i < n → slice_get ws i ≡ Some w → Before w) → After (get_or ws n d)
+    → (i : ℕ) (w : Write) → i < n + 1 → slice_get ws i ≡ Some w → After w
+more_hold Before After ws n d kept below this i w less e = by (i == n) refl
   where
-    by : (b : Bool) → (i == n) ≡ b → HasPlace new w
-    by true same = subst (HasPlace new) (ap (λ k. get_or ws k d) (sym (eqb-true i n same)) ∙ get_or_from_slice_get ws i w d e) this
+    by : (b : Bool) → (i == n) ≡ b → After w
+    by true same = subst After (ap (λ k. get_or ws k d) (sym (eqb-true i n same)) ∙ get_or_from_slice_get ws i w d e) this
     by false other =
         let apart : i ≢ n = λ k. true≢false (sym (eq-eqb i n k) ∙ other) in
         kept w (below i w (omega (arith, less, apart)) e)
 
--- the places of the writes that are left stay
-pub left_places : (old new : Places) (ws : List Write) (n : ℕ) (v : Write) → KeepsPlaces old new → ((i : ℕ) (w : Write) → n ≤ i → slice_get ws i ≡ Some w → HasPlace old w)
-    → (i : ℕ) (w : Write) → n + 1 ≤ i → slice_get (slice_set ws n v) i ≡ Some w → HasPlace new w
-left_places old new ws n v kept left i w more e = kept w (left i w (omega arith) (sym (slice_get-set_other ws n i v (λ k. absurd (omega (arith, k, more)))) ∙ e))
+-- what holds of the writes that are left
+pub left_hold : (Before After : Write → Type 0) (ws : List Write) (n : ℕ) (v : Write) → ((w : Write) → Before w → After w) → ((i : ℕ) (w : Write) → n ≤ i → slice_get ws i ≡ Some w → Before w)
+    → (i : ℕ) (w : Write) → n + 1 ≤ i → slice_get (slice_set ws n v) i ≡ Some w → After w
+left_hold Before After ws n v kept left i w more e = kept w (left i w (omega arith) (sym (slice_get-set_other ws n i v (λ k. absurd (omega (arith, k, more)))) ∙ e))
 
 -- and the writes that are left make of the objects what all make
 pub left_writes : (old new : Places) (ws : List Write) (n : ℕ) (d v : Write) → n < length ws → objects_at new ≡ after_writes (get_or ws n d ∷ []) (objects_at old)

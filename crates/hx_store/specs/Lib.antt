@@ -1,3 +1,5 @@
+pub mod ByName
 pub mod Changes
 pub mod Kept
 pub mod Places
+pub mod Sources

@@ -1,9 +1,11 @@
 // Writes that are ready to be made.
-ghost use Rattle.std.specs.Prelude.{◌≡◌, IfOk, option_copied};
+ghost use Rattle.std.specs.Prelude.{◌≡◌, Some, IfOk, is_some, option_copied};
 ghost use Rattle.hx_store.specs.Changes.{id_of, object_of};
+ghost use Rattle.hx_store.specs.Sources.{is_source, source_in};
 
 use hx_model::Write;
-use hx_object::{Id, NoMemory, Shared};
+use hx_object::well_known::INHERITED_FROM;
+use hx_object::{Id, NoMemory, Object, Shared};
 use std::marker::Model;
 
 /// A write, with the identity that it is of.
@@ -11,11 +13,13 @@ use std::marker::Model;
 pub struct Change {
     key: Id,
     object: Option<Shared>,
+    /// The object once more, if it is a source.
+    source: Option<Shared>,
 }
 
 impl Model for Change {
     ghost use Rattle.hx_model.specs.declared.key.Write.{Write};
-    ghost use Rattle.hx_store.specs.Changes.{write_code, write_of, HasItsKey};
+    ghost use Rattle.hx_store.specs.Changes.{write_code, write_of, IsChange};
 
     ghost Value = { Write };
 
@@ -23,7 +27,7 @@ impl Model for Change {
 
     ghost view = { λ c. write_of c.key c.object };
 
-    ghost invariant = { λ c. HasItsKey c.key c.object };
+    ghost invariant = { λ c. IsChange c.key c.object c.source };
 }
 
 impl Change {
@@ -33,6 +37,7 @@ impl Change {
     {
         Ok(Change {
             key: object.object().id.clone()?,
+            source: share_source(&object)?,
             object: Some(object),
         })
     }
@@ -44,6 +49,7 @@ impl Change {
         Change {
             key: id,
             object: None,
+            source: None,
         }
     }
 
@@ -61,11 +67,37 @@ impl Change {
         self.object.as_ref()
     }
 
-    /// Takes the object out, which leaves a write that takes the object of the identity away.
-    pub(crate) fn take_object(&mut self) -> Option<Shared>
-        ensures object { result ≡ object_of self.old }
+    /// Whether the object that is stored is a source.
+    pub(crate) fn puts_source(&self) -> bool
+        ensures { result ≡ is_some (source_in (object_of self.now)) }
+    {
+        self.source.is_some()
+    }
+
+    /// Takes the object out, and once more if it is a source, which leaves a write that takes the object of the identity away.
+    pub(crate) fn take(&mut self) -> (Option<Shared>, Option<Shared>)
+        ensures object { result.0 ≡ object_of self.old }
+        ensures source { result.1 ≡ source_in (object_of self.old) }
         ensures rest { self.new ≡ Write.Cut (id_of self.old) }
     {
-        self.object.take()
+        (self.object.take(), self.source.take())
     }
+}
+
+/// One more owner of an object, if it is a source.
+fn share_source(object: &Shared) -> Result<Option<Shared>, NoMemory>
+    ensures { IfOk result (λ source. source ≡ source_in (Some object.now)) }
+{
+    if is_source(object.object()) {
+        return Ok(Some(object.share()?));
+    }
+    Ok(None)
+}
+
+/// Whether an object is a source: of a kind that can be copied, and no copy itself.
+#[tactic(auto, unfolding(hx_model::specs::Limits::is_copy))]
+fn is_source(object: &Object) -> bool
+    ensures { result ≡ is_source object.now }
+{
+    object.id.kind.can_be_copied() && object.labels.get(INHERITED_FROM).is_none()
 }

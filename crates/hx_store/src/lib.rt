@@ -9,6 +9,7 @@ mod map;
 mod places;
 mod shelf;
 mod shelves;
+mod sources;
 mod store;
 mod writes;
 

@@ -75,7 +75,7 @@ impl Places {
 }
 
 /// Where the objects of a kind lie.
-fn index_of(kind: Kind) -> usize
+pub(crate) fn index_of(kind: Kind) -> usize
     ensures value { result ≡ number_of kind - 1 }
     ensures small { result < 14 }
 {

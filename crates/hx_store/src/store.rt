@@ -4,9 +4,11 @@ ghost use Rattle.std.specs.List.Sorted.{IsPermutation, IsSortedByKey};
 ghost use Rattle.hx_object.specs.Order.{id_cmp};
 ghost use Rattle.hx_model.specs.State.{object_at, after_writes};
 ghost use Rattle.hx_model.specs.Answers.{is_listed};
+ghost use Rattle.hx_store.specs.Sources.{is_source_of};
 
 use crate::change::Change;
 use crate::places::Places;
+use crate::sources::Sources;
 use crate::writes::{make_places, make_writes, sweep_places};
 use hx_object::{Id, Kind, NoMemory, Shared, Text};
 use std::alloc::Global;
@@ -16,10 +18,11 @@ use std::mem;
 
 /// Objects by kind, namespace and name, and the version of the last write.
 ///
-/// An object is found in constant time on average, and a list looks at nothing but what it gives. Writes are staged, which makes room for them, and then made without taking memory.
+/// An object is found in constant time on average, and a list looks at nothing but what it gives. Sources, which copies are made of, lie by kind, name and namespace as well. Writes are staged, which makes room for them, and then made without taking memory.
 #[derive(Drop)]
 pub struct Store {
     places: Places,
+    sources: Sources,
     version: u64,
     staged: Vec<Change>,
     alloc: Global,
@@ -27,7 +30,8 @@ pub struct Store {
 
 impl Model for Store {
     ghost use Rattle.hx_store.specs.Kept.{StoreView, store_code};
-    ghost use Rattle.hx_store.specs.Places.{IsReady, objects_at};
+    ghost use Rattle.hx_store.specs.Places.{objects_at};
+    ghost use Rattle.hx_store.specs.ByName.{IsKept};
 
     ghost Value = { StoreView };
 
@@ -35,7 +39,7 @@ impl Model for Store {
 
     ghost view = { λ s. record { objects = objects_at s.places; version = s.version; staged = s.staged.items } };
 
-    ghost invariant = { λ s. IsReady s.places s.staged.items };
+    ghost invariant = { λ s. IsKept s.places s.sources s.staged.items };
 }
 
 impl Store {
@@ -47,6 +51,7 @@ impl Store {
     {
         Store {
             places: Places::new(alloc, keys),
+            sources: Sources::new(alloc, keys),
             version,
             staged: Vec::new(alloc),
             alloc,
@@ -89,6 +94,18 @@ impl Store {
         Ok(listed)
     }
 
+    /// The sources of a kind and a name in all namespaces, in ascending order of identities: the objects that copies are made of.
+    ///
+    /// Roles, role bindings, config maps, secrets, network policies and limit ranges can be copied. A copy has the label `hnc.x-k8s.io/inherited-from` (HNC user guide, "Object propagation"). It looks at nothing but what it gives.
+    pub fn sources(&self, kind: Kind, name: &str) -> Result<Vec<Shared>, NoMemory>
+        ensures { IfOk result (λ objects. objects.items ≡ filter (is_source_of kind name.now) self.now.objects) }
+    {
+        let mut listed = Vec::new(self.alloc);
+        self.sources.list(kind, name, &mut listed)?;
+        sort(&mut listed);
+        Ok(listed)
+    }
+
     /// The writes that are staged.
     pub fn staged(&self) -> &[Change]
         ensures { result.now ≡ self.now.staged }
@@ -104,7 +121,7 @@ impl Store {
         ensures err { OnErr result (self.new.staged ≡ []) }
     {
         self.discard();
-        make_places(&mut self.places, &changes)?;
+        make_places(&mut self.places, &mut self.sources, &changes)?;
         self.staged = changes;
         Ok(())
     }
@@ -116,8 +133,8 @@ impl Store {
         ensures staged { self.new.staged ≡ [] }
     {
         let mut changes = mem::replace(&mut self.staged, Vec::new(self.alloc));
-        make_writes(&mut self.places, &mut changes);
-        sweep_places(&mut self.places, &changes);
+        make_writes(&mut self.places, &mut self.sources, &mut changes);
+        sweep_places(&mut self.places, &mut self.sources, &changes);
         self.version = version;
     }
 
@@ -128,7 +145,7 @@ impl Store {
         ensures staged { self.new.staged ≡ [] }
     {
         let changes = mem::replace(&mut self.staged, Vec::new(self.alloc));
-        sweep_places(&mut self.places, &changes);
+        sweep_places(&mut self.places, &mut self.sources, &changes);
     }
 }
 

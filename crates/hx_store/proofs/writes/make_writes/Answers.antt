@@ -2,13 +2,14 @@ use Rattle.std.proofs.Common.{◌≤◌, ◌<◌, length, refl, sym, ap, ◌∙�
 use Rattle.std.proofs.lemmas.Option.{slice_get-get_or}
 use Rattle.std.proofs.Math.ListN.{drop_of_length-le}
 use Rattle.hx_model.specs.State.{after_writes}
-use Rattle.hx_store.specs.Places.{objects_at}
+use Rattle.hx_store.specs.Places.{HasPlace, objects_at}
+use Rattle.hx_store.specs.ByName.{HasSource}
 use Rattle.hx_store.proofs.Waiting.{more_others, same_written}
-use Rattle.hx_store.proofs.Writing.{left_places, left_writes}
+use Rattle.hx_store.proofs.Writing.{left_hold, left_writes}
 use Rattle.hx_store.proofs.writes.make_writes.Goals as goal
 
 pub loop-change-init : goal.loop-change-init
-loop-change-init c = record { sound = c.requires.sound; there = λ i w _ e. c.requires.there i w e; others = λ id _. refl; ids = λ id. refl; objects = refl }
+loop-change-init c = record { sound = c.requires.sound; there = λ i w _ e. c.requires.there i w e; index = c.requires.index; awaited = λ i w _ e. c.requires.awaited i w e; others = λ id _. refl; ids = λ id. refl; objects = refl }
 
 pub make_write-requires-clause-sound : goal.make_write-requires-clause-sound
 make_write-requires-clause-sound c = c.loop-change.invariant.sound
@@ -18,12 +19,22 @@ make_write-requires-clause-there c =
     let within : c.loop-change.change-index < length c.loop-change.changes = omega arith in
     c.loop-change.invariant.there c.loop-change.change-index _ (omega arith) (slice_get-get_or c.loop-change.changes c.loop-change.change-index c.change-item.result within)
 
+pub make_write-requires-clause-index : goal.make_write-requires-clause-index
+make_write-requires-clause-index c = c.loop-change.invariant.index
+
+pub make_write-requires-clause-awaited : goal.make_write-requires-clause-awaited
+make_write-requires-clause-awaited c =
+    let within : c.loop-change.change-index < length c.loop-change.changes = omega arith in
+    c.loop-change.invariant.awaited c.loop-change.change-index _ (omega arith) (slice_get-get_or c.loop-change.changes c.loop-change.change-index c.change-item.result within)
+
 pub loop-change-preserved : goal.loop-change-preserved
 loop-change-preserved c =
     let within : c.loop-change.change-index < length c.loop-change.changes = omega arith in
     record {
       sound = c.make_write.ensures.sound;
-      there = left_places c.loop-change.places c.make_write.new.places c.loop-change.changes c.loop-change.change-index c.make_write.new.change c.make_write.ensures.kept c.loop-change.invariant.there;
+      index = c.make_write.ensures.index;
+      awaited = left_hold (HasSource c.loop-change.sources) (HasSource c.make_write.new.sources) c.loop-change.changes c.loop-change.change-index c.make_write.new.change c.make_write.ensures.kept_sources c.loop-change.invariant.awaited;
+      there = left_hold (HasPlace c.loop-change.places) (HasPlace c.make_write.new.places) c.loop-change.changes c.loop-change.change-index c.make_write.new.change c.make_write.ensures.kept c.loop-change.invariant.there;
       others = more_others c.args.changes.now c.loop-change.changes c.loop-change.change-index c.change-item.result c.args.places.now c.loop-change.places c.make_write.new.places within c.loop-change.invariant.ids c.loop-change.invariant.others c.make_write.ensures.others;
       ids = λ id. same_written c.loop-change.changes c.loop-change.change-index c.change-item.result c.make_write.new.change id c.make_write.ensures.id ∙ c.loop-change.invariant.ids id;
       objects = left_writes c.loop-change.places c.make_write.new.places c.loop-change.changes c.loop-change.change-index c.change-item.result c.make_write.new.change within c.make_write.ensures.objects ∙ c.loop-change.invariant.objects;
@@ -31,6 +42,9 @@ loop-change-preserved c =
 
 pub returns-clause-sound : goal.returns-clause-sound
 returns-clause-sound c = c.loop-change.invariant.sound
+
+pub returns-clause-index : goal.returns-clause-index
+returns-clause-index c = c.loop-change.invariant.index
 
 pub returns-clause-objects : goal.returns-clause-objects
 returns-clause-objects c =

@@ -11,5 +11,5 @@ returns c =
     let ns = option_copied c.args.ns in
     let places = c.self.inside.places in
     let all : c.list.new.listed.items ≡ objects_listed places c.args.kind ns = c.in_ok-list.ensures ∙ ap (λ xs. xs ++ objects_listed places c.args.kind ns) c.new-listed.ensures.items in
-    places_listed places c.self.invariant.sound c.args.kind ns c.sort.new.objects.items (subst (λ xs. IsPermutation xs c.sort.new.objects.items) all c.sort.ensures.same) c.sort.ensures.sorted
+    places_listed places c.self.invariant.ready.sound c.args.kind ns c.sort.new.objects.items (subst (λ xs. IsPermutation xs c.sort.new.objects.items) all c.sort.ensures.same) c.sort.ensures.sorted
     ∙ ap (λ s. filter (is_listed c.args.kind ns) s.objects) c.self.view_is
