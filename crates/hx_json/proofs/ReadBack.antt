@@ -2,12 +2,12 @@
 --     object_back      the object of its identity and its version that its value says is itself
 --     said_back        the same of a tree of its text
 --     tree_back        its text has a tree that is read as it stands
-use Rattle.std.proofs.Common.{◌≡◌, ℕ, List, [], ◌∷◌, Bool, true, false, true≢false, Option, Some, None, Err, option_and_then, unwrap_or, codes, refl, sym, subst, ap, ◌∙◌, decimal}
+use Rattle.std.proofs.Common.{◌≡◌, ◌≤◌, ℕ, List, [], ◌∷◌, Bool, true, false, true≢false, Option, Some, None, Err, option_and_then, unwrap_or, codes, refl, sym, subst, ap, ◌∙◌, decimal}
 use Rattle.std.specs.List.{list_all}
 use Rattle.std.proofs.lemmas.Bool.{and_parts}
-use Rattle.serde_json.specs.Data.{Data, null, object, Members, no_members, member, put}
+use Rattle.serde_json.specs.Data.{Data, null, object, Members, no_members, member, put, depth}
 use Rattle.serde_json.specs.Find.{get_member}
-use Rattle.serde_json.specs.Read.{read}
+use Rattle.serde_json.specs.Read.{max_depth, read}
 use Rattle.serde_json.proofs.Views.{get_member-put_other}
 use Rattle.json.specs.Json.{Json}
 use Rattle.hx_object.specs.Canonical.{IsCanonical}
@@ -23,13 +23,14 @@ use Rattle.hx_object.specs.declared.object.ModeEntry.{ModeEntry}
 use Rattle.hx_object.specs.declared.object.Object.{Object}
 use Rattle.hx_object.specs.declared.object.Payload.{Payload}
 use Rattle.hx_object.specs.declared.object.Payload.TheVariants.{Namespace, Config, Hierarchy, Anchor, Quota, Plain}
-use Rattle.hx_model.specs.Serving.{IsServed, is_given, is_given_mode, is_written}
+use Rattle.hx_model.specs.Serving.{IsServed, has_type, is_given, is_given_mode, is_typed, is_written}
 use Rattle.hx_json.specs.Reading.{counted_member, entry_of, entries_of, in_spec, items_in, kept_members, metadata_in, mode_of_text, pairs_in, pairs_of, payload_of, plain_of, text_in, truth_in, unless_empty_text, unless_null}
 use Rattle.hx_json.specs.ReadObject.{is_read}
 use Rattle.hx_json.specs.Rows.{Gives, IsTextOf, IsUnsound, row_fault, said_object}
 use Rattle.hx_json.specs.Trees.{data_of, is_ordered, tree_of, IsNoTree, IsOrdered}
 use Rattle.hx_json.specs.declared.fault.JsonFault.{JsonFault}
 use Rattle.hx_json.specs.declared.fault.JsonFault.TheVariants as faults
+use Rattle.hx_json.proofs.Given.{typed_is}
 use Rattle.hx_json.proofs.InOrder.{canonical_object, metadata, plain_whole, shallow_object}
 use Rattle.hx_json.proofs.Normal.{compact_ordered}
 use Rattle.hx_json.proofs.Orders.{ordered_read}
@@ -179,6 +180,12 @@ module _ (id : Id) (version : ℕ) (text : List ℕ) (x : Object) (h : IsTextOf 
   told j is ordered =
       (λ i. said_object (sym h.id_is i) (sym h.version_is i) (data_of j))
       ∙ said_back x j h.served (ap tree_of (sym h.text_is) ∙ is) (ap (λ (id : Id). is_ordered id.kind j) h.id_is ∙ ordered)
+
+  -- nor is one of a Secret whose type is no text
+  pub untyped : (j : Json) → tree_of text ≡ Some j → is_ordered id.kind j ≡ true → IsCanonical (data_of j) → depth (data_of j) ≤ max_depth → has_type id.kind (data_of j) ≡ false → ⊥
+  untyped j is ordered canonical shallow other =
+      let typed = subst (λ (y : Object). is_typed y.id.kind y.payload ≡ true) (sym (told j is ordered)) h.served.given.typed in
+      true≢false (sym typed ∙ typed_is id.kind (data_of j) canonical shallow ∙ other)
 
   -- and it has no fault of an object
   pub faultless : (j : Json) (f : JsonFault) → tree_of text ≡ Some j → is_ordered id.kind j ≡ true → IsUnsound (said_object id version (data_of j)) f → Gives (Err (row_fault f)) x

@@ -6,7 +6,7 @@ ghost use Rattle.serde_json.specs.Read.{max_depth};
 ghost use Rattle.hx_object.specs.Canonical.{IsCanonical};
 ghost use Rattle.hx_object.specs.Faults.{IsLegal};
 ghost use Rattle.hx_object.specs.Kinds.{is_in_cluster};
-ghost use Rattle.hx_model.specs.Serving.{IsGiven};
+ghost use Rattle.hx_model.specs.Serving.{IsGiven, has_type};
 ghost use Rattle.hx_json.specs.Inside.{IsFaultIn, Says, target_of};
 ghost use Rattle.hx_json.specs.Reading.{member_fault, target_at};
 ghost use Rattle.hx_json.specs.ReadObject.{IsFaultOf, IsReadOf, is_read};
@@ -209,6 +209,7 @@ fn object_at(
     requires shallow { depth (said value.now) ≤ max_depth }
     requires known { is_read id.kind ≡ true }
     requires home { is_in_cluster id.kind ≡ true → id.ns ≡ [] }
+    requires typed { has_type id.kind (said value.now) ≡ true }
     ensures object { IfOk result (λ x. x ≡ said_object id version (said value.now)) }
     ensures legal { IfOk result (λ x. IsLegal x × IsGiven x) }
     ensures fault { IfErr result (IsUnsound (said_object id version (said value.now))) }

@@ -6,6 +6,7 @@ ghost use Rattle.serde_json.specs.Read.{max_depth};
 ghost use Rattle.hx_object.specs.declared.kind.Kind.TheVariants as Kind;
 ghost use Rattle.hx_object.specs.Canonical.{IsCanonical};
 ghost use Rattle.hx_object.specs.Faults.{is_token, need_of};
+ghost use Rattle.hx_model.specs.Serving.{has_type, is_text_or_none};
 ghost use Rattle.hx_json.specs.Reading.{counted_member, entries_of, entry_of, expected_of, id_of, in_spec, kept_members, metadata_in, pair_of, pairs_in, pairs_of, payload_of, plain_of, target_at, text_in, text_or, unless_empty_text, unless_null};
 ghost use Rattle.hx_json.specs.Trees.{are_sorted, is_sorted, is_sorted_in, is_sorted_inside, keeps_order_for, laid_members, laid_out, said, said_items};
 
@@ -213,5 +214,22 @@ fn is_token(found: Option<&Value<'_>>) -> bool
     match found {
         Some(Value::String(text)) => *text == "kubernetes.io/service-account-token",
         _ => false,
+    }
+}
+
+/// Whether the type of a Secret is a text, where it has one.
+pub fn has_type(value: &Value<'_>, kind: Kind) -> bool
+    ensures { result ≡ has_type kind (said value.now) }
+{
+    kind != Kind::Secret || is_text_or_none(get(value, "type"))
+}
+
+/// Whether a member is a text, null or absent.
+fn is_text_or_none(found: Option<&Value<'_>>) -> bool
+    ensures { result ≡ is_text_or_none (option_map (λ v. said v.now) found.entry) }
+{
+    match found {
+        None | Some(Value::Null | Value::String(_)) => true,
+        Some(_) => false,
     }
 }

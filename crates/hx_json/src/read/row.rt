@@ -8,6 +8,7 @@ ghost use Rattle.hx_object.specs.declared.object.Id.{Id as IdOf};
 ghost use Rattle.hx_model.specs.Serving.{IsServed, is_written};
 ghost use Rattle.hx_json.specs.Rows.{GivesId, GivesRow, GivesTextOf, HasNoObject, IsCutAt, IsKeyOf, IsOnlyOf, IsRowOf, kind_in, may_lie_in, row_fault};
 
+use super::parts::has_type;
 use super::tree::{is_ordered, read_tree};
 use super::{BodyReader, object_at};
 use crate::write::push_object;
@@ -95,6 +96,9 @@ fn read_body(
         Err(fault) => return Err(row_fault(fault)),
     };
     if !is_ordered(&value, id.kind) {
+        return Err(RowFault::NoObject);
+    }
+    if !has_type(&value, id.kind) {
         return Err(RowFault::NoObject);
     }
     match object_at(alloc, room, &value, id, version) {

@@ -1,10 +1,10 @@
-use Rattle.std.proofs.Common.{rules, ◌≡◌, sym, subst, true, None}
+use Rattle.std.proofs.Common.{rules, ◌≡◌, ◌∙◌, sym, subst, true, None}
 use Rattle.hx_object.specs.Faults.{IsLegal, object_fault}
 use Rattle.hx_object.specs.declared.object.Object.{Object}
-use Rattle.hx_model.specs.Serving.{is_given}
+use Rattle.hx_model.specs.Serving.{is_given, is_typed}
 use Rattle.hx_json.specs.Rows.{said_object}
 use Rattle.hx_json.specs.Trees.{said}
-use Rattle.hx_json.proofs.Given.{payload_given}
+use Rattle.hx_json.proofs.Given.{payload_given, typed_is}
 use Rattle.hx_json.proofs.Legal.{legal}
 use Rattle.hx_json.proofs.read.object_at.Goals as goal
 
@@ -17,5 +17,6 @@ returns-in-Ok-clause-legal c =
         labels = c.keep_their_types.ensures.labels;
         annotations = c.keep_their_types.ensures.annotations;
         payload = subst (λ (x : Object). is_given x.payload ≡ true) (sym says) (payload_given c.args.id.kind d);
+        typed = subst (λ (x : Object). is_typed x.id.kind x.payload ≡ true) (sym says) (typed_is c.args.id.kind d c.requires.canonical c.requires.shallow ∙ c.requires.typed);
       },
     )

@@ -3,7 +3,7 @@ use Rattle.hx_object.specs.declared.object.Object.{Object}
 use Rattle.json.specs.Value.{value_view}
 use Rattle.hx_json.specs.Rows.{Gives}
 use Rattle.hx_json.proofs.Orders.{ordered_canonical, ordered_shallow}
-use Rattle.hx_json.proofs.ReadBack.{faultless, told, treeless, unordered}
+use Rattle.hx_json.proofs.ReadBack.{faultless, told, treeless, unordered, untyped}
 use Rattle.hx_json.proofs.read.row.read_body.Goals as goal
 
 pub returns-in-Err-clause-back : goal.returns-in-Err-clause-back
@@ -13,6 +13,12 @@ returns-in-Err-clause-back c = λ x h.
 pub returns-then-not-is_ordered-clause-back : goal.returns-then-not-is_ordered-clause-back
 returns-then-not-is_ordered-clause-back c = λ x h.
     unordered c.args.id c.args.version c.args.text.now x h (value_view c.in-Ok.value) c.in-Ok.ensures.ok (sym c.is_ordered.ensures ∙ c.if-not-is_ordered.true)
+
+pub returns-then-not-has_type-clause-back : goal.returns-then-not-has_type-clause-back
+returns-then-not-has_type-clause-back c = λ x h.
+    let ordered = sym c.is_ordered.ensures ∙ c.if-not-is_ordered.false in
+    untyped c.args.id c.args.version c.args.text.now x h (value_view c.in-Ok.value) c.in-Ok.ensures.ok ordered (ordered_canonical c.args.text.now c.args.id.kind (value_view c.in-Ok.value) c.in-Ok.ensures.ok ordered)
+    (ordered_shallow c.args.text.now c.args.id.kind (value_view c.in-Ok.value) c.in-Ok.ensures.ok ordered) (sym c.has_type.ensures ∙ c.if-not-has_type.true)
 
 pub object_at-requires-clause-canonical : goal.object_at-requires-clause-canonical
 object_at-requires-clause-canonical c = ordered_canonical c.args.text.now c.args.id.kind (value_view c.in-Ok.value) c.in-Ok.ensures.ok (sym c.is_ordered.ensures ∙ c.if-not-is_ordered.false)
