@@ -5,6 +5,7 @@ use Rattle.std.specs.Str.Lossy.{utf8_lossy, utf8_valid_len}
 use lib.Utf8.{encode}
 use Rattle.form_urlencoded.proofs.OnLiterals.{form_urlencoded_on_literals}
 use Rattle.hx_object.specs.declared.kind.Kind.TheVariants.{Namespace, Role, Pod, Secret}
+use Rattle.hx_select.specs.Selectors.{everything, selector_of}
 use Rattle.hx_model.specs.declared.ask.Ask.TheVariants as of
 use Rattle.hx_model.specs.declared.refusal.Refusal.TheVariants.{NoMethod, BadQuery}
 use Rattle.hx_api.specs.Asks.{ask_of}
@@ -50,13 +51,26 @@ method_first : ask_of Post (codes "/api/v1/namespaces/%ff?watch=1") [] ≡ Err N
 unfolding ask_of resource_of
 method_first = refl
 
-second_watch : ask_of Get (codes "/api/v1/pods?watch=&watch=1") [] ≡ Ok (of.List Pod None)
+second_watch : ask_of Get (codes "/api/v1/pods?watch=&watch=1") [] ≡ Ok (of.List Pod None everything)
 unfolding ask_of resource_of bad_parameter parameters_of form_urlencoded_on_literals utf8_lossy utf8_valid_len is_utf8 chars encode
 second_watch = refl
 
 bad_watch : ask_of Get (codes "/api/v1/pods?watch=1") [] ≡ Err (BadQuery (codes "watch"))
 unfolding ask_of resource_of bad_parameter parameters_of form_urlencoded_on_literals utf8_lossy utf8_valid_len is_utf8 chars encode
 bad_watch = refl
+
+-- the selector of a list is tried before the other parameters, and only that of a list
+bad_selector : ask_of Get (codes "/api/v1/pods?watch=1&labelSelector=,&labelSelector=") [] ≡ Err (BadQuery (codes "labelSelector"))
+unfolding ask_of resource_of bad_parameter selector_of parameters_of form_urlencoded_on_literals utf8_lossy utf8_valid_len is_utf8 chars encode
+bad_selector = refl
+
+selector_of_an_object : ask_of Get (codes "/api/v1/namespaces/a?labelSelector=,") [] ≡ Ok (of.Get (record { kind = Namespace; ns = []; name = codes "a" }))
+unfolding ask_of resource_of segment_text bad_parameter parameters_of form_urlencoded_on_literals utf8_lossy utf8_valid_len is_utf8 chars encode
+selector_of_an_object = refl
+
+empty_selector : ask_of Get (codes "/api/v1/pods?labelSelector=&labelSelector=,") [] ≡ Ok (of.List Pod None everything)
+unfolding ask_of resource_of bad_parameter parameters_of form_urlencoded_on_literals utf8_lossy utf8_valid_len is_utf8 chars encode
+empty_selector = refl
 
 decoded : ask_of Get (codes "/api/v1/namespaces/a%2Fb") [] ≡ Ok (of.Get (record { kind = Namespace; ns = []; name = codes "a/b" }))
 unfolding ask_of resource_of segment_text bad_parameter parameters_of form_urlencoded_on_literals is_utf8 chars encode

@@ -1,14 +1,17 @@
 -- What a query says, by its parameters one after another.
-use Rattle.std.proofs.Common.{◌≡◌, ℕ, List, [], ◌∷◌, Bool, true, false, not, Option, Some, None, option_map, unwrap_or, codes, refl, sym, ap, ◌∙◌}
+use Rattle.std.proofs.Common.{◌≡◌, ℕ, List, [], ◌∷◌, Bool, true, false, not, Option, Some, None, option_map, unwrap_or, codes, refl, sym, ap, ◌∙◌, map, true≢false}
 use Rattle.std.specs.Prelude.{bytes_eq}
+use Rattle.std.specs.Cow.{cow_str_bytes}
 use Rattle.std.specs.Option.{option_or}
+use Rattle.std.specs.declared.alloc.Global.{Global}
+use Rattle.std.specs.declared.borrow.CowStr.{CowStr}
 use Rattle.std.proofs.lemmas.Slice.Eq.{bytes_eq-Decides}
 use Rattle.hx_object.specs.Pairs.{value_of}
 use Rattle.hx_json.specs.Reading.{is_long_decimal}
-use Rattle.hx_api.specs.Inside.{given_in, is_filled, name_of, over, said_by}
-use Rattle.hx_api.specs.Queries.{Parameters, is_given, is_other_admission, is_since, is_skip}
+use Rattle.hx_api.specs.Inside.{IsReading, given_in, is_filled, kept_text, name_of, over, said_by, selector_said}
+use Rattle.hx_api.specs.Queries.{Parameters, is_given, is_other_admission, is_since, is_skip, text_pair}
 use Rattle.hx_api.specs.declared.query.Parameter.{Parameter}
-use Rattle.hx_api.specs.declared.query.Parameter.TheVariants.{Watch, FieldSelector, DryRun, Continue, LabelSelector}
+use Rattle.hx_api.specs.declared.query.Parameter.TheVariants.{Watch, FieldSelector, DryRun, Continue}
 use Rattle.hx_api.specs.declared.query.Said.{Said}
 
 -- ---- one more parameter
@@ -47,11 +50,6 @@ pub continued : (x : Said) (value : List ℕ) (rest : Parameters)
 unfolding over said_by
 continued x value rest = rw (first_said x.continued) refl
 
-pub label_selector : (x : Said) (value : List ℕ) (rest : Parameters)
-    → over (record x { label_selector = option_or x.label_selector (Some (is_filled value)) }) (said_by rest) ≡ over x (said_by ((codes "labelSelector", value) ∷ rest))
-unfolding over said_by
-label_selector x value rest = rw (first_said x.label_selector) refl
-
 differs : (name key : List ℕ) → (name ≡ key → ⊥) → bytes_eq key name ≡ false
 differs name key other = by (bytes_eq key name) refl
   where
@@ -62,21 +60,51 @@ differs name key other = by (bytes_eq key name) refl
 -- one that doesn't count
 pub no_parameter : (x : Said) (name value : List ℕ) (rest : Parameters)
     → (name ≡ codes "admission" → ⊥) → (name ≡ codes "since" → ⊥) → (name ≡ codes "watch" → ⊥) → (name ≡ codes "fieldSelector" → ⊥)
-    → (name ≡ codes "dryRun" → ⊥) → (name ≡ codes "continue" → ⊥) → (name ≡ codes "labelSelector" → ⊥) → over x (said_by rest) ≡ over x (said_by ((name, value) ∷ rest))
+    → (name ≡ codes "dryRun" → ⊥) → (name ≡ codes "continue" → ⊥) → over x (said_by rest) ≡ over x (said_by ((name, value) ∷ rest))
 unfolding over said_by
-no_parameter x name value rest a b c d e f g =
-    rw (differs name _ a, differs name _ b, differs name _ c, differs name _ d, differs name _ e, differs name _ f, differs name _ g) refl
+no_parameter x name value rest a b c d e f =
+    rw (differs name _ a, differs name _ b, differs name _ c, differs name _ d, differs name _ e, differs name _ f) refl
+
+-- ---- the label selector
+
+kept_or : (kept : Option (CowStr Global)) (value : CowStr Global) → kept_text (option_or kept (Some value)) ≡ option_or (kept_text kept) (Some (cow_str_bytes value))
+kept_or None value = refl
+kept_or (Some text) value = refl
+
+first_kept : (kept : Option (List ℕ)) (value : List ℕ) (rest : Parameters) → option_or (option_or kept (Some value)) (selector_said rest) ≡ option_or kept (selector_said ((codes "labelSelector", value) ∷ rest))
+first_kept None value rest = refl
+first_kept (Some text) value rest = refl
+
+pub selector : (kept : Option (CowStr Global)) (value : CowStr Global) (rest : Parameters)
+    → option_or (kept_text (option_or kept (Some value))) (selector_said rest) ≡ option_or (kept_text kept) (selector_said ((codes "labelSelector", cow_str_bytes value) ∷ rest))
+selector kept value rest = ap (λ o. option_or o (selector_said rest)) (kept_or kept value) ∙ first_kept (kept_text kept) (cow_str_bytes value) rest
+
+pub no_selector : (kept : Option (List ℕ)) (name value : List ℕ) (rest : Parameters) → bytes_eq name (codes "labelSelector") ≡ false
+    → option_or kept (selector_said rest) ≡ option_or kept (selector_said ((name, value) ∷ rest))
+no_selector kept name value rest other =
+    rw (differs name (codes "labelSelector") (λ e. true≢false (sym ((bytes_eq-Decides name (codes "labelSelector")).1 e) ∙ other))) refl
 
 -- ---- the end
 
-or_none : (o : Option Bool) → option_or o None ≡ o
+or_none : {A : Type 0} (o : Option A) → option_or o None ≡ o
 or_none None = refl
-or_none (Some b) = refl
+or_none (Some x) = refl
+
+pub no_more : (kept : Option (List ℕ)) → option_or kept (selector_said []) ≡ kept
+no_more kept = or_none kept
 
 pub nothing_behind : (x : Said) → over x (said_by []) ≡ x
 unfolding over said_by
 nothing_behind x =
-    rw (or_none x.admission, or_none x.since, or_none x.watch, or_none x.field_selector, or_none x.dry_run, or_none x.continued, or_none x.label_selector) refl
+    rw (or_none x.admission, or_none x.since, or_none x.watch, or_none x.field_selector, or_none x.dry_run, or_none x.continued) refl
+
+-- what was read where no pairs are left
+pub read_all : (said : Said) (kept : Option (CowStr Global)) (query : Parameters) (pairs : List (List ℕ × List ℕ)) → pairs ≡ []
+    → (said_by query ≡ over said (said_by (map text_pair pairs))) × (selector_said query ≡ option_or (kept_text kept) (selector_said (map text_pair pairs))) → IsReading query said kept
+read_all said kept query pairs end h = record {
+  says = sym (nothing_behind said) ∙ ap (λ ps. over said (said_by (map text_pair ps))) (sym end) ∙ sym h.0;
+  selects = sym (no_more (kept_text kept)) ∙ ap (λ ps. option_or (kept_text kept) (selector_said (map text_pair ps))) (sym end) ∙ sym h.1;
+}
 
 -- ---- what is asked of it
 
@@ -115,7 +143,6 @@ said_of query Watch = fills (value_of query (codes "watch"))
 said_of query FieldSelector = fills (value_of query (codes "fieldSelector"))
 said_of query DryRun = fills (value_of query (codes "dryRun"))
 said_of query Continue = fills (value_of query (codes "continue"))
-said_of query LabelSelector = fills (value_of query (codes "labelSelector"))
 
 pub given : (x : Said) (query : Parameters) (parameter : Parameter) → x ≡ said_by query → unwrap_or (given_in x parameter) false ≡ is_given (value_of query (name_of parameter))
 given x query parameter e = ap (λ (y : Said). unwrap_or (given_in y parameter) false) e ∙ said_of query parameter

@@ -1,6 +1,6 @@
 -- What a request asks.
 --     ask_of method target body    the ask, or the first refusal that holds
--- The refusals come in this order: the path, the method, the segments, the query, forms that aren't served, the body.
+-- The refusals come in this order: the path, the method, the segments, the label selector of a list, the query, forms that aren't served, the body.
 use Rattle.std.specs.Prelude.{ℕ, Bool, true, false, not, List, [], ◌∷◌, Option, Some, None, Result, Ok, Err, option_map, unwrap_or, if◌then◌else◌, codes}
 use Rattle.hx_object.specs.declared.kind.Kind.{Kind}
 use Rattle.hx_object.specs.declared.object.Id.{Id}
@@ -9,6 +9,9 @@ use Rattle.hx_json.specs.Reading.{target_at}
 use Rattle.hx_json.specs.declared.fault.JsonFault.{JsonFault}
 use Rattle.hx_model.specs.First.{so, first}
 use Rattle.hx_object.specs.Kinds.{is_namespace}
+use Rattle.hx_select.specs.Selectors.{everything, selector_of}
+use Rattle.hx_select.specs.declared.selector.Selector.{Selector}
+use Rattle.hx_select.specs.declared.selector.SelectFault.{SelectFault}
 use Rattle.hx_model.specs.Serving.{is_written}
 use Rattle.hx_model.specs.declared.ask.Ask.{Ask}
 use Rattle.hx_model.specs.declared.ask.Ask.TheVariants as of
@@ -16,7 +19,7 @@ use Rattle.hx_model.specs.declared.refusal.Refusal.{Refusal}
 use Rattle.hx_model.specs.declared.refusal.Refusal.TheVariants.{BadPath, BadQuery, NoPath, NoMethod, NotServed}
 use Rattle.hx_api.specs.Bodies.{Said, read_body, refusal_of}
 use Rattle.hx_api.specs.Paths.{allows, decoded_resource, resource_of}
-use Rattle.hx_api.specs.Queries.{Parameters, bad_parameter, is_given, is_skip, parameters_of, path_of, query_of}
+use Rattle.hx_api.specs.Queries.{Parameters, bad_parameter, is_skip, parameters_of, path_of, query_of, selector_text}
 use Rattle.hx_api.specs.declared.method.Method.{Method}
 use Rattle.hx_api.specs.declared.method.Method.TheVariants.{Get, Post, Put, Delete}
 use Rattle.hx_api.specs.declared.resource_path.ResourcePath.{ResourcePath}
@@ -44,18 +47,34 @@ is_feed _ = false
 abbrev pub query_refusal : ResourcePath (List ℕ) → Parameters → Option Refusal
 query_refusal resource query = option_map (λ name. BadQuery name) (bad_parameter (is_feed resource) query)
 
--- the request's form is served: not yet the feed, lists by a label selector, the kinds that aren't written, and removals of namespaces
-abbrev pub is_served : Method → ResourcePath (List ℕ) → Parameters → Bool
-is_served Get Events query = false
-is_served Get (Collection kind ns) query = not (is_given (value_of query (codes "labelSelector")))
-is_served Post (Collection kind ns) query = is_written kind
-is_served Put (Object kind ns name) query = is_written kind
-is_served Delete (Object kind ns name) query = not (is_namespace kind)
-is_served method resource query = true
+-- the request's form is served: not yet the feed, the kinds that aren't written, and removals of namespaces
+abbrev pub is_served : Method → ResourcePath (List ℕ) → Bool
+is_served Get Events = false
+is_served Post (Collection kind ns) = is_written kind
+is_served Put (Object kind ns name) = is_written kind
+is_served Delete (Object kind ns name) = not (is_namespace kind)
+is_served method resource = true
 
--- the refusal of a request at a resource, but for its body
+-- the refusal of a request at a resource, but for its selector and its body
 abbrev pub form_refusal : Method → ResourcePath (List ℕ) → Parameters → Option Refusal
-form_refusal method resource query = first (query_refusal resource query ∷ so (not (is_served method resource query)) NotServed ∷ [])
+form_refusal method resource query = first (query_refusal resource query ∷ so (not (is_served method resource)) NotServed ∷ [])
+
+-- ---- selectors
+
+-- what is read as a selector, or the refusal of a text that is none
+abbrev pub selector_or_refusal : Result Selector SelectFault → Result Selector Refusal
+selector_or_refusal (Ok selector) = Ok selector
+selector_or_refusal (Err fault) = Err (BadQuery (codes "labelSelector"))
+
+-- the selector that a text is. An empty text selects everything
+abbrev pub selector_in : List ℕ → Result Selector Refusal
+selector_in [] = Ok everything
+selector_in (byte ∷ text) = selector_or_refusal (selector_of (byte ∷ text))
+
+-- the selector of a request: only lists have one
+abbrev pub selector_for : Method → ResourcePath (List ℕ) → Parameters → Result Selector Refusal
+selector_for Get (Collection kind ns) query = selector_in (selector_text query)
+selector_for method resource query = Ok everything
 
 -- ---- asks
 
@@ -78,24 +97,29 @@ replaced kind skip (Ok said) = Ok (of.Replace said.0 said.1 skip)
 replaced kind skip (Err fault) = Err (refusal_of kind fault)
 
 -- the ask of a method at a resource that takes it
-abbrev pub ask_at : Method → ResourcePath (List ℕ) → Bool → List ℕ → Result Ask Refusal
-ask_at Get (Collection kind ns) skip body = Ok (of.List kind ns)
-ask_at Get (Object kind ns name) skip body = Ok (of.Get (id_at kind ns name))
-ask_at Post (Collection kind ns) skip body = created kind skip (read_body (target_at kind (namespace ns) None) body)
-ask_at Put (Object kind ns name) skip body = replaced kind skip (read_body (target_at kind (namespace ns) (Some name)) body)
-ask_at Delete (Object kind ns name) skip body = Ok (of.Delete (id_at kind ns name) skip)
-ask_at method resource skip body = Err NoMethod
+abbrev pub ask_at : Method → ResourcePath (List ℕ) → Selector → Bool → List ℕ → Result Ask Refusal
+ask_at Get (Collection kind ns) selector skip body = Ok (of.List kind ns selector)
+ask_at Get (Object kind ns name) selector skip body = Ok (of.Get (id_at kind ns name))
+ask_at Post (Collection kind ns) selector skip body = created kind skip (read_body (target_at kind (namespace ns) None) body)
+ask_at Put (Object kind ns name) selector skip body = replaced kind skip (read_body (target_at kind (namespace ns) (Some name)) body)
+ask_at Delete (Object kind ns name) selector skip body = Ok (of.Delete (id_at kind ns name) skip)
+ask_at method resource selector skip body = Err NoMethod
 
 -- a refusal, or else the ask
 abbrev pub ask_unless : Option Refusal → Result Ask Refusal → Result Ask Refusal
 ask_unless (Some refusal) ask = Err refusal
 ask_unless None ask = ask
 
+-- what is asked at a resource, by the selector of the request
+abbrev pub asked_by : Method → Parameters → List ℕ → ResourcePath (List ℕ) → Result Selector Refusal → Result Ask Refusal
+asked_by method query body resource (Err refusal) = Err refusal
+asked_by method query body resource (Ok selector) =
+    ask_unless (form_refusal method resource query) (ask_at method resource selector (is_skip (value_of query (codes "admission"))) body)
+
 -- what is asked at the resource of a request
 abbrev pub asked_at : Method → Parameters → List ℕ → Result (ResourcePath (List ℕ)) Refusal → Result Ask Refusal
 asked_at method query body (Err refusal) = Err refusal
-asked_at method query body (Ok resource) =
-    ask_unless (form_refusal method resource query) (ask_at method resource (is_skip (value_of query (codes "admission"))) body)
+asked_at method query body (Ok resource) = asked_by method query body resource (selector_for method resource query)
 
 -- the ask, or the first refusal that holds
 unfoldable pub ask_of : Method → List ℕ → List ℕ → Result Ask Refusal

@@ -6,8 +6,13 @@
 --     name_of parameter      its name
 --     said_by query          what the first values of a query's parameters say
 --     over x y               what two queries say, one behind the other
+--     selector_said query    the first text of its label selector
+--     IsReading              what was read of a query
 use Rattle.std.specs.Prelude.{◌≡◌, ℕ, Bool, true, false, not, List, [], ◌∷◌, codes, Option, None, option_map}
 use Rattle.std.specs.Option.{option_or}
+use Rattle.std.specs.Cow.{cow_str_bytes}
+use Rattle.std.specs.declared.alloc.Global.{Global}
+use Rattle.std.specs.declared.borrow.CowStr.{CowStr}
 use Rattle.std.specs.Borrow.{Bor}
 use Rattle.std.specs.Str.{bytes_eq}
 use Rattle.hx_object.specs.Kinds.{is_in_cluster, is_namespace}
@@ -19,7 +24,7 @@ use Rattle.hx_api.specs.Queries.{Parameters}
 use Rattle.hx_api.specs.declared.method.Method.{Method}
 use Rattle.hx_api.specs.declared.method.Method.TheVariants.{Post, Put, Delete}
 use Rattle.hx_api.specs.declared.query.Parameter.{Parameter}
-use Rattle.hx_api.specs.declared.query.Parameter.TheVariants.{Watch, FieldSelector, DryRun, Continue, LabelSelector}
+use Rattle.hx_api.specs.declared.query.Parameter.TheVariants.{Watch, FieldSelector, DryRun, Continue}
 use Rattle.hx_api.specs.declared.query.Said.{Said}
 use Rattle.hx_api.specs.declared.resource_path.ResourcePath.{ResourcePath}
 use Rattle.hx_api.specs.declared.resource_path.ResourcePath.TheVariants.{Events, Collection, Object}
@@ -58,7 +63,6 @@ name_of Watch = codes "watch"
 name_of FieldSelector = codes "fieldSelector"
 name_of DryRun = codes "dryRun"
 name_of Continue = codes "continue"
-name_of LabelSelector = codes "labelSelector"
 
 -- the value isn't empty
 abbrev pub is_filled : List ℕ → Bool
@@ -77,7 +81,6 @@ said_by query = record {
   field_selector = first_by is_filled (codes "fieldSelector") query;
   dry_run = first_by is_filled (codes "dryRun") query;
   continued = first_by is_filled (codes "continue") query;
-  label_selector = first_by is_filled (codes "labelSelector") query;
 }
 
 -- what they say of a parameter: whether its first value isn't empty
@@ -86,7 +89,6 @@ given_in said Watch = said.watch
 given_in said FieldSelector = said.field_selector
 given_in said DryRun = said.dry_run
 given_in said Continue = said.continued
-given_in said LabelSelector = said.label_selector
 
 -- what two queries say, one behind the other
 unfoldable pub over : Said → Said → Said
@@ -97,5 +99,17 @@ over x y = record {
   field_selector = option_or x.field_selector y.field_selector;
   dry_run = option_or x.dry_run y.dry_run;
   continued = option_or x.continued y.continued;
-  label_selector = option_or x.label_selector y.label_selector;
 }
+
+-- the first text of the label selector, where there is one
+abbrev pub selector_said : Parameters → Option (List ℕ)
+selector_said query = value_of query (codes "labelSelector")
+
+-- what is kept of a text that may be borrowed
+abbrev pub kept_text : Option (CowStr Global) → Option (List ℕ)
+kept_text text = option_map cow_str_bytes text
+
+-- what was read of a query
+pub record IsReading (query : Parameters) (said : Said) (selector : Option (CowStr Global)) : Type 0 where
+  pub says : said ≡ said_by query
+  pub selects : kept_text selector ≡ selector_said query

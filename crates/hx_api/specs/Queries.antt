@@ -1,9 +1,10 @@
 -- The parameters of a query.
 --     path_of, query_of target    the path, and the query behind its first `?`
 --     parameters_of query         its names and values, form decoded
---     bad_parameter feed query    the first parameter whose value isn't taken
+--     selector_text query         the text of the label selector
+--     bad_parameter feed query    the first other parameter whose value isn't taken
 -- Of several parameters of one name the first counts. Parameters that aren't named here are ignored.
-use Rattle.std.specs.Prelude.{ℕ, slice_index, Bool, true, false, not, ◌&&◌, ◌==◌, List, [], ◌∷◌, codes, map, Option, Some, None}
+use Rattle.std.specs.Prelude.{ℕ, slice_index, Bool, true, false, not, ◌&&◌, ◌==◌, List, [], ◌∷◌, codes, map, Option, Some, None, unwrap_or}
 use Rattle.std.specs.List.{before_first, after_first}
 use Rattle.std.specs.Str.{bytes_eq}
 use Rattle.std.specs.Str.Lossy.{utf8_lossy}
@@ -64,7 +65,11 @@ abbrev pub is_since : Option (List ℕ) → Bool
 is_since (Some text) = is_long_decimal text
 is_since None = false
 
--- the first parameter whose value isn't taken, at the feed of events or elsewhere
+-- the text of the label selector. One that is absent is empty
+abbrev pub selector_text : Parameters → List ℕ
+selector_text query = unwrap_or (value_of query (codes "labelSelector")) []
+
+-- the first other parameter whose value isn't taken, at the feed of events or elsewhere
 unfoldable pub bad_parameter : Bool → Parameters → Option (List ℕ)
 bad_parameter feed query =
     first (so (is_other_admission (value_of query (codes "admission"))) (codes "admission")

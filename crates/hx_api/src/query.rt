@@ -1,12 +1,15 @@
 // The parameters of a query.
 ghost use Rattle.std.specs.Prelude.{◌≡◌, ◌∷◌, IfOk, codes, option_copied};
-ghost use Rattle.hx_api.specs.Inside.{given_in, is_filled, name_of, over, said_by};
-ghost use Rattle.hx_api.specs.Queries.{Parameters, bad_parameter, is_given, is_other_admission, is_since, is_skip, parameters_of, path_of, query_of};
+ghost use Rattle.std.specs.Cow.{cow_str_bytes};
+ghost use Rattle.std.specs.Option.{option_or};
+ghost use Rattle.hx_api.specs.Inside.{given_in, is_filled, kept_text, name_of, over, said_by, selector_said};
+ghost use Rattle.hx_api.specs.Queries.{Parameters, bad_parameter, is_given, is_other_admission, is_since, is_skip, parameters_of, path_of, query_of, selector_text};
 ghost use Rattle.hx_object.specs.Pairs.{value_of};
 
 use hx_json::is_long_decimal;
 use hx_object::NoMemory;
 use std::alloc::Global;
+use std::borrow::CowStr;
 use std::marker::Model;
 
 /// The path of a target, and its query, which is empty where there is none.
@@ -20,7 +23,7 @@ pub fn cut(target: &str) -> (&str, &str)
     }
 }
 
-/// What the parameters of a query say: each that counts by its first value, `None` where it has none.
+/// What the parameters of a query say, but for the selector: each that counts by its first value, `None` where it has none.
 #[derive(Clone, Copy)]
 pub struct Said {
     /// Whether it is `skip`.
@@ -32,7 +35,6 @@ pub struct Said {
     field_selector: Option<bool>,
     dry_run: Option<bool>,
     continued: Option<bool>,
-    label_selector: Option<bool>,
 }
 
 impl Said {
@@ -43,7 +45,6 @@ impl Said {
         field_selector: None,
         dry_run: None,
         continued: None,
-        label_selector: None,
     };
 
     /// What is said with one more parameter behind the others.
@@ -76,10 +77,6 @@ impl Said {
                 continued: self.continued.or(given),
                 ..self
             },
-            "labelSelector" => Said {
-                label_selector: self.label_selector.or(given),
-                ..self
-            },
             _ => self,
         }
     }
@@ -93,7 +90,6 @@ impl Said {
             Parameter::FieldSelector => self.field_selector,
             Parameter::DryRun => self.dry_run,
             Parameter::Continue => self.continued,
-            Parameter::LabelSelector => self.label_selector,
         }
     }
 }
@@ -111,7 +107,6 @@ pub enum Parameter {
     FieldSelector,
     DryRun,
     Continue,
-    LabelSelector,
 }
 
 /// A query, read once. Contracts see it as its parameters.
@@ -120,18 +115,20 @@ pub struct Query<'a> {
     /// What was read. Only contracts speak of it.
     text: &'a str,
     said: Said,
+    /// The first text of the label selector.
+    selector: Option<CowStr<'a, Global>>,
 }
 
 impl<'a> Model for Query<'a> {
     ghost use Rattle.std.specs.Prelude.{◌≡◌};
-    ghost use Rattle.hx_api.specs.Inside.{said_by};
+    ghost use Rattle.hx_api.specs.Inside.{IsReading};
     ghost use Rattle.hx_api.specs.Queries.{Parameters, parameters_of};
 
     ghost Value = { Parameters };
 
     ghost view = { λ query. parameters_of query.text.now };
 
-    ghost invariant = { λ query. query.said ≡ said_by (parameters_of query.text.now) };
+    ghost invariant = { λ query. IsReading (parameters_of query.text.now) query.said query.selector };
 }
 
 impl<'a> Query<'a> {
@@ -139,8 +136,28 @@ impl<'a> Query<'a> {
     pub fn read(alloc: Global, query: &'a str) -> Result<Query<'a>, NoMemory>
         ensures { IfOk result (λ read. read ≡ parameters_of query.now) }
     {
-        let said = said_in(alloc, query)?;
-        Ok(Query { text: query, said })
+        let mut said = Said::NOTHING;
+        let mut selector = None;
+        for pair in form_urlencoded::parse(alloc, query.as_bytes()) {
+            let (name, value) = pair?;
+            said = said.followed(name.as_str(), value.as_str());
+            selector = first_selector(selector, name.as_str(), value);
+        }
+        Ok(Query {
+            text: query,
+            said,
+            selector,
+        })
+    }
+
+    /// The text of the label selector, empty where there is none.
+    pub fn selector(&self) -> &str
+        ensures { result.now ≡ selector_text self.now }
+    {
+        match &self.selector {
+            Some(text) => text.as_str(),
+            None => "",
+        }
     }
 
     /// Whether a parameter has a value that isn't empty.
@@ -169,7 +186,7 @@ impl<'a> Query<'a> {
         self.said.since.unwrap_or(false)
     }
 
-    /// The first parameter whose value isn't taken, at the feed of events or elsewhere.
+    /// The first parameter beside the selector whose value isn't taken, at the feed of events or elsewhere.
     #[tactic(auto, unfolding(crate::specs::Queries::bad_parameter))]
     pub fn bad_parameter(&self, feed: bool) -> Option<&'static str>
         ensures { option_copied result ≡ bad_parameter feed self.now }
@@ -192,14 +209,17 @@ impl<'a> Query<'a> {
     }
 }
 
-/// What the parameters of a query say. One pass over it.
-fn said_in(alloc: Global, query: &str) -> Result<Said, NoMemory>
-    ensures { IfOk result (λ said. said ≡ said_by (parameters_of query.now)) }
+/// The first text of the label selector, with one more parameter behind the others.
+fn first_selector<'a>(
+    selector: Option<CowStr<'a, Global>>,
+    name: &str,
+    value: CowStr<'a, Global>,
+) -> Option<CowStr<'a, Global>>
+    ensures { (rest : Parameters) → option_or (kept_text result) (selector_said rest) ≡ option_or (kept_text selector.entry) (selector_said ((name.now, cow_str_bytes value.entry) ∷ rest)) }
 {
-    let mut said = Said::NOTHING;
-    for pair in form_urlencoded::parse(alloc, query.as_bytes()) {
-        let (name, value) = pair?;
-        said = said.followed(name.as_str(), value.as_str());
+    if name == "labelSelector" {
+        selector.or(Some(value))
+    } else {
+        selector
     }
-    Ok(said)
 }

@@ -1,18 +1,19 @@
 // Requests as asks.
 ghost use Rattle.std.specs.Prelude.{◌≡◌, ◌⊎◌, Ok, Err, true, IfOk, IfErr};
 ghost use Rattle.hx_model.specs.Serving.{IsServedAsk, is_written};
-ghost use Rattle.hx_api.specs.Asks.{ask_of, namespace, is_feed, is_served, resource_for, ask_at};
+ghost use Rattle.hx_api.specs.Asks.{ask_of, namespace, is_feed, is_served, resource_for, ask_at, selector_for, selector_in};
 ghost use Rattle.hx_api.specs.Inside.{FitsScope, IsServedForm};
 ghost use Rattle.hx_api.specs.Paths.{resource_of};
 
 use crate::Method;
 use crate::body::{create, replace};
 use crate::parts::resource_of;
-use crate::query::{Parameter, Query, cut};
+use crate::query::{Query, cut};
 use crate::resource_path::{ResourcePath, allows, decoded};
 use hx_json::BodyReader;
 use hx_model::{Ask, Refusal};
 use hx_object::{Id, Kind, Text};
+use hx_select::{SelectFault, Selector};
 use std::alloc::Global;
 use std::marker::Model;
 
@@ -48,15 +49,24 @@ impl RequestReader {
         let (path, query) = cut(target);
         let resource = resource_for(self.alloc, method, path)?;
         let query = Query::read(self.alloc, query)?;
+        let selector = selector_for(self.alloc, method, &resource, &query)?;
         if let Some(name) = query.bad_parameter(is_feed(&resource)) {
             let name = Text::of(self.alloc, name)?;
             return Err(Refusal::BadQuery { name });
         }
-        if !is_served(method, &resource, &query) {
+        if !is_served(method, &resource) {
             return Err(Refusal::NotServed);
         }
         let skip = query.is_skip();
-        ask_at(&mut self.bodies, self.alloc, method, resource, skip, body)
+        ask_at(
+            &mut self.bodies,
+            self.alloc,
+            method,
+            resource,
+            selector,
+            skip,
+            body,
+        )
     }
 }
 
@@ -97,16 +107,48 @@ fn is_written(kind: Kind) -> bool
 }
 
 /// Whether the request's form is served.
-fn is_served(method: Method, resource: &ResourcePath<Text>, query: &Query<'_>) -> bool
-    ensures { result ≡ is_served method resource.now query.now }
+fn is_served(method: Method, resource: &ResourcePath<Text>) -> bool
+    ensures { result ≡ is_served method resource.now }
 {
     match (method, resource) {
         (Method::Get, ResourcePath::Events) => false,
-        (Method::Get, ResourcePath::Collection { .. }) => !query.is_given(Parameter::LabelSelector),
         (Method::Post, ResourcePath::Collection { kind, .. }) => is_written(*kind),
         (Method::Put, ResourcePath::Object { kind, .. }) => is_written(*kind),
         (Method::Delete, ResourcePath::Object { kind, .. }) => *kind != Kind::Namespace,
         _ => true,
+    }
+}
+
+/// The selector of a request: only lists have one.
+fn selector_for(
+    alloc: Global,
+    method: Method,
+    resource: &ResourcePath<Text>,
+    query: &Query<'_>,
+) -> Result<Selector, Refusal>
+    ensures ok { IfOk result (λ selector. selector_for method resource.now query.now ≡ Ok selector) }
+    ensures refused { IfErr result (λ refusal. (refusal ≡ Refusal.NoMemory) ⊎ (selector_for method resource.now query.now ≡ Err refusal)) }
+{
+    match (method, resource) {
+        (Method::Get, ResourcePath::Collection { .. }) => selector_in(alloc, query.selector()),
+        _ => Ok(Selector::everything(alloc)),
+    }
+}
+
+/// The selector that a text is. An empty text selects everything.
+fn selector_in(alloc: Global, text: &str) -> Result<Selector, Refusal>
+    ensures ok { IfOk result (λ selector. selector_in text.now ≡ Ok selector) }
+    ensures refused { IfErr result (λ refusal. (refusal ≡ Refusal.NoMemory) ⊎ (selector_in text.now ≡ Err refusal)) }
+{
+    if text.is_empty() {
+        return Ok(Selector::everything(alloc));
+    }
+    match Selector::read(alloc, text) {
+        Ok(selector) => Ok(selector),
+        Err(SelectFault::NoMemory) => Err(Refusal::NoMemory),
+        Err(_) => Err(Refusal::BadQuery {
+            name: Text::of(alloc, "labelSelector")?,
+        }),
     }
 }
 
@@ -126,17 +168,20 @@ fn ask_at(
     alloc: Global,
     method: Method,
     resource: ResourcePath<Text>,
+    selector: Selector,
     skip: bool,
     body: &[u8],
 ) -> Result<Ask, Refusal>
     requires scope { FitsScope resource }
     requires formed { IsServedForm method resource }
-    ensures ok { IfOk result (λ ask. ask_at method resource skip body.now ≡ Ok ask) }
-    ensures refused { IfErr result (λ refusal. (refusal ≡ Refusal.NoMemory) ⊎ (ask_at method resource skip body.now ≡ Err refusal)) }
+    ensures ok { IfOk result (λ ask. ask_at method resource selector skip body.now ≡ Ok ask) }
+    ensures refused { IfErr result (λ refusal. (refusal ≡ Refusal.NoMemory) ⊎ (ask_at method resource selector skip body.now ≡ Err refusal)) }
     ensures served { IfOk result IsServedAsk }
 {
     match (method, resource) {
-        (Method::Get, ResourcePath::Collection { kind, ns }) => Ok(Ask::List { kind, ns }),
+        (Method::Get, ResourcePath::Collection { kind, ns }) => {
+            Ok(Ask::List { kind, ns, selector })
+        }
         (Method::Get, ResourcePath::Object { kind, ns, name }) => {
             let ns = namespace(alloc, ns);
             Ok(Ask::Get {

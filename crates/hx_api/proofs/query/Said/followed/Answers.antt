@@ -1,5 +1,5 @@
 use Rattle.std.proofs.Common.{◌≡◌, codes, rules}
-use Rattle.hx_api.proofs.Said.{admission, since, watch, field_selector, dry_run, continued, label_selector, no_parameter}
+use Rattle.hx_api.proofs.Said.{admission, since, watch, field_selector, dry_run, continued, no_parameter}
 use Rattle.hx_api.proofs.query.Said.followed.Goals as goal
 
 pub returns-in-admission : goal.returns-in-admission
@@ -20,10 +20,7 @@ returns-in-dryRun c = let name : c.args.name.now ≡ codes "dryRun" = search rul
 pub returns-in-continue : goal.returns-in-continue
 returns-in-continue c = let name : c.args.name.now ≡ codes "continue" = search rules in λ rest. rw (name, c.or-in-continue.ensures, c.is_filled.ensures) (continued c.args.self c.args.value.now rest)
 
-pub returns-in-labelSelector : goal.returns-in-labelSelector
-returns-in-labelSelector c = let name : c.args.name.now ≡ codes "labelSelector" = search rules in λ rest. rw (name, c.or-in-labelSelector.ensures, c.is_filled.ensures) (label_selector c.args.self c.args.value.now rest)
-
 pub returns-in_default : goal.returns-in_default
 returns-in_default c =
     let w = c.in_default in
-    λ rest. no_parameter c.args.self c.args.name.now c.args.value.now rest w.not-admission w.not-since w.not-watch w.not-fieldSelector w.not-dryRun w.not-continue w.not-labelSelector
+    λ rest. no_parameter c.args.self c.args.name.now c.args.value.now rest w.not-admission w.not-since w.not-watch w.not-fieldSelector w.not-dryRun w.not-continue
