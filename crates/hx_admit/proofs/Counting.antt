@@ -15,6 +15,10 @@ use Rattle.hx_object.specs.declared.object.Id.{Id}
 use Rattle.hx_object.specs.declared.object.Object.{Object}
 use Rattle.hx_object.specs.declared.object.ObjectFault.{ObjectFault}
 use Rattle.hx_object.specs.declared.object.ObjectFault.TheVariants.{BadName, BadLabel, TooManyLabels, TooLarge}
+use Rattle.hx_object.specs.declared.kind.Kind.{Kind}
+use Rattle.hx_select.specs.Selectors.{selects}
+use Rattle.hx_select.specs.declared.selector.Selector.{Selector}
+use Rattle.hx_model.specs.Answers.{is_listed, selected}
 use Rattle.hx_model.specs.Forest.{Forest}
 use Rattle.hx_model.specs.Limits.{part_of, namespace_one, counted_one, counted_size, names_in, objects_in, bytes_in}
 use Rattle.hx_model.specs.Serving.{IsServed}
@@ -37,6 +41,15 @@ pub all_served : (last : ℕ) (objects : Objects) → AllByRecursion (IsStored l
 all_served last [] all = tt
 all_served last (x ∷ objects) all = (all.0.served, all_served last objects all.1)
 
+all_legal : (objects : Objects) → AllByRecursion IsServed objects → AllByRecursion IsLegal objects
+all_legal [] all = tt
+all_legal (x ∷ objects) all = (all.0.legal, all_legal objects all.1)
+
+-- those of legal objects that pass a test
+legal_among : (p : Object → Bool) (xs : Objects) → AllByRecursion IsLegal xs → AllByRecursion IsLegal (filter p xs)
+legal_among p [] all = tt
+legal_among p (x ∷ xs) all = elim (p x) as (λ b. AllByRecursion IsLegal (cond b (x ∷ filter p xs) (filter p xs))) [ true ↦ (all.0, legal_among p xs all.1) | false ↦ legal_among p xs all.1 ]
+
 pub valid_served : (s : State) → IsValid s → AllByRecursion IsServed s.objects
 valid_served s valid = all_served s.last s.objects valid.stored
 
@@ -52,12 +65,8 @@ module _ (config : RunConfig) (objects : Objects) (last : ℕ) (counts : LimitCo
   valid_agrees = record { in_order = agrees.in_order; stored = agrees.stored; housed = agrees.housed; fits = agrees.fits }
 
   -- what is listed is legal
-  pub listed_legal : (p : Object → Bool) → AllByRecursion IsLegal (filter p objects)
-  listed_legal p = filtered objects agrees_served
-    where
-      filtered : (xs : Objects) → AllByRecursion IsServed xs → AllByRecursion IsLegal (filter p xs)
-      filtered [] all = tt
-      filtered (x ∷ xs) all = elim (p x) as (λ b. AllByRecursion IsLegal (cond b (x ∷ filter p xs) (filter p xs))) [ true ↦ (all.0.legal, filtered xs all.1) | false ↦ filtered xs all.1 ]
+  pub listed_legal : (kind : Kind) (ns : Option (List ℕ)) (selector : Selector) → AllByRecursion IsLegal (selected kind ns selector objects)
+  listed_legal kind ns selector = legal_among (λ (x : Object). selects selector x.labels) _ (legal_among (is_listed kind ns) objects (all_legal objects agrees_served))
 
 -- the agreement of what is inside, as it is seen
 pub agrees_seen : {config : RunConfig} {objects : Objects} {last : ℕ} {staged : List Write} {counts : LimitCounts} {nodes : Forest} {seen : StateView} → record { state = state_in config objects last; staged = staged } ≡ seen → Agrees config objects last counts nodes

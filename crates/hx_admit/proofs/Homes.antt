@@ -1,22 +1,28 @@
 -- What the check of the rules is given, and what it finds.
 --     at_home          the namespace of a HierarchyConfiguration has the parent that the tree says
 --     home_node        a namespace is there where the tree has it
+--     no_home, no_config, looked_at     what the rules don't look at
 --     ruled            what it is given is the case of the state
 --     same_annotation  a namespace that passes the rules keeps its annotation
 use Rattle.std.proofs.Common.{◌≡◌, ℕ, Bool, true, false, not, ◌&&◌, ◌||◌, List, [], ◌∷◌, None, Some, Option, IfSome, refl, sym, ap, subst, ◌∙◌, true≢false}
 use Rattle.std.specs.Prelude.{is_some, if◌then◌else◌, option_map, option_and_then}
 use Rattle.std.specs.List.{AllByRecursion}
+use Rattle.std.proofs.lemmas.Bool.{and_parts}
 use Rattle.std.proofs.lemmas.Slice.Eq.{bytes_eq-Decides}
-use Rattle.hx_object.specs.Kinds.{is_in_cluster}
+use Rattle.hx_object.specs.Kinds.{is_in_cluster, can_be_copied}
 use Rattle.hx_object.specs.declared.object.Id.{Id}
 use Rattle.hx_object.specs.declared.object.Object.{Object}
 use Rattle.hx_model.specs.Answers.{case_at, rule_refusal, version_refusal}
 use Rattle.hx_model.specs.First.{so, or_else, first}
 use Rattle.hx_model.specs.Forest.{Forest, is_there, parent_of}
-use Rattle.hx_model.specs.Limits.{is_namespace, is_hierarchy}
-use Rattle.hx_model.specs.Cases.{Case, breaks, same_name}
+use Rattle.hx_model.specs.Limits.{is_namespace, is_hierarchy, is_copy}
+use Rattle.hx_model.specs.Cases.{Case, breaks, any_of, is_write, is_kept_out, same_name}
 use Rattle.hx_model.specs.Denials.{refusal_by}
-use Rattle.hx_model.specs.Rules.{rules, kind_rules}
+use Rattle.hx_model.specs.Modes.{config_id, mode_in, entries_of}
+use Rattle.hx_model.specs.Rules.{rules, name_rule, kind_rules}
+use Rattle.hx_model.specs.RulesConfig.{entry_rules}
+use Rattle.hx_model.specs.RulesCopies.{is_ignored, writes_copy, removes_copy, touches_copy, misuses_exceptions, source_rules}
+use Rattle.hx_model.specs.RulesHierarchy.{tree_rules, lacks_parent, closes_cycle, contradicts, moves_halted, meets_excluded, grows_too_deep}
 use Rattle.hx_model.specs.Serving.{IsServed}
 use Rattle.hx_model.specs.State.{State, Objects, object_at, namespace_id, home_in, has_home}
 use Rattle.hx_model.specs.Tree.{hierarchy, hierarchy_id, subnamespace_parent, named_parent, node_in, forest_in}
@@ -25,12 +31,12 @@ use Rattle.hx_model.specs.declared.node.Node.{Node}
 use Rattle.hx_model.specs.declared.denial.Denial.{Denial}
 use Rattle.hx_model.specs.declared.denial.Denial.TheVariants.{Broken}
 use Rattle.hx_object.specs.declared.kind.Kind.{Kind}
-use Rattle.hx_object.specs.declared.kind.Kind.TheVariants.{HierarchyConfiguration}
+use Rattle.hx_object.specs.declared.kind.Kind.TheVariants.{Namespace, HierarchyConfiguration, HncConfiguration}
 use Rattle.hx_object.proofs.KindTests.{namespace_kind}
-use Rattle.hx_model.specs.declared.rule.Rule.TheVariants.{X1, N3}
+use Rattle.hx_model.specs.declared.rule.Rule.TheVariants.{X1, O1, N3, H1, H2, H3, H4, H5, H6, H8, O2, O3}
 use Rattle.hx_model.proofs.Planting.{hierarchy_kind, node_of-objects, there-objects}
 use Rattle.hx_model.proofs.Objects.{found_id}
-use Rattle.hx_admit.specs.Inside.{IsHomeOf}
+use Rattle.hx_admit.specs.Inside.{IsHomeOf, IsConfigFor, IsConflictFor}
 use Rattle.hx_admit.specs.StateView.{state_in}
 use Rattle.hx_admit.specs.Ruling.{IsAtHome}
 use Rattle.hx_model.specs.Tree.{parent_with}
@@ -41,12 +47,12 @@ use Rattle.hx_model.specs.declared.config.RunConfig.{RunConfig}
 home_found : (rows : Objects) (id : Id) → is_hierarchy id.kind ≡ true → home_in rows id ≡ object_at rows (namespace_id id.ns)
 home_found rows id is = ap (λ kind. home_in rows (record id { kind = kind })) (hierarchy_kind id is)
 
-pub at_home : (config : RunConfig) (rows : Objects) (nodes : Forest) (id : Id) (old new home : Option Object) (skip : Bool) → AllByRecursion IsServed rows → nodes ≡ forest_in config.excluded rows → object_at rows id ≡ old → home ≡ home_in rows id → is_hierarchy id.kind ≡ true
-    → IsAtHome (record { id = id; old = old; new = new; home = home; tree = nodes; config = config; skip = skip })
-at_home config rows nodes id old new home skip served planted there is_home is =
+pub at_home : (config : RunConfig) (rows : Objects) (nodes : Forest) (id : Id) (old new home found : Option Object) (conflict skip : Bool) → AllByRecursion IsServed rows → nodes ≡ forest_in config.excluded rows → object_at rows id ≡ old → home ≡ home_in rows id → is_hierarchy id.kind ≡ true
+    → IsAtHome (record { id = id; old = old; new = new; home = home; hnc_config = found; conflict = conflict; tree = nodes; config = config; skip = skip })
+at_home config rows nodes id old new home hnc_config conflict skip served planted there is_home is =
     let ex = config.excluded in
     let found : object_at rows (namespace_id id.ns) ≡ home = sym (home_found rows id is) ∙ sym is_home in
-    subst (λ f. IsAtHome (record { id = id; old = old; new = new; home = home; tree = f; config = config; skip = skip })) (sym planted) (record { there = there-objects ex rows id.ns served ∙ ap is_some found; parent = λ named. by home found named })
+    subst (λ f. IsAtHome (record { id = id; old = old; new = new; home = home; hnc_config = hnc_config; conflict = conflict; tree = f; config = config; skip = skip })) (sym planted) (record { there = there-objects ex rows id.ns served ∙ ap is_some found; parent = λ named. by home found named })
   where
     by : (found : Option Object) → object_at rows (namespace_id id.ns) ≡ found → id.name ≡ hierarchy → IfSome found (λ x. parent_of (forest_in config.excluded rows) id.ns ≡ parent_with old x)
     by None e named = tt
@@ -70,21 +76,100 @@ home_node config rows nodes id served planted =
 
 -- for other kinds the rules don't look at the namespace
 pub no_home : (c : Case) (home : Option Object) → is_hierarchy c.id.kind ≡ false → rules c ≡ rules (record c { home = home })
-no_home c home other = by c.id.kind other
+no_home c home other = λ i. breaks X1 (c.skip && not c.config.allow_skip) ∷ names c.id.kind i ∷ breaks O1 (touches_copy c) ∷ by c.id.kind other i
   where
-    by : (kind : Kind) → is_hierarchy kind ≡ false → breaks X1 (c.skip && not c.config.allow_skip) ∷ kind_rules kind c ≡ breaks X1 (c.skip && not c.config.allow_skip) ∷ kind_rules kind (record c { home = home })
+    names : (kind : Kind) → name_rule kind c ≡ name_rule kind (record c { home = home })
+    names HierarchyConfiguration = refl
+    names _ = refl
+
+    by : (kind : Kind) → is_hierarchy kind ≡ false → kind_rules kind c ≡ kind_rules kind (record c { home = home })
     by HierarchyConfiguration e = absurd (true≢false e)
     by _ e = refl
 
--- what the check is given is the case of the state
-pub ruled : (config : RunConfig) (rows : Objects) (last : ℕ) (nodes : Forest) (id : Id) (old new home : Option Object) (skip : Bool) → nodes ≡ forest_in config.excluded rows → IsHomeOf (state_in config rows last) id home
-    → first (rules (record { id = id; old = old; new = new; home = home; tree = nodes; config = config; skip = skip })) ≡ first (rules (case_at (state_in config rows last) id old new skip))
-ruled config rows last nodes id old new home skip planted is_home =
-    ap (λ f. first (rules (record { id = id; old = old; new = new; home = home; tree = f; config = config; skip = skip }))) planted ∙ by (is_hierarchy id.kind) refl
+-- only where a copy is removed they look at the HNCConfiguration
+pub no_config : (c : Case) (found : Option Object) → (is_some c.new ≡ false → any_of is_copy c.old ≡ true → c.hnc_config ≡ found) → rules c ≡ rules (record c { hnc_config = found })
+no_config c found same = λ i. breaks X1 (c.skip && not c.config.allow_skip) ∷ names c.id.kind i ∷ breaks O1 (touches (is_some c.new) refl i) ∷ by c.id.kind i
   where
-    by : (b : Bool) → is_hierarchy id.kind ≡ b → first (rules (record { id = id; old = old; new = new; home = home; tree = forest_in config.excluded rows; config = config; skip = skip })) ≡ first (rules (case_at (state_in config rows last) id old new skip))
-    by true e = ap (λ h. first (rules (record { id = id; old = old; new = new; home = h; tree = forest_in config.excluded rows; config = config; skip = skip }))) (is_home e)
-    by false e = ap first (no_home (record { id = id; old = old; new = new; home = home; tree = forest_in config.excluded rows; config = config; skip = skip }) (home_in rows id) e)
+    names : (kind : Kind) → name_rule kind c ≡ name_rule kind (record c { hnc_config = found })
+    names HierarchyConfiguration = refl
+    names _ = refl
+
+    by : (kind : Kind) → kind_rules kind c ≡ kind_rules kind (record c { hnc_config = found })
+    by HierarchyConfiguration = refl
+    by _ = refl
+
+    removes : (copy : Bool) → is_some c.new ≡ false → any_of is_copy c.old ≡ copy → (copy && (not (is_kept_out c c.id.ns) && not (is_ignored (mode_in c.hnc_config c.id.kind)))) ≡ (copy && (not (is_kept_out c c.id.ns) && not (is_ignored (mode_in found c.id.kind))))
+    removes true gone e = ap (λ h. not (is_kept_out c c.id.ns) && not (is_ignored (mode_in h c.id.kind))) (same gone e)
+    removes false gone e = refl
+
+    touches : (written : Bool) → is_some c.new ≡ written → (if written then writes_copy c else removes_copy c) ≡ (if written then writes_copy c else removes_copy (record c { hnc_config = found }))
+    touches true e = refl
+    touches false e = removes (any_of is_copy c.old) e refl
+
+-- they look at a conflict where they aren't skipped, for a HierarchyConfiguration that closes no cycle, an HNCConfiguration, and an object that can be copied
+pub looked_at : (c : Case) (conflict : Bool) → IsConflictFor c conflict → first (rules (record c { conflict = conflict })) ≡ first (rules c)
+looked_at c conflict same = λ i. or_else (breaks X1 (c.skip && not c.config.allow_skip)) (or_else (names c.id.kind i) (or_else (breaks O1 (touches_copy c)) (by c.id.kind refl i)))
+  where
+    other : Case
+    other = record c { conflict = conflict }
+
+    names : (kind : Kind) → name_rule kind other ≡ name_rule kind c
+    names HierarchyConfiguration = refl
+    names HncConfiguration = refl
+    names _ = refl
+
+    -- what stands behind the rule on cycles
+    rest : Bool → List (Option Denial)
+    rest b =
+        breaks H3 (contradicts c)
+        ∷ breaks H4 (moves_halted c)
+        ∷ breaks H5 b
+        ∷ breaks H6 (is_write c && meets_excluded c)
+        ∷ breaks H8 (is_write c && grows_too_deep c)
+        ∷ []
+
+    tree : (closes : Bool) → closes_cycle c ≡ closes → (closes ≡ false → conflict ≡ c.conflict) → first (tree_rules other) ≡ first (tree_rules c)
+    tree true e is =
+        ap (λ b. or_else (breaks H1 (lacks_parent c)) (or_else (breaks H2 b) (first (rest conflict)))) e
+        ∙ sym (ap (λ b. or_else (breaks H1 (lacks_parent c)) (or_else (breaks H2 b) (first (rest c.conflict)))) e)
+    tree false e is = ap (λ b. or_else (breaks H1 (lacks_parent c)) (or_else (breaks H2 (closes_cycle c)) (first (rest b)))) (is refl)
+
+    moved : (skip : Bool) → c.skip ≡ skip → (skip ≡ false → closes_cycle c ≡ false → conflict ≡ c.conflict) → first (if skip then [] else tree_rules other) ≡ first (if skip then [] else tree_rules c)
+    moved true e is = refl
+    moved false e is = tree (closes_cycle c) refl (is refl)
+
+    not_skipped : (skip : Bool) → c.skip ≡ skip → (skip ≡ false → conflict ≡ c.conflict) → (not skip && conflict) ≡ (not skip && c.conflict)
+    not_skipped true e is = refl
+    not_skipped false e is = is refl
+
+    given : (b : Bool) → (is_write c && can_be_copied c.id.kind) ≡ b → (b && (not c.skip && conflict)) ≡ (b && (not c.skip && c.conflict))
+    given true e =
+        let parts = and_parts (is_write c) (can_be_copied c.id.kind) e in
+        not_skipped c.skip refl (same.source parts.0 parts.1)
+    given false e = refl
+
+    sources : first (source_rules other) ≡ first (source_rules c)
+    sources = ap (λ b. first (breaks O3 (misuses_exceptions c) ∷ breaks O2 b ∷ [])) (given (is_write c && can_be_copied c.id.kind) refl)
+
+    by : (kind : Kind) → c.id.kind ≡ kind → first (kind_rules kind other) ≡ first (kind_rules kind c)
+    by Namespace e = refl
+    by HierarchyConfiguration e = moved c.skip refl (same.move (ap is_hierarchy e))
+    by HncConfiguration e = ap (λ b. first (entry_rules (entries_of c.new) b)) (not_skipped c.skip refl (same.modes e))
+    by _ e = sources
+
+-- what the check is given is the case of the state
+pub ruled : (config : RunConfig) (rows : Objects) (last : ℕ) (nodes : Forest) (id : Id) (old new home found : Option Object) (conflict skip : Bool) → nodes ≡ forest_in config.excluded rows → IsHomeOf (state_in config rows last) id home → IsConfigFor (state_in config rows last) old new found
+    → IsConflictFor (case_at (state_in config rows last) id old new skip) conflict
+    → first (rules (record { id = id; old = old; new = new; home = home; hnc_config = found; conflict = conflict; tree = nodes; config = config; skip = skip })) ≡ first (rules (case_at (state_in config rows last) id old new skip))
+ruled config rows last nodes id old new home found conflict skip planted is_home is_config is_conflict =
+    ap (λ f. first (rules (record { id = id; old = old; new = new; home = home; hnc_config = found; conflict = conflict; tree = f; config = config; skip = skip }))) planted
+    ∙ ap first (no_config (record { id = id; old = old; new = new; home = home; hnc_config = found; conflict = conflict; tree = forest_in config.excluded rows; config = config; skip = skip }) (object_at rows config_id) is_config)
+    ∙ by (is_hierarchy id.kind) refl
+    ∙ looked_at (case_at (state_in config rows last) id old new skip) conflict is_conflict
+  where
+    by : (b : Bool) → is_hierarchy id.kind ≡ b → first (rules (record { id = id; old = old; new = new; home = home; hnc_config = object_at rows config_id; conflict = conflict; tree = forest_in config.excluded rows; config = config; skip = skip })) ≡ first (rules (record (case_at (state_in config rows last) id old new skip) { conflict = conflict }))
+    by true e = ap (λ h. first (rules (record { id = id; old = old; new = new; home = h; hnc_config = object_at rows config_id; conflict = conflict; tree = forest_in config.excluded rows; config = config; skip = skip }))) (is_home e)
+    by false e = ap first (no_home (record { id = id; old = old; new = new; home = home; hnc_config = object_at rows config_id; conflict = conflict; tree = forest_in config.excluded rows; config = config; skip = skip }) (home_in rows id) e)
 
 -- ---- the annotation of a namespace
 
@@ -120,7 +205,8 @@ pub same_annotation : (s : State) (x old : Object) (expected : Option ℕ) (skip
     → subnamespace_parent x ≡ subnamespace_parent old
 same_annotation s x old expected skip there passes is =
     let quiet : first (rules (case_at s x.id (object_at s.objects x.id) (Some x) skip)) ≡ None = undenied x.id _ (second_none (version_refusal s (Replace x expected skip)) (rule_refusal s (Replace x expected skip)) passes) in
-    let of_kind : first (kind_rules x.id.kind (case_at s x.id (object_at s.objects x.id) (Some x) skip)) ≡ None = rest_none _ _ quiet in
+    let case : Case = case_at s x.id (object_at s.objects x.id) (Some x) skip in
+    let of_kind : first (kind_rules x.id.kind case) ≡ None = rest_none (breaks O1 (touches_copy case)) _ (rest_none (name_rule x.id.kind case) _ (rest_none (breaks X1 (skip && not s.config.allow_skip)) _ quiet)) in
     let third : so (not (same_name (option_and_then subnamespace_parent (object_at s.objects x.id)) (subnamespace_parent x))) (Broken N3) ≡ None = or_none _ (subst (λ kind. first (kind_rules kind (case_at s x.id (object_at s.objects x.id) (Some x) skip)) ≡ None) (namespace_kind x.id.kind is) of_kind) in
     let same = untested (same_name (option_and_then subnamespace_parent (object_at s.objects x.id)) (subnamespace_parent x)) third in
     sym (same_name_exact (option_and_then subnamespace_parent (object_at s.objects x.id)) (subnamespace_parent x) same) ∙ ap (option_and_then subnamespace_parent) there

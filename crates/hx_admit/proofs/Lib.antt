@@ -7,3 +7,7 @@ pub mod Loading
 pub mod Refusing
 pub mod Reviewing
 pub mod Ruling
+pub mod Conflicting
+pub mod ConflictingModes
+pub mod Moved
+pub mod MovedCase

@@ -6,17 +6,18 @@
 --     served_replacement     what a PUT gives is served
 --     may_put, may_replace      an object with the next version, and that of a PUT, may be put
 --     passes_create, passes_replace     asks of one write
-use Rattle.std.proofs.Common.{◌≡◌, ◌<◌, ◌+◌, ℕ, Bool, true, false, List, [], ◌∷◌, None, Some, Option, refl, sym, ap, subst, ◌∙◌, inl, inr, ◌⊎◌, filter, nat_lt, le-ltb, arith, IfSome}
+use Rattle.std.proofs.Common.{◌≡◌, ◌<◌, ◌+◌, ℕ, Bool, true, false, List, [], ◌∷◌, None, Some, Option, refl, sym, ap, subst, ◌∙◌, inl, inr, ◌⊎◌, nat_lt, le-ltb, arith, IfSome}
 use Rattle.std.specs.List.{AllByRecursion, IsDistinct}
 use Rattle.std.specs.Prelude.{Result, Ok, Err, IfErr, IsErrAnd}
 use Rattle.hx_object.specs.Faults.{IsLegal}
 use Rattle.hx_object.specs.declared.kind.Kind.{Kind}
 use Rattle.hx_object.specs.declared.object.Id.{Id}
 use Rattle.hx_object.specs.declared.object.Object.{Object}
-use Rattle.hx_model.specs.Answers.{refusal_of, writes_of, success, answer_found, is_listed, same_object, replaced_by}
+use Rattle.hx_model.specs.Answers.{refusal_of, writes_of, success, answer_found, selected, same_object, replaced_by}
 use Rattle.hx_model.specs.Limits.{is_namespace, bytes_in, greatest_version}
 use Rattle.hx_model.specs.Serving.{IsServed, IsLegalAnswer}
 use Rattle.hx_model.specs.State.{State, object_at, has_home, with_version, state_after}
+use Rattle.hx_select.specs.declared.selector.Selector.{Selector}
 use Rattle.hx_model.specs.declared.ask.Ask.{Ask}
 use Rattle.hx_model.specs.declared.ask.Ask.TheVariants.{Get, List as ListOf, Create, Replace}
 use Rattle.hx_model.specs.declared.ask.Answer.{Answer}
@@ -61,10 +62,10 @@ pub passes_get : (s : State) (id : Id) (x : Object) (writes : List Write) (says 
 passes_get s id x writes says there served none is =
     subst (λ ws. Passes s (Get id) ws says) (sym none) (subst (λ a. Passes s (Get id) [] a) (sym is) (record { passes = rw (there, not_less (bytes_in s.objects)) refl; changes = refl; says = ap (λ o. answer_found o false id) there; legal = served.legal }))
 
-pub passes_list : (s : State) (kind : Kind) (ns : Option (List ℕ)) (writes : List Write) (says : Answer) → ((p : Object → Bool) → AllByRecursion IsLegal (filter p s.objects)) → writes ≡ [] → says ≡ Many kind (filter (is_listed kind ns) s.objects) s.last → Passes s (ListOf kind ns) writes says
-passes_list s kind ns writes says legal none is =
-    subst (λ ws. Passes s (ListOf kind ns) ws says) (sym none) (subst (λ a. Passes s (ListOf kind ns) [] a) (sym is)
-    (record { passes = rw (not_less (bytes_in s.objects)) refl; changes = refl; says = refl; legal = legal (is_listed kind ns) }))
+pub passes_list : (s : State) (kind : Kind) (ns : Option (List ℕ)) (selector : Selector) (writes : List Write) (says : Answer) → AllByRecursion IsLegal (selected kind ns selector s.objects) → writes ≡ [] → says ≡ Many kind (selected kind ns selector s.objects) s.last → Passes s (ListOf kind ns selector) writes says
+passes_list s kind ns selector writes says legal none is =
+    subst (λ ws. Passes s (ListOf kind ns selector) ws says) (sym none) (subst (λ a. Passes s (ListOf kind ns selector) [] a) (sym is)
+    (record { passes = rw (not_less (bytes_in s.objects)) refl; changes = refl; says = refl; legal = legal }))
 
 pub passes_unchanged : (s : State) (x old next : Object) (expected : Option ℕ) (skip : Bool) (writes : List Write) (says : Answer) → IsReplacement s x old expected skip next → next ≡ old → writes ≡ [] → says ≡ One old false → Passes s (Replace x expected skip) writes says
 passes_unchanged s x old next expected skip writes says r same none answers =

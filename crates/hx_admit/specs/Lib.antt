@@ -6,3 +6,5 @@ pub mod Planning
 pub mod StateView
 pub mod Reviewing
 pub mod Inside
+pub mod Moves
+pub mod Conflicting

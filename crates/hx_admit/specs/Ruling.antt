@@ -15,7 +15,7 @@ use Rattle.hx_admit.specs.declared.case.Case as code
 
 -- the case that code has
 abbrev pub case_of : code.Case → Case
-case_of c = record { id = c.id.now; old = option_copied c.old; new = option_copied c.new; home = option_copied c.home; tree = c.forest.now.nodes; config = c.config.now; skip = c.skip }
+case_of c = record { id = c.id.now; old = option_copied c.old; new = option_copied c.new; home = option_copied c.home; hnc_config = option_copied c.hnc_config; conflict = c.conflict; tree = c.forest.now.nodes; config = c.config.now; skip = c.skip }
 
 -- the namespace of a HierarchyConfiguration is there where the tree has it, and has the parent that the tree says
 pub record IsAtHome (c : Case) : Type 0 where

@@ -17,6 +17,12 @@ pub struct Case<'a> {
     pub new: Option<&'a Object>,
     /// The namespace, for a HierarchyConfiguration. The rules on other objects don't look at it.
     pub home: Option<&'a Object>,
+    /// The HNCConfiguration that is stored, where a copy is removed. The rules on other requests don't look at it.
+    pub hnc_config: Option<&'a Object>,
+    /// Whether an object is given that can be copied, with exceptions that aren't valid. To read them takes memory, and the rules take none.
+    pub misuses_exceptions: bool,
+    /// Whether the write makes a conflict, where a rule asks.
+    pub conflict: bool,
     /// The tree before the write.
     pub forest: &'a Forest,
     pub config: &'a RunConfig,

@@ -9,20 +9,29 @@ ghost use Rattle.hx_model.specs.Serving.{IsServed};
 ghost use Rattle.hx_model.specs.State.{object_at, has_home};
 ghost use Rattle.hx_model.specs.Valid.{IsValid};
 ghost use Rattle.hx_model.specs.declared.ask.Ask.TheVariants as ask_of;
-ghost use Rattle.hx_admit.specs.Inside.{IsHomeOf, place_refusals, growth_refusals, objects_with};
+ghost use Rattle.hx_admit.specs.Inside.{IsConfigFor, AreFindings, place_refusals, growth_refusals, objects_with};
 ghost use Rattle.hx_admit.specs.Refusing.{fault_in};
 
 use crate::case::Case;
+use crate::findings::Findings;
 use crate::indexed_state::IndexedState;
 use crate::limits::{check_counts, check_growth, counts};
-use crate::rules::check_rules;
+use crate::plan::object_in;
+use crate::rules::{check_rules, is_any_copy};
 use hx_model::Denial;
-use hx_object::{Id, Object};
+use hx_object::well_known::CONFIG;
+use hx_object::{Id, Kind, Object};
 
 impl IndexedState {
     /// Finds what stands against a POST.
-    pub(crate) fn check_create(&self, object: &Object, skip: bool) -> Result<(), Denial>
+    pub(crate) fn check_create(
+        &self,
+        object: &Object,
+        found: Findings,
+        skip: bool,
+    ) -> Result<(), Denial>
         requires served { IsServed object.now }
+        requires found { AreFindings (case_at self.now.state object.now.id (object_at self.now.state.objects object.now.id) (Some object.now) skip) found }
         ensures refusal { option_map (refusal_by object.now.id) (fault_in result) ≡ refusal_of self.now.state (ask_of.Create object.now skip) }
         ensures free { OnOk result (object_at self.now.state.objects object.now.id ≡ None) }
         ensures home { OnOk result (has_home self.now.state.objects object.now.id ≡ true) }
@@ -30,7 +39,7 @@ impl IndexedState {
     {
         let id = &object.id;
         self.check_place(id)?;
-        self.check_case(id, None, Some(object), self.home_of(id), skip)?;
+        self.check_case(id, None, Some(object), found, skip)?;
         check_counts(id.kind.is_namespace(), counts(object), self.counts)?;
         self.check_growth(id, None, Some(object))
     }
@@ -41,25 +50,34 @@ impl IndexedState {
         old: &Object,
         object: &Object,
         expected: Option<u64>,
+        found: Findings,
         skip: bool,
     ) -> Result<(), Denial>
+        requires found { AreFindings (case_at self.now.state object.now.id (Some old.now) (Some object.now) skip) found }
         requires there { object_at self.now.state.objects object.now.id ≡ Some old.now }
         ensures refusal { option_map (refusal_by object.now.id) (fault_in result) ≡ first (version_refusal self.now.state (ask_of.Replace object.now expected skip) ∷ rule_refusal self.now.state (ask_of.Replace object.now expected skip) ∷ []) }
         ensures valid { OnOk result (IsValid self.now.state) }
     {
         let id = &object.id;
         check_version(old, expected)?;
-        self.check_case(id, Some(old), Some(object), self.home_of(id), skip)?;
+        self.check_case(id, Some(old), Some(object), found, skip)?;
         Ok(())
     }
 
     /// Finds what stands against a DELETE.
-    pub(crate) fn check_delete(&self, old: &Object, id: &Id, skip: bool) -> Result<(), Denial>
+    pub(crate) fn check_delete(
+        &self,
+        old: &Object,
+        id: &Id,
+        found: Findings,
+        skip: bool,
+    ) -> Result<(), Denial>
+        requires found { AreFindings (case_at self.now.state id.now (Some old.now) None skip) found }
         requires there { object_at self.now.state.objects id.now ≡ Some old.now }
         ensures refusal { option_map (refusal_by id.now) (fault_in result) ≡ refusal_of self.now.state (ask_of.Delete id.now skip) }
         ensures fits { OnOk result (self.now.state.last < greatest_version) }
     {
-        self.check_case(id, Some(old), None, self.home_of(id), skip)?;
+        self.check_case(id, Some(old), None, found, skip)?;
         self.check_growth(id, Some(old), None)
     }
 
@@ -99,11 +117,11 @@ impl IndexedState {
         id: &Id,
         old: Option<&Object>,
         new: Option<&Object>,
-        home: Option<&Object>,
+        found: Findings,
         skip: bool,
     ) -> Result<(), Denial>
         requires there { object_at self.now.state.objects id.now ≡ option_copied old }
-        requires home { IsHomeOf self.now.state id.now (option_copied home) }
+        requires found { AreFindings (case_at self.now.state id.now (option_copied old) (option_copied new) skip) found }
         ensures fault { fault_in result ≡ first (rules (case_at self.now.state id.now (option_copied old.entry) (option_copied new.entry) skip)) }
         ensures valid { IsValid self.now.state }
     {
@@ -111,11 +129,24 @@ impl IndexedState {
             id,
             old,
             new,
-            home,
+            home: self.home_of(id),
+            hnc_config: self.hnc_config_for(old, new),
+            misuses_exceptions: found.is_invalid,
+            conflict: found.conflict,
             forest: &self.forest,
             config: &self.config,
             skip,
         })
+    }
+
+    /// The HNCConfiguration that is stored, where a copy is removed. The rules on other requests don't look at it.
+    fn hnc_config_for(&self, old: Option<&Object>, new: Option<&Object>) -> Option<&Object>
+        ensures { IsConfigFor self.now.state (option_copied old.entry) (option_copied new.entry) (option_copied result) }
+    {
+        if new.is_some() || !is_any_copy(old) {
+            return None;
+        }
+        object_in(self.store.find(Kind::HncConfiguration, "", CONFIG))
     }
 }
 

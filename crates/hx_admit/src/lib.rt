@@ -5,9 +5,12 @@
 
 mod case;
 mod checks;
+mod conflicts;
+mod findings;
 mod indexed_state;
 mod limits;
 mod load;
+mod moves;
 mod plan;
 mod review;
 mod reviewed;

@@ -154,7 +154,7 @@ pub fn counts(object: &Object) -> bool
 
 /// Whether an object is a copy, as reconcilers write them.
 #[tactic(auto, unfolding(hx_model::specs::Limits::is_copy))]
-fn is_copy(object: &Object) -> bool
+pub(crate) fn is_copy(object: &Object) -> bool
     ensures { result ≡ is_copy object.now }
 {
     object.id.kind.can_be_copied() && object.labels.get(INHERITED_FROM).is_some()

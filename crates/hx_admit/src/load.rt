@@ -1,23 +1,15 @@
 // Objects that were stored before.
-ghost use Rattle.std.specs.Prelude.{◌≡◌, ◌∷◌, [], true, None, IfOk, OnOk, OnErr, option_copied};
+ghost use Rattle.std.specs.Prelude.{◌≡◌, ◌∷◌, [], true, None, IfOk, OnOk, OnErr};
 ghost use Rattle.hx_model.specs.State.{object_at, has_home, put};
 ghost use Rattle.hx_model.specs.Valid.{IsStored};
 ghost use Rattle.hx_model.specs.declared.key.Write.TheVariants as write_of;
 
 use crate::indexed_state::IndexedState;
-use crate::plan::object_in;
 use hx_object::{Id, NoMemory, Object, Shared};
 use hx_store::Change;
 use std::alloc::Global;
 
 impl IndexedState {
-    /// The object of an identity. It takes no memory.
-    pub fn get(&self, id: &Id) -> Option<&Object>
-        ensures { option_copied result ≡ object_at self.now.state.objects id.now }
-    {
-        object_in(self.store.get(id))
-    }
-
     /// Whether the namespace that an identity lies in is there, or its kind lies in none. It takes no memory.
     pub fn has_home(&self, id: &Id) -> bool
         ensures { result ≡ has_home self.now.state.objects id.now }

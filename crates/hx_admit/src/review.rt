@@ -10,10 +10,12 @@ ghost use Rattle.hx_admit.specs.Reviewing.{Passes};
 ghost use Rattle.hx_model.specs.Writes.{MayWriteAll};
 
 use crate::indexed_state::IndexedState;
+use crate::plan::object_in;
 use crate::reviewed::Reviewed;
 use crate::update::replaced_by;
 use hx_model::{Answer, Ask, Denial, Refusal};
 use hx_object::{Id, Kind, List, NoMemory, Object, Shared, Text};
+use hx_select::Selector;
 use hx_store::Change;
 
 impl IndexedState {
@@ -26,7 +28,7 @@ impl IndexedState {
     {
         match ask {
             Ask::Get { id } => self.review_get(&id),
-            Ask::List { kind, ns } => self.review_list(kind, ns.as_ref()),
+            Ask::List { kind, ns, selector } => self.review_list(kind, ns.as_ref(), &selector),
             Ask::Create { object, skip } => self.review_create(object, skip),
             Ask::Replace {
                 object,
@@ -51,15 +53,21 @@ impl IndexedState {
         }
     }
 
-    fn review_list(&self, kind: Kind, ns: Option<&Text>) -> Result<Reviewed, Refusal>
-        ensures refused { IfErr result (IsRefusal self.now.state (Ask.List kind (option_copied ns.entry))) }
-        ensures passes { IfOk result (λ r. Passes self.now.state (Ask.List kind (option_copied ns.entry)) r.writes.items r.answer) }
+    fn review_list(
+        &self,
+        kind: Kind,
+        ns: Option<&Text>,
+        selector: &Selector,
+    ) -> Result<Reviewed, Refusal>
+        ensures refused { IfErr result (IsRefusal self.now.state (Ask.List kind (option_copied ns.entry) selector.now)) }
+        ensures passes { IfOk result (λ r. Passes self.now.state (Ask.List kind (option_copied ns.entry) selector.now) r.writes.items r.answer) }
         ensures may { IfOk result (λ r. MayWriteAll self.now.state r.writes.items) }
     {
-        let objects = List::of(self.store.list(kind, ns)?);
+        let mut objects = self.store.list(kind, ns)?;
+        objects.retain(|object| selector.matches(&object.object().labels));
         Ok(self.unchanged(Answer::Many {
             kind,
-            objects,
+            objects: List::of(objects),
             version: self.store.version(),
         }))
     }
@@ -70,7 +78,8 @@ impl IndexedState {
         ensures passes { IfOk result (λ r. Passes self.now.state (Ask.Create object skip) r.writes.items r.answer) }
         ensures may { IfOk result (λ r. MayWriteAll self.now.state r.writes.items) }
     {
-        if let Err(denial) = self.check_create(&object, skip) {
+        let found = self.findings(&object.id, self.object(&object.id), Some(&object), skip)?;
+        if let Err(denial) = self.check_create(&object, found, skip) {
             return Err(denial.refusal(&object.id));
         }
         Ok(self.put(object, true)?)
@@ -117,7 +126,8 @@ impl IndexedState {
         ensures refused { IfErr result (IsRefusal self.now.state (Ask.Replace object expected skip)) }
         ensures gives { IfOk result (IsReplacement self.now.state object old.now expected skip) }
     {
-        if let Err(denial) = self.check_replace(old, &object, expected, skip) {
+        let found = self.findings(&object.id, Some(old), Some(&object), skip)?;
+        if let Err(denial) = self.check_replace(old, &object, expected, found, skip) {
             return Err(denial.refusal(&object.id));
         }
         Ok(replaced_by(old, object)?)
@@ -132,10 +142,18 @@ impl IndexedState {
         let Some(old) = self.store.get(&id) else {
             return Err(Denial::NotFound.refusal(&id));
         };
-        if let Err(denial) = self.check_delete(old.object(), &id, skip) {
+        let found = self.findings(&id, Some(old.object()), None, skip)?;
+        if let Err(denial) = self.check_delete(old.object(), &id, found, skip) {
             return Err(denial.refusal(&id));
         }
         Ok(self.cut(id)?)
+    }
+
+    /// The object of an identity.
+    fn object(&self, id: &Id) -> Option<&Object>
+        ensures { option_copied result ≡ object_at self.now.state.objects id.now }
+    {
+        object_in(self.store.get(id))
     }
 
     /// The review of a request that changes nothing.

@@ -2,8 +2,8 @@
 ghost use Rattle.std.specs.Prelude.{◌≡◌, false, is_some, option_copied};
 ghost use Rattle.hx_model.specs.First.{first};
 ghost use Rattle.hx_model.specs.Forest.{is_live, halt_of};
-ghost use Rattle.hx_model.specs.Cases.{any_of};
-ghost use Rattle.hx_model.specs.RulesHierarchy.{hierarchy_rules, tree_rules, new_parent, parent_after, changes_parent, lacks_parent, closes_cycle, contradicts, moves_halted, meets_excluded, grows_too_deep, is_ancestor, is_kept_out};
+ghost use Rattle.hx_model.specs.Cases.{any_of, is_kept_out};
+ghost use Rattle.hx_model.specs.RulesHierarchy.{misses_hierarchy, hierarchy_rules, tree_rules, new_parent, parent_after, changes_parent, lacks_parent, closes_cycle, contradicts, moves_halted, meets_excluded, grows_too_deep, is_ancestor};
 ghost use Rattle.hx_admit.specs.Refusing.{fault_in};
 ghost use Rattle.hx_admit.specs.Ruling.{case_of, IsAtHome};
 
@@ -22,12 +22,17 @@ pub fn check_rules(case: &Case) -> Result<(), Denial>
     requires { IsAtHome (case_of case.now) }
     ensures { fault_in result ≡ first (hierarchy_rules (case_of case.now)) }
 {
-    let is_named = case.id.name.as_str() == HIERARCHY;
-    check_rule(Rule::H7, case.is_write() && !is_named)?;
     if case.skip {
         return Ok(());
     }
     check_tree(case)
+}
+
+/// Whether it is a write of another name.
+pub fn misses_name(case: &Case) -> bool
+    ensures { result ≡ misses_hierarchy (case_of case.now) }
+{
+    case.is_write() && case.id.name.as_str() != HIERARCHY
 }
 
 /// The rules on the tree, which admission may skip.
@@ -39,6 +44,7 @@ fn check_tree(case: &Case) -> Result<(), Denial>
     check_rule(Rule::H2, closes_cycle(case))?;
     check_rule(Rule::H3, contradicts(case))?;
     check_rule(Rule::H4, moves_halted(case))?;
+    check_rule(Rule::H5, case.conflict)?;
     check_rule(Rule::H6, case.is_write() && meets_excluded(case))?;
     check_rule(Rule::H8, case.is_write() && grows_too_deep(case))
 }
@@ -56,7 +62,7 @@ fn new_parent<'a>(case: &Case<'a>) -> Option<&'a Text>
 }
 
 /// The parent that the namespace has once the write is made.
-fn parent_after<'a>(case: &Case<'a>) -> Option<&'a Text>
+pub fn parent_after<'a>(case: &Case<'a>) -> Option<&'a Text>
     ensures { option_copied result ≡ parent_after (case_of case.now) }
 {
     if case.id.name.as_str() != HIERARCHY {
@@ -92,7 +98,7 @@ fn is_live(forest: &Forest, name: &Text) -> bool
 }
 
 /// Whether the namespace is in the chain of a new parent.
-fn closes_cycle(case: &Case) -> bool
+pub fn closes_cycle(case: &Case) -> bool
     ensures { result ≡ closes_cycle (case_of case.now) }
 {
     match new_parent(case) {

@@ -1,0 +1,20 @@
+use Rattle.std.proofs.Common.{◌∙◌, sym, ap, not}
+use Rattle.std.specs.Str.{bytes_eq}
+use Rattle.hx_admit.proofs.Conflicting.{hit_itself, hit_beside, hit_closed, hit_missed, hit_anew}
+use Rattle.hx_admit.proofs.indexed_state.IndexedState.is_hit.Goals as goal
+use Rattle.hx_admit.proofs.indexed_state.IndexedState.is_hit.Goals.{then-eq-via-then-eq, then-eq-via-else-eq+then-not-is_below, then-eq-via-else-eq+else-not-is_below+then-not-is_open}
+
+pub returns-then-eq : goal.returns-then-eq
+returns-then-eq c = elim c.then-eq.branch [
+  | then-eq-via-then-eq w ↦ hit_itself c.args.self.now.state c.args.new.now c.args.ns.now ((λ i. bytes_eq ((sym c.as_str.ensures.value) i) ((sym c.as_str-2.ensures.value) i)) ∙ sym c.eq.ensures ∙ w.if-eq.true)
+  | then-eq-via-else-eq+then-not-is_below w ↦ hit_beside c.args.self.now.state c.args.new.now c.args.ns.now (sym w.is_below.ensures ∙ w.if-not-is_below.true)
+  | then-eq-via-else-eq+else-not-is_below+then-not-is_open w ↦ hit_closed c.args.self.now.state c.args.new.now c.args.ns.now (sym w.is_open.ensures.«open» ∙ w.if-not-is_open.true)
+]
+
+pub returns-then-not-branch : goal.returns-then-not-branch
+returns-then-not-branch c = hit_missed c.args.self.now.state c.args.new.now c.args.ns.now c.mode.result c.mode.ensures (sym c.in_ok-goes_at.ensures ∙ c.if-not-branch.true)
+
+pub returns : goal.returns
+returns c =
+    ap not c.in_ok-is_reached.ensures
+    ∙ hit_anew c.args.self.now.state c.args.new.now c.args.ns.now c.mode.result ((λ i. bytes_eq ((sym c.as_str.ensures.value) i) ((sym c.as_str-2.ensures.value) i)) ∙ sym c.eq.ensures ∙ c.if-eq.false) (sym c.is_below.ensures ∙ c.if-not-is_below.false) (sym c.is_open.ensures.«open» ∙ c.if-not-is_open.false) c.mode.ensures (sym c.in_ok-goes_at.ensures ∙ c.if-not-branch.false)

@@ -1,0 +1,18 @@
+use Rattle.std.proofs.Common.{◌≡◌, ◌∙◌, sym}
+use Rattle.std.specs.Prelude.{option_copied}
+use Rattle.hx_admit.specs.Conflicting.{is_reached, is_taken}
+use Rattle.hx_admit.proofs.Conflicting.{taken_found, taken_closed, taken_reached}
+use Rattle.hx_admit.proofs.indexed_state.IndexedState.is_taken.Goals as goal
+use Rattle.hx_admit.proofs.indexed_state.IndexedState.is_taken.Goals.{then-not-is_open-via-then-not-is_open, then-not-is_open-via-else-not-is_open+then-is_source_in}
+
+pub returns-then-not-is_open-clause-taken : goal.returns-then-not-is_open-clause-taken
+returns-then-not-is_open-clause-taken c = elim c.then-not-is_open.branch [
+  | then-not-is_open-via-then-not-is_open w ↦ taken_closed c.args.self.now.state c.args.new.now (sym c.is_open.ensures.«open» ∙ w.if-not-is_open.true)
+  | then-not-is_open-via-else-not-is_open+then-is_source_in w ↦ taken_found c.args.self.now.state c.args.new.now (option_copied c.args.old) c.requires.there (sym w.is_source_in.ensures ∙ w.if-is_source_in.true)
+]
+
+pub returns-clause-taken : goal.returns-clause-taken
+returns-clause-taken c =
+    let is : is_reached c.args.self.now.state c.args.new.now.id.ns c.args.new.now.id.kind c.args.new.now.id.name ≡ is_taken c.args.self.now.state c.args.new.now =
+    taken_reached c.args.self.now.state c.args.new.now (option_copied c.args.old) c.requires.there (sym c.is_source_in.ensures ∙ c.if-is_source_in.false) (sym c.is_open.ensures.«open» ∙ c.if-not-is_open.false) in
+    rw (← is) c.is_reached.ensures

@@ -1,0 +1,52 @@
+use Rattle.std.proofs.Common.{◌≡◌, List, ℕ, Option, None, false, true≢false, sym, ap, subst, ◌∙◌}
+use Rattle.std.specs.Prelude.{option_copied, option_and_then, if◌then◌else◌}
+use Rattle.std.specs.Str.{bytes_eq}
+use Rattle.hx_object.specs.declared.object.Id.{Id}
+use Rattle.hx_object.specs.declared.object.Object.{Object}
+use Rattle.hx_model.specs.Answers.{case_at}
+use Rattle.hx_model.specs.Cases.{any_of, same_name}
+use Rattle.hx_model.specs.Conflicts.{makes_conflict, with_written}
+use Rattle.hx_model.specs.Forest.{Forest, in_chain, parent_of}
+use Rattle.hx_model.specs.RulesHierarchy.{closes_cycle, brought_parent, parent_after}
+use Rattle.hx_model.specs.State.{object_at, home_in}
+use Rattle.hx_model.specs.Tree.{hierarchy, parent_with, forest_of}
+use Rattle.hx_admit.specs.Moves.{CanMove, IsMovedBy}
+use Rattle.hx_admit.specs.StateView.{StateView}
+use Rattle.hx_admit.proofs.Counting.{agrees_served}
+use Rattle.hx_admit.proofs.Homes.{at_home}
+use Rattle.hx_admit.proofs.Moved.{if_ok_by}
+use Rattle.hx_admit.proofs.MovedCase.{can_move, moved_by_case}
+use Rattle.hx_admit.proofs.indexed_state.IndexedState.moves_into_conflict.Goals as goal
+
+pub returns-then-closes_cycle : goal.returns-then-closes_cycle
+returns-then-closes_cycle c =
+    let trees : c.self.inside.forest.nodes ≡ forest_of c.args.self.now.state = c.self.invariant.now.planted ∙ ap (λ (v : StateView). forest_of v.state) c.self.view_is in
+    λ apart. absurd (true≢false (sym c.if-closes_cycle.true ∙ c.closes_cycle.ensures
+    ∙ ap (λ (f : Forest). any_of (λ p. in_chain f p c.args.id.now.ns) (brought_parent (option_copied c.args.old) (option_copied c.args.new))) trees ∙ apart))
+
+pub overwrites_by_move-requires : goal.overwrites_by_move-requires
+overwrites_by_move-requires c =
+    let trees : c.self.inside.forest.nodes ≡ forest_of c.args.self.now.state = c.self.invariant.now.planted ∙ ap (λ (v : StateView). forest_of v.state) c.self.view_is in
+    let home = at_home c.self.inside.config c.self.inside.store.objects c.self.inside.forest.nodes c.args.id.now (option_copied c.args.old) (option_copied c.args.new) (option_copied c.home_of.result) None false false (agrees_served _ _ _ _ _ c.self.invariant.now) c.self.invariant.now.planted
+    (ap (λ (k : StateView). object_at k.state.objects c.args.id.now) c.self.view_is ∙ c.requires.there) (c.home_of.ensures c.requires.kind ∙ sym (ap (λ (k : StateView). home_in k.state.objects c.args.id.now) c.self.view_is)) c.requires.kind in
+    record {
+      moves =
+          subst (λ (f : Forest). same_name (parent_of f c.args.id.now.ns) (option_copied c.parent_after.result) ≡ false → CanMove f c.args.id.now.ns (option_copied c.parent_after.result)) trees
+          (subst (λ (p : Option (List ℕ)). same_name (parent_of c.self.inside.forest.nodes c.args.id.now.ns) p ≡ false → CanMove c.self.inside.forest.nodes c.args.id.now.ns p) (sym c.parent_after.ensures)
+          (can_move _ home (sym c.closes_cycle.ensures ∙ c.if-closes_cycle.false)));
+    }
+
+pub returns : goal.returns
+returns c =
+    let trees : c.self.inside.forest.nodes ≡ forest_of c.args.self.now.state = c.self.invariant.now.planted ∙ ap (λ (v : StateView). forest_of v.state) c.self.view_is in
+    let homes : option_copied c.home_of.result ≡ home_in c.args.self.now.state.objects c.args.id.now = c.home_of.ensures c.requires.kind in
+    let parent : option_copied c.parent_after.result ≡ parent_after (case_at c.args.self.now.state c.args.id.now (option_copied c.args.old) (option_copied c.args.new) false) =
+    c.parent_after.ensures ∙ (λ i. if bytes_eq c.args.id.now.name hierarchy then option_and_then (parent_with (option_copied c.args.new)) (homes i) else parent_of (trees i) c.args.id.now.ns) in
+    let moved : IsMovedBy c.args.self.now.state c.args.id.now.ns (option_copied c.parent_after.result) c.args.id.now (option_copied c.args.new) =
+    subst (λ (p : Option (List ℕ)). IsMovedBy c.args.self.now.state c.args.id.now.ns p c.args.id.now (option_copied c.args.new)) (sym parent) (moved_by_case c.args.self.now.state c.args.id.now (option_copied c.args.old) (option_copied c.args.new) false c.requires.kind c.requires.given) in
+    if_ok_by
+    (λ makes. (id : Id) → (new : Option Object) → IsMovedBy c.args.self.now.state c.args.id.now.ns (option_copied c.parent_after.result) id new → makes ≡ makes_conflict c.args.self.now.state (with_written c.args.self.now.state id new))
+    (λ makes. closes_cycle (case_at c.args.self.now.state c.args.id.now (option_copied c.args.old) (option_copied c.args.new) false) ≡ false → makes ≡ makes_conflict c.args.self.now.state (with_written c.args.self.now.state c.args.id.now (option_copied c.args.new)))
+    c.overwrites_by_move.result
+    (λ found is _. is c.args.id.now (option_copied c.args.new) moved)
+    c.overwrites_by_move.ensures

@@ -1,0 +1,362 @@
+// Moves of a namespace by which a copy would overwrite a source.
+ghost use Rattle.std.specs.Prelude.{◌≡◌, ◌++◌, ◌||◌, false, IfOk, OnOk, Option, option_copied};
+ghost use Rattle.std.specs.List.{list_all, list_any};
+ghost use Rattle.hx_object.specs.declared.object.Id.{Id as id_of};
+ghost use Rattle.hx_object.specs.declared.object.Object.{Object as object_of};
+ghost use Rattle.hx_model.specs.Cases.{same_name};
+ghost use Rattle.hx_model.specs.Conflicts.{makes_conflict, with_written};
+ghost use Rattle.hx_model.specs.Forest.{parent_of, subtree_of};
+ghost use Rattle.hx_model.specs.Moves.{up_to, chain_from, is_calm, is_open_above, labels_in, mode_at, is_met, open_chain, open_moved, is_newly_met, overwrites_kind, overwrites_in};
+ghost use Rattle.hx_model.specs.Propagation.{goes_to};
+ghost use Rattle.hx_model.specs.Tree.{forest_of};
+ghost use Rattle.hx_model.specs.TreeLabels.{prescribed_labels};
+ghost use Rattle.hx_admit.specs.Moves.{open_way, is_gone_to, CanMove, IsMovedBy};
+
+use crate::case::is_same_name;
+use crate::conflicts::{is_open, is_propagated, looks_at_labels};
+use crate::indexed_state::IndexedState;
+use crate::plan::object_in;
+use hx_forest::Forest;
+use hx_model::mode_in;
+use hx_object::well_known::CONFIG;
+use hx_object::{Kind, Mode, NoMemory, Object, Pairs, Shared, Text};
+use hx_rules::{goes_to, is_source, prescribed_labels};
+use hx_store::Store;
+use std::alloc::Global;
+
+/// The kinds that can be copied.
+const COPIED: [Kind; 6] = [
+    Kind::Role,
+    Kind::RoleBinding,
+    Kind::ConfigMap,
+    Kind::Secret,
+    Kind::NetworkPolicy,
+    Kind::LimitRange,
+];
+
+impl IndexedState {
+    /// Whether a namespace that gets another parent makes a conflict: some source of its subtree lies where a source from above is copied to then, and wasn't before (HNC user guide, "Propagating policies").
+    ///
+    /// It looks at nothing but the subtree, the namespaces above it, and the objects there of kinds that are propagated.
+    pub(crate) fn overwrites_by_move(
+        &self,
+        namespace: &Text,
+        parent: Option<&Text>,
+    ) -> Result<bool, NoMemory>
+        requires moves { same_name (parent_of (forest_of self.now.state) namespace.now) (option_copied parent) ≡ false → CanMove (forest_of self.now.state) namespace.now (option_copied parent) }
+        ensures { IfOk result (λ makes. (id : id_of) (new : Option object_of) → IsMovedBy self.now.state namespace.now (option_copied parent.entry) id new → makes ≡ makes_conflict self.now.state (with_written self.now.state id new)) }
+    {
+        if is_same_name(self.forest.parent(namespace), parent) {
+            return Ok(false);
+        }
+        overwrites_below(&self.store, &self.forest, namespace, parent)
+    }
+}
+
+/// Whether a source in the subtree of a namespace is overwritten once this has another parent, and isn't now.
+fn overwrites_below(
+    store: &Store,
+    forest: &Forest,
+    namespace: &Text,
+    parent: Option<&Text>,
+) -> Result<bool, NoMemory>
+    ensures { IfOk result (λ found. found ≡ list_any (λ m. overwrites_in store.now.objects m (open_moved forest.now.nodes namespace.now (option_copied parent.entry) m) (open_chain forest.now.nodes m)) (subtree_of forest.now.nodes namespace.now)) }
+{
+    if !is_calm(forest, namespace) || !is_open_above(forest, parent) {
+        return Ok(false);
+    }
+    let above = chain_from(store.allocator(), forest, parent)?;
+    let members = forest.below(namespace)?;
+    any_overwrites(store, forest, namespace, &above, &members)
+}
+
+fn any_overwrites(
+    store: &Store,
+    forest: &Forest,
+    namespace: &Text,
+    above: &[Text],
+    members: &[Text],
+) -> Result<bool, NoMemory>
+    ensures { IfOk result (λ found. found ≡ list_any (λ m. overwrites_in store.now.objects m (open_way forest.now.nodes namespace.now above.now m) (open_chain forest.now.nodes m)) members.now) }
+{
+    for member in members {
+        if overwrites_at(store, forest, namespace, above, member)? {
+            return Ok(true);
+        }
+    }
+    Ok(false)
+}
+
+/// Whether a source in a namespace of the subtree is overwritten then, and isn't now.
+fn overwrites_at(
+    store: &Store,
+    forest: &Forest,
+    namespace: &Text,
+    above: &[Text],
+    member: &Text,
+) -> Result<bool, NoMemory>
+    ensures { IfOk result (λ found. found ≡ overwrites_in store.now.objects member.now (open_way forest.now.nodes namespace.now above.now member.now) (open_chain forest.now.nodes member.now)) }
+{
+    any_kind(store, forest, namespace, above, member, &COPIED)
+}
+
+fn any_kind(
+    store: &Store,
+    forest: &Forest,
+    namespace: &Text,
+    above: &[Text],
+    member: &Text,
+    kinds: &[Kind],
+) -> Result<bool, NoMemory>
+    ensures { IfOk result (λ found. found ≡ list_any (overwrites_kind store.now.objects member.now (open_way forest.now.nodes namespace.now above.now member.now) (open_chain forest.now.nodes member.now)) kinds.now) }
+{
+    for kind in kinds {
+        if overwrites_kind(store, forest, namespace, above, member, *kind)? {
+            return Ok(true);
+        }
+    }
+    Ok(false)
+}
+
+/// Whether it is one of a kind. Chains are made only where there is an object of that kind.
+fn overwrites_kind(
+    store: &Store,
+    forest: &Forest,
+    namespace: &Text,
+    above: &[Text],
+    member: &Text,
+    kind: Kind,
+) -> Result<bool, NoMemory>
+    ensures { IfOk result (λ found. found ≡ overwrites_kind store.now.objects member.now (open_way forest.now.nodes namespace.now above.now member.now) (open_chain forest.now.nodes member.now) kind) }
+{
+    if !is_propagated(mode_at(store, kind)) {
+        return Ok(false);
+    }
+    let objects = store.list(kind, Some(member))?;
+    if objects.is_empty() {
+        return Ok(false);
+    }
+    let alloc = store.allocator();
+    let after = open_way(alloc, forest, namespace, above, member)?;
+    let before = open_chain(alloc, forest, member)?;
+    any_newly_met(store, member, &after, &before, &objects)
+}
+
+fn any_newly_met(
+    store: &Store,
+    name: &Text,
+    after: &[Text],
+    before: &[Text],
+    objects: &[Shared],
+) -> Result<bool, NoMemory>
+    ensures { IfOk result (λ found. found ≡ list_any (is_newly_met store.now.objects name.now after.now before.now) objects.now) }
+{
+    for object in objects {
+        if is_newly_met(store, name, after, before, object.object())? {
+            return Ok(true);
+        }
+    }
+    Ok(false)
+}
+
+/// Whether an object is a source over which one goes along the chain afterwards, and none before.
+fn is_newly_met(
+    store: &Store,
+    name: &Text,
+    after: &[Text],
+    before: &[Text],
+    object: &Object,
+) -> Result<bool, NoMemory>
+    ensures { IfOk result (λ newly. newly ≡ is_newly_met store.now.objects name.now after.now before.now object.now) }
+{
+    let id = &object.id;
+    if !is_source(object) || !is_met(store, name, after, id.kind, &id.name)? {
+        return Ok(false);
+    }
+    let is_met_before = is_met(store, name, before, id.kind, &id.name)?;
+    Ok(!is_met_before)
+}
+
+/// Whether a source of a kind and a name goes from a later member of a chain to the place of its first one.
+fn is_met(
+    store: &Store,
+    name: &Text,
+    chain: &[Text],
+    kind: Kind,
+    object: &Text,
+) -> Result<bool, NoMemory>
+    ensures { IfOk result (λ met. met ≡ is_met store.now.objects name.now chain.now kind object.now) }
+{
+    match chain.split_first() {
+        Some((_, above)) => any_gone_to(store, name, chain, kind, object, above),
+        None => Ok(false),
+    }
+}
+
+fn any_gone_to(
+    store: &Store,
+    name: &Text,
+    chain: &[Text],
+    kind: Kind,
+    object: &Text,
+    above: &[Text],
+) -> Result<bool, NoMemory>
+    ensures { IfOk result (λ gone. gone ≡ list_any (is_gone_to store.now.objects name.now chain.now kind object.now) above.now) }
+{
+    for ancestor in above {
+        if is_gone_to(store, name, chain, kind, object, ancestor)? {
+            return Ok(true);
+        }
+    }
+    Ok(false)
+}
+
+/// Whether the object of a kind and a name in a namespace goes to the labels that a chain prescribes.
+fn is_gone_to(
+    store: &Store,
+    name: &Text,
+    chain: &[Text],
+    kind: Kind,
+    object: &Text,
+    ancestor: &Text,
+) -> Result<bool, NoMemory>
+    ensures { IfOk result (λ gone. gone ≡ is_gone_to store.now.objects name.now chain.now kind object.now ancestor.now) }
+{
+    match store.find(kind, ancestor.as_str(), object.as_str()) {
+        Some(source) => goes_along(store, name, chain, mode_at(store, kind), source.object()),
+        None => Ok(false),
+    }
+}
+
+/// Whether a source goes to the labels that a chain prescribes. They are made only for one that looks at them.
+fn goes_along(
+    store: &Store,
+    name: &Text,
+    chain: &[Text],
+    mode: Mode,
+    source: &Object,
+) -> Result<bool, NoMemory>
+    ensures { IfOk result (λ goes. goes ≡ goes_to mode source.now (prescribed_labels chain.now (labels_in store.now.objects name.now))) }
+{
+    let alloc = store.allocator();
+    if looks_at_labels(source) {
+        return goes_to(alloc, mode, source, &labels_along(store, name, chain)?);
+    }
+    goes_to(alloc, mode, source, &Pairs::new(alloc))
+}
+
+/// The labels that a chain prescribes to a namespace.
+fn labels_along(store: &Store, name: &Text, chain: &[Text]) -> Result<Pairs, NoMemory>
+    ensures { IfOk result (λ labels. labels ≡ prescribed_labels chain.now (labels_in store.now.objects name.now)) }
+{
+    let alloc = store.allocator();
+    match store.find(Kind::Namespace, "", name.as_str()) {
+        Some(namespace) => prescribed_labels(alloc, chain, &namespace.object().labels),
+        None => prescribed_labels(alloc, chain, &Pairs::new(alloc)),
+    }
+}
+
+/// The mode of a kind, by the HNCConfiguration that is stored.
+fn mode_at(store: &Store, kind: Kind) -> Mode
+    ensures { result ≡ mode_at store.now.objects kind }
+{
+    let found = store.find(Kind::HncConfiguration, "", CONFIG);
+    mode_in(object_in(found), kind)
+}
+
+/// The chain of a namespace that takes part, and none of another.
+fn open_chain(alloc: Global, forest: &Forest, name: &Text) -> Result<Vec<Text>, NoMemory>
+    ensures { IfOk result (λ names. names.items ≡ open_chain forest.now.nodes name.now) }
+{
+    if is_open(forest, name) {
+        forest.chain(name)
+    } else {
+        Ok(Vec::new(alloc))
+    }
+}
+
+/// The chain of a namespace below another one, whose chain goes on with `above` then. None where one on the way there doesn't take part.
+fn open_way(
+    alloc: Global,
+    forest: &Forest,
+    namespace: &Text,
+    above: &[Text],
+    member: &Text,
+) -> Result<Vec<Text>, NoMemory>
+    ensures { IfOk result (λ names. names.items ≡ open_way forest.now.nodes namespace.now above.now member.now) }
+{
+    let mut names = Vec::new(alloc);
+    let chain = forest.chain(member)?;
+    if are_calm_up_to(forest, namespace, &chain) {
+        push_up_to(&mut names, namespace, &chain)?;
+        names.push(namespace.clone()?)?;
+        push_names(&mut names, above)?;
+    }
+    Ok(names)
+}
+
+/// Whether all names before that of a namespace are of calm ones.
+fn are_calm_up_to(forest: &Forest, namespace: &Text, names: &[Text]) -> bool
+    ensures { result ≡ list_all (is_calm forest.now.nodes) (up_to namespace.now names.now) }
+{
+    for name in names {
+        if namespace.as_str() == name.as_str() {
+            return true;
+        }
+        if !is_calm(forest, name) {
+            return false;
+        }
+    }
+    true
+}
+
+/// Adds the names before that of a namespace.
+fn push_up_to(list: &mut Vec<Text>, namespace: &Text, names: &[Text]) -> Result<(), NoMemory>
+    ensures { OnOk result (list.new.items ≡ list.old.items ++ up_to namespace.now names.now) }
+{
+    for name in names {
+        if namespace.as_str() == name.as_str() {
+            return Ok(());
+        }
+        list.push(name.clone()?)?;
+    }
+    Ok(())
+}
+
+fn push_names(list: &mut Vec<Text>, names: &[Text]) -> Result<(), NoMemory>
+    ensures { OnOk result (list.new.items ≡ list.old.items ++ names.now) }
+{
+    for name in names {
+        list.push(name.clone()?)?;
+    }
+    Ok(())
+}
+
+/// The chain of a parent, and none where there is no parent.
+fn chain_from(alloc: Global, forest: &Forest, parent: Option<&Text>) -> Result<Vec<Text>, NoMemory>
+    ensures { IfOk result (λ names. names.items ≡ chain_from forest.now.nodes (option_copied parent.entry)) }
+{
+    match parent {
+        Some(parent) => forest.chain(parent),
+        None => Ok(Vec::new(alloc)),
+    }
+}
+
+fn is_open_above(forest: &Forest, parent: Option<&Text>) -> bool
+    ensures { result ≡ is_open_above forest.now.nodes (option_copied parent.entry) }
+{
+    match parent {
+        Some(parent) => is_open(forest, parent),
+        None => true,
+    }
+}
+
+/// Whether a namespace is there and not on its way out, and isn't excluded.
+fn is_calm(forest: &Forest, name: &Text) -> bool
+    ensures { result ≡ is_calm forest.now.nodes name.now }
+{
+    match forest.node(name) {
+        Some(node) => !node.terminating && !node.excluded,
+        None => false,
+    }
+}
