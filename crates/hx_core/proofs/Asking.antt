@@ -37,7 +37,7 @@ shown_entry ask (Some x) fresh id = refl
 
 success_entry : (s t : State) (ask : Ask) → request_entry ask (success s t ask) ≡ Request ask (success s t ask)
 success_entry s t (Get id) = shown_entry (Get id) (object_at s.objects id) false id
-success_entry s t (ListOf kind ns) = refl
+success_entry s t (ListOf kind ns selector) = refl
 success_entry s t (Create x skip) = shown_entry (Create x skip) (object_at t.objects x.id) true x.id
 success_entry s t (Replace x expected skip) = shown_entry (Replace x expected skip) (object_at t.objects x.id) false x.id
 success_entry s t (Delete id skip) = refl

@@ -52,7 +52,7 @@ own_rule ask (Some c) = own_denied ask c.id (first (rules c))
 
 own_place : (s : State) (ask : Ask) → IsOwn ask (place_refusal s ask)
 own_place s (Get id) = own_so (Get id) (is_none (object_at s.objects id)) (not_found id) refl
-own_place s (ListOf kind ns) = own_none (ListOf kind ns)
+own_place s (ListOf kind ns selector) = own_none (ListOf kind ns selector)
 own_place s (Create x skip) = own_else (Create x skip) _ _ (own_so (Create x skip) (lacks_namespace s x.id) _ refl) (own_else (Create x skip) _ _ (own_so (Create x skip) (is_some (object_at s.objects x.id)) (already_there x.id) refl) (own_none (Create x skip)))
 own_place s (Replace x expected skip) = own_so (Replace x expected skip) (is_none (object_at s.objects x.id)) (not_found x.id) refl
 own_place s (Delete id skip) = own_so (Delete id skip) (is_none (object_at s.objects id)) (not_found id) refl
@@ -65,7 +65,7 @@ own_version s (Replace x expected skip) = by expected (object_at s.objects x.id)
     by (Some wanted) None = own_none (Replace x expected skip)
     by None found = own_none (Replace x expected skip)
 own_version s (Get id) = own_none (Get id)
-own_version s (ListOf kind ns) = own_none (ListOf kind ns)
+own_version s (ListOf kind ns selector) = own_none (ListOf kind ns selector)
 own_version s (Create x skip) = own_none (Create x skip)
 own_version s (Delete id skip) = own_none (Delete id skip)
 

@@ -108,16 +108,18 @@ impl<K: Keeper> Cluster<K> {
 
     /// Ends the cluster, and gives its keeper back.
     pub fn close(self) -> K
-        ensures { K.shown result ≡ self.keeper }
+        ensures keeper { K.shown result ≡ self.keeper }
+        ensures valid { IsValid self.state }
     {
         let Cluster { keeper, state } = self;
         drop(state);
         keeper
     }
 
-    /// A theorem, not to be called for what it does: there is a world that the cluster stands for.
+    /// A theorem, not to be called for what it does: there is a world that the cluster stands for, and its state is valid.
     pub fn law_of_worlds(&self)
-        ensures { HasWorld self.now }
+        ensures world { HasWorld self.now }
+        ensures valid { IsValid self.now.state }
     {
         let _ = &self.keeper;
     }
