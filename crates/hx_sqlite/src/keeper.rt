@@ -57,6 +57,13 @@ impl SqlKeeper {
         self.last_fault
     }
 
+    /// Closes the database, and says why the last call failed that did.
+    pub fn close(self) -> Option<SqlFault>
+        ensures { result ≡ why_failed self }
+    {
+        self.last_fault
+    }
+
     /// Counts a fault, and keeps why it came. Want of memory isn't counted.
     fn answer<T: Drop>(&mut self, outcome: Result<T, Refusal>) -> Result<T, KeepFault>
         ensures ok { IfOk result (λ value. outcome ≡ Ok value) }
