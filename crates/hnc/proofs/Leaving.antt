@@ -71,17 +71,18 @@ tells_on (Some held) new (Some kept) same tells = refl
 -- a history with what it leaves in a keeper
 record Stands (first : State) (entries : History) (broken : Bool) (keeper : KeeperView) : Type 0 where
   history : IsHistory (opening_world broken first) entries
+  ends : IsValid (replay (opening_world broken first) entries).state
   stored : IfSome keeper.kept (IsKeptOf (replay (opening_world broken first) entries))
   breaks : (replay (opening_world broken first) entries).broken ≡ keeper.broken
 
 -- a run of a cluster that was started
 leaves : (words : RunWords) (script : List ℕ) (rest : List Line) (lacking : List ℕ) (sink sink' : SinkView) (keeper keeper' : KeeperView) (a b : ClusterView)
-    → Starts words keeper a → keeper' ≡ b.keeper → Ran (script_lines script) rest lacking a b sink.written sink'.written → Leaves words script rest lacking sink sink' keeper keeper'
-leaves words script rest lacking sink sink' keeper keeper' a b starts is ran =
+    → Starts words keeper a → IsValid b.state → keeper' ≡ b.keeper → Ran (script_lines script) rest lacking a b sink.written sink'.written → Leaves words script rest lacking sink sink' keeper keeper'
+leaves words script rest lacking sink sink' keeper keeper' a b starts valid is ran =
     let entries = entries_of ran.exchanges in
     let run = ran.simulates (opening_world a.keeper.broken a.state, starts.opens) in
     let steps = run.steps (opening_world a.keeper.broken a.state) starts.opens in
-    let here : Stands a.state entries a.keeper.broken b.keeper = record { history = steps.0; stored = steps.1.kept; breaks = steps.1.broken } in
+    let here : Stands a.state entries a.keeper.broken b.keeper = record { history = steps.0; ends = subst IsValid (sym steps.1.state) valid; stored = steps.1.kept; breaks = steps.1.broken } in
     let there : Stands a.state entries keeper.broken keeper' = subst (Stands a.state entries keeper.broken) (sym is) (subst (λ broken. Stands a.state entries broken b.keeper) starts.whole here) in
     record {
       exchanges = ran.exchanges;
@@ -94,6 +95,7 @@ leaves words script rest lacking sink sink' keeper keeper' a b starts is ran =
       configured = starts.configured;
       opens = told_before keeper.kept a.keeper.kept (λ held. held ≡ kept_of a.state) starts.same starts.holds;
       history = there.history;
+      ends = there.ends;
       says = ran.says;
       lacks = ran.lacks;
       wrote = ran.wrote;
@@ -111,28 +113,28 @@ of_run words run source P is p =
     let Q : Option RunWords → Type 0 = λ o. IsSomeAnd o (λ asked. OfScript source.left (P asked)) in
     subst Q (sym is) p
 
-pub of_run-whole : (words : Option RunWords) (run : RunWords) (source : SourceView) (sink sink' : SinkView) (keeper keeper' : KeeperView) (a b : ClusterView) → words ≡ Some run → Starts run keeper a → keeper' ≡ b.keeper
+pub of_run-whole : (words : Option RunWords) (run : RunWords) (source : SourceView) (sink sink' : SinkView) (keeper keeper' : KeeperView) (a b : ClusterView) → words ≡ Some run → Starts run keeper a → IsValid b.state → keeper' ≡ b.keeper
     → OfScript source.left (λ script. (length script ≤ most_bytes) × Does (script_lines script) a b sink.written sink'.written) → OfRun words source (λ run script. LeavesWhole run script sink sink' keeper keeper')
-of_run-whole words run source sink sink' keeper keeper' a b is starts ends (script, told, (few, does)) =
+of_run-whole words run source sink sink' keeper keeper' a b is starts valid ends (script, told, (few, does)) =
     of_run words run source (λ run script. LeavesWhole run script sink sink' keeper keeper') is
-    (script, told, record { few = few; leaves = leaves run script [] [] sink sink' keeper keeper' a b starts ends does })
+    (script, told, record { few = few; leaves = leaves run script [] [] sink sink' keeper keeper' a b starts valid ends does })
 
-front : (run : RunWords) (script : List ℕ) (sink sink' : SinkView) (keeper keeper' : KeeperView) (a b : ClusterView) → Starts run keeper a → keeper' ≡ b.keeper
+front : (run : RunWords) (script : List ℕ) (sink sink' : SinkView) (keeper keeper' : KeeperView) (a b : ClusterView) → Starts run keeper a → IsValid b.state → keeper' ≡ b.keeper
     → Cuts (script_lines script) a b sink.written sink'.written → LeavesFront run script sink sink' keeper keeper'
-front run script sink sink' keeper keeper' a b starts ends cuts =
-    record { rest = cuts.rest; lacking = cuts.lacking; leaves = leaves run script cuts.rest cuts.lacking sink sink' keeper keeper' a b starts ends cuts.ran }
+front run script sink sink' keeper keeper' a b starts valid ends cuts =
+    record { rest = cuts.rest; lacking = cuts.lacking; leaves = leaves run script cuts.rest cuts.lacking sink sink' keeper keeper' a b starts valid ends cuts.ran }
 
-pub of_run-front : (words : Option RunWords) (run : RunWords) (source : SourceView) (sink sink' : SinkView) (keeper keeper' : KeeperView) (a b : ClusterView) → words ≡ Some run → Starts run keeper a → keeper' ≡ b.keeper
+pub of_run-front : (words : Option RunWords) (run : RunWords) (source : SourceView) (sink sink' : SinkView) (keeper keeper' : KeeperView) (a b : ClusterView) → words ≡ Some run → Starts run keeper a → IsValid b.state → keeper' ≡ b.keeper
     → OfScript source.left (λ script. Cuts (script_lines script) a b sink.written sink'.written) → OfRun words source (λ run script. LeavesFront run script sink sink' keeper keeper')
-of_run-front words run source sink sink' keeper keeper' a b is starts ends (script, told, cuts) =
+of_run-front words run source sink sink' keeper keeper' a b is starts valid ends (script, told, cuts) =
     of_run words run source (λ run script. LeavesFront run script sink sink' keeper keeper') is
-    (script, told, front run script sink sink' keeper keeper' a b starts ends cuts)
+    (script, told, front run script sink sink' keeper keeper' a b starts valid ends cuts)
 
-pub of_run-long : (words : Option RunWords) (run : RunWords) (source : SourceView) (sink sink' : SinkView) (keeper keeper' : KeeperView) (a b : ClusterView) → words ≡ Some run → Starts run keeper a → keeper' ≡ b.keeper
+pub of_run-long : (words : Option RunWords) (run : RunWords) (source : SourceView) (sink sink' : SinkView) (keeper keeper' : KeeperView) (a b : ClusterView) → words ≡ Some run → Starts run keeper a → IsValid b.state → keeper' ≡ b.keeper
     → OfScript source.left (λ script. (most_bytes < length script) × Cuts (script_lines script) a b sink.written sink'.written) → OfRun words source (λ run script. (most_bytes < length script) × LeavesFront run script sink sink' keeper keeper')
-of_run-long words run source sink sink' keeper keeper' a b is starts ends (script, told, (long, cuts)) =
+of_run-long words run source sink sink' keeper keeper' a b is starts valid ends (script, told, (long, cuts)) =
     of_run words run source (λ run script. (most_bytes < length script) × LeavesFront run script sink sink' keeper keeper') is
-    (script, told, (long, front run script sink sink' keeper keeper' a b starts ends cuts))
+    (script, told, (long, front run script sink sink' keeper keeper' a b starts valid ends cuts))
 
 -- where nothing failed and the rows are undamaged, a start ends for want of memory alone
 pub wants_memory : (status : Status) (fault : StartFault) (old attached : KeeperView) (faults : ℕ) → (status ≡ ending.KeeperFault) ⊎ ((status ≡ ending.Damaged) ⊎ (status ≡ ending.NoMemory)) → (status ≡ ending.KeeperFault → fault ≡ start.KeeperFault)

@@ -23,7 +23,7 @@ use Rattle.hx_script.specs.Lines.{Line, script_lines}
 use Rattle.hx_script.specs.Running.{LacksLast, OfScript, most_bytes}
 use Rattle.hx_script.specs.Exchanges.{Exchange, IsExchange, lines_of, entries_of, answer_lines}
 
--- There is a first state, which is valid and under the configuration of the words: the one whose rows the keeper had, where it told them. There is one history of the machine from it. Its entries are those of the script's lines in order, each once, up to the rest.
+-- There is a first state, which is valid and under the configuration of the words: the one whose rows the keeper had, where it told them. There is one history of the machine from it, to a valid state. Its entries are those of the script's lines in order, each once, up to the rest.
 -- What is written are their answers, but for what is lacking of the last one. What the keeper holds is what the history leaves, and it is broken where the history says so; its count rose where a loss to a fault stands in the history, and stayed where none does.
 -- The keeper was undamaged. It is at the path of the words now, and it tells what it holds if it told before.
 pub record Leaves (run : RunWords) (script : List ℕ) (rest : List Line) (lacking : List ℕ) (sink sink' : SinkView) (keeper keeper' : KeeperView) : Type 0 where
@@ -37,6 +37,7 @@ pub record Leaves (run : RunWords) (script : List ℕ) (rest : List Line) (lacki
   pub configured : first.config ≡ run.config
   pub opens : IfSome keeper.kept (λ held. held ≡ kept_of first)
   pub history : IsHistory (opening_world keeper.broken first) (entries_of exchanges)
+  pub ends : IsValid (replay (opening_world keeper.broken first) (entries_of exchanges)).state
   pub says : answer_lines exchanges ≡ text ++ lacking
   pub lacks : LacksLast exchanges lacking
   pub wrote : Appends sink.written sink'.written text

@@ -5,7 +5,7 @@
 mod tests;
 mod top;
 
-use crate::top::{Status, top};
+use crate::top::{Ended, Status, top};
 use hx_ports::{StdSink, StdSource};
 use hx_sqlite::{SqlFault, SqlKeeper};
 use hx_words::{WordsFault, first_untaken, read_words};
@@ -43,11 +43,15 @@ fn run(rt: &HostRuntime, words: &[String], keys: RandomState) -> Outcome {
     let mut source = StdSource::new(rt.stdin());
     let mut sink = StdSink::new(rt.stdout());
     let keeper = SqlKeeper::new(rt);
-    let ended = top(rt.alloc(), words, &mut source, &mut sink, keeper, keys);
+    let Ended {
+        status,
+        damaged_row,
+        keeper,
+    } = top(rt.alloc(), words, &mut source, &mut sink, keeper, keys);
     Outcome {
-        status: ended.status,
-        damaged_row: ended.damaged_row,
-        database_fault: ended.keeper.last_fault(),
+        status,
+        damaged_row,
+        database_fault: keeper.close(),
         read_fault: source.last_fault(),
         write_fault: sink.last_fault(),
     }

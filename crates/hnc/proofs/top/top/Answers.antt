@@ -20,19 +20,19 @@ returns-in-Err-start-clause-complete g c = λ _ _ _ calm sound.
 pub returns-clause-done : goal.returns-clause-done
 returns-clause-done g c = λ e.
     of_run-whole _ c.in-Ok.run' (g.S.Source.shown c.args.source.now) (g.W.Sink.shown c.args.sink.now) (g.W.Sink.shown c.run_script-end.new.sink) (g.K.Keeper.shown c.args.keeper) (g.K.Keeper.shown c.end_with-in-Ok-start.result.keeper) c.in-Ok-start.cluster c.run_script-end.new.cluster
-    c.in-Ok.ensures.words (started g c) (ap g.K.Keeper.shown c.end_with-in-Ok-start.ensures.1 ∙ c.close.ensures) (c.run_script-end.ensures.done (c.status_of_end.ensures.done (sym c.end_with-in-Ok-start.ensures.0 ∙ e)))
+    c.in-Ok.ensures.words (started g c) c.close.ensures.valid (ap g.K.Keeper.shown c.end_with-in-Ok-start.ensures.1 ∙ c.close.ensures.keeper) (c.run_script-end.ensures.done (c.status_of_end.ensures.done (sym c.end_with-in-Ok-start.ensures.0 ∙ e)))
 
 pub returns-clause-cut : goal.returns-clause-cut
 returns-clause-cut g c = λ e.
     of_run-front _ c.in-Ok.run' (g.S.Source.shown c.args.source.now) (g.W.Sink.shown c.args.sink.now) (g.W.Sink.shown c.run_script-end.new.sink) (g.K.Keeper.shown c.args.keeper) (g.K.Keeper.shown c.end_with-in-Ok-start.result.keeper) c.in-Ok-start.cluster c.run_script-end.new.cluster
-    c.in-Ok.ensures.words (started g c) (ap g.K.Keeper.shown c.end_with-in-Ok-start.ensures.1 ∙ c.close.ensures) (c.run_script-end.ensures.cut (c.status_of_end.ensures.cut (ap is_cut_short (sym c.end_with-in-Ok-start.ensures.0) ∙ e)))
+    c.in-Ok.ensures.words (started g c) c.close.ensures.valid (ap g.K.Keeper.shown c.end_with-in-Ok-start.ensures.1 ∙ c.close.ensures.keeper) (c.run_script-end.ensures.cut (c.status_of_end.ensures.cut (ap is_cut_short (sym c.end_with-in-Ok-start.ensures.0) ∙ e)))
 
 pub returns-clause-memory : goal.returns-clause-memory
 returns-clause-memory g c = λ e.
     inr (of_run-front _ c.in-Ok.run' (g.S.Source.shown c.args.source.now) (g.W.Sink.shown c.args.sink.now) (g.W.Sink.shown c.run_script-end.new.sink) (g.K.Keeper.shown c.args.keeper) (g.K.Keeper.shown c.end_with-in-Ok-start.result.keeper) c.in-Ok-start.cluster c.run_script-end.new.cluster
-    c.in-Ok.ensures.words (started g c) (ap g.K.Keeper.shown c.end_with-in-Ok-start.ensures.1 ∙ c.close.ensures) (c.run_script-end.ensures.cut (not_done _ (c.status_of_end.ensures.memory (sym c.end_with-in-Ok-start.ensures.0 ∙ e)))))
+    c.in-Ok.ensures.words (started g c) c.close.ensures.valid (ap g.K.Keeper.shown c.end_with-in-Ok-start.ensures.1 ∙ c.close.ensures.keeper) (c.run_script-end.ensures.cut (not_done _ (c.status_of_end.ensures.memory (sym c.end_with-in-Ok-start.ensures.0 ∙ e)))))
 
 pub returns-clause-too_long : goal.returns-clause-too_long
 returns-clause-too_long g c = λ e.
     of_run-long _ c.in-Ok.run' (g.S.Source.shown c.args.source.now) (g.W.Sink.shown c.args.sink.now) (g.W.Sink.shown c.run_script-end.new.sink) (g.K.Keeper.shown c.args.keeper) (g.K.Keeper.shown c.end_with-in-Ok-start.result.keeper) c.in-Ok-start.cluster c.run_script-end.new.cluster
-    c.in-Ok.ensures.words (started g c) (ap g.K.Keeper.shown c.end_with-in-Ok-start.ensures.1 ∙ c.close.ensures) (c.run_script-end.ensures.too_long (c.status_of_end.ensures.too_long (sym c.end_with-in-Ok-start.ensures.0 ∙ e)))
+    c.in-Ok.ensures.words (started g c) c.close.ensures.valid (ap g.K.Keeper.shown c.end_with-in-Ok-start.ensures.1 ∙ c.close.ensures.keeper) (c.run_script-end.ensures.too_long (c.status_of_end.ensures.too_long (sym c.end_with-in-Ok-start.ensures.0 ∙ e)))
