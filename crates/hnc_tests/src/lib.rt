@@ -10,6 +10,8 @@ mod forests;
 #[cfg(test)]
 mod graphs;
 #[cfg(test)]
+mod plans;
+#[cfg(test)]
 mod ports;
 #[cfg(test)]
 mod readings;
@@ -17,6 +19,8 @@ mod readings;
 mod requests;
 #[cfg(test)]
 mod scripts;
+#[cfg(test)]
+mod selectors;
 #[cfg(test)]
 mod stores;
 #[cfg(test)]

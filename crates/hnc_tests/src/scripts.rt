@@ -95,7 +95,11 @@ fn add_creates(
     Ok(())
 }
 
-/// The codes of the answers to requests that create so many namespaces, and then so many ConfigMaps in the first one.
+/// A request that would make a copy, which doesn't count.
+const COPY: &str =
+    "POST /api/v1/namespaces/n0/configmaps {\"apiVersion\":\"v1\",\"kind\":\"ConfigMap\",\"metadata\":{\"labels\":{\"hnc.x-k8s.io/inherited-from\":\"n1\"},\"name\":\"copy\"}}";
+
+/// The codes of the answers to requests that create so many namespaces, then so many ConfigMaps in the first one, and then a copy.
 fn codes_of_creates(
     alloc: Global,
     keys: RandomState,
@@ -110,6 +114,7 @@ fn codes_of_creates(
         "/api/v1/namespaces/n0/configmaps",
         "ConfigMap",
     )?;
+    script.push_str(COPY)?;
     let (_, sink) = answers(alloc, keys, script.as_str().as_bytes(), 16_777_216)?;
     codes_of(alloc, sink.bytes())
 }
@@ -117,11 +122,11 @@ fn codes_of_creates(
 #[test]
 fn limits_at_the_edge(rt: HostRuntime) -> Result<(), Fail> {
     let keys = RandomState::new(&rt)?;
-    // the namespaces and the ConfigMaps that are created, and the codes of the last two answers
+    // the namespaces and the ConfigMaps that are created, and the codes of the last answers. No limit is escaped by the label of a copy, since no request may give it
     for (namespaces, maps, last) in [
-        (4_096, 1, "201 201 "),
-        (4_097, 0, "201 507 "),
-        (1, 65_537, "201 507 "),
+        (4_096, 1, "201 201 403 "),
+        (4_097, 0, "201 507 403 "),
+        (1, 65_537, "201 507 403 "),
     ] {
         let codes = codes_of_creates(rt.alloc(), keys, namespaces, maps)?;
         assert!(rt;

@@ -38,7 +38,7 @@ fn id(alloc: Global, number: usize) -> Result<Id, NoMemory> {
     })
 }
 
-fn object(alloc: Global, id: Id, version: u64) -> Result<Object, NoMemory> {
+pub(crate) fn object(alloc: Global, id: Id, version: u64) -> Result<Object, NoMemory> {
     Ok(Object {
         id,
         labels: Pairs::new(alloc),
@@ -179,6 +179,115 @@ fn a_store_answers_as_a_list(rt: HostRuntime) -> Result<(), Fail> {
             store.apply(version);
         }
         assert!(rt; are_alike(&store, objects.as_slice())?, "version {version}");
+    }
+    Ok(())
+}
+
+// ---- sources
+
+/// What a step writes.
+#[derive(Clone, Copy, PartialEq, Eq)]
+enum Written {
+    Source,
+    Copy,
+    Nothing,
+}
+
+/// A write that is made or given up, and the namespaces that then hold a source of the role `x`.
+struct Step {
+    kind: Kind,
+    ns: &'static str,
+    name: &'static str,
+    written: Written,
+    is_made: bool,
+    holders: &'static str,
+}
+
+/// A step for each line.
+macro_rules! steps {
+    ($($kind:ident $ns:literal $name:literal $written:ident $is_made:literal => $holders:literal;)*) => {
+        [$(Step {
+            kind: Kind::$kind,
+            ns: $ns,
+            name: $name,
+            written: Written::$written,
+            is_made: $is_made,
+            holders: $holders,
+        }),*]
+    };
+}
+
+const STEPS: [Step; 9] = steps!(
+    Role "c" "x" Source true => "c ";
+    Role "a" "x" Source true => "a c ";
+    Role "b" "x" Copy true => "a c ";
+    Role "d" "y" Source true => "a c ";
+    Secret "e" "x" Source true => "a c ";
+    Role "f" "x" Source false => "a c ";
+    Role "c" "x" Nothing true => "a ";
+    Role "a" "x" Copy true => "";
+    Role "b" "x" Source true => "b ";
+);
+
+/// The labels of a source or a copy.
+fn labels(alloc: Global, is_copy: bool) -> Result<Pairs, NoMemory> {
+    if !is_copy {
+        return Ok(Pairs::new(alloc));
+    }
+    let key = Text::of(alloc, "hnc.x-k8s.io/inherited-from")?;
+    let from = Text::of(alloc, "root")?;
+    Ok(Pairs::of(Vec::from_array(alloc, [(key, from)])?))
+}
+
+fn write_of(alloc: Global, step: &Step) -> Result<Change, NoMemory> {
+    let id = Id {
+        kind: step.kind,
+        ns: Text::of(alloc, step.ns)?,
+        name: Text::of(alloc, step.name)?,
+    };
+    if step.written == Written::Nothing {
+        return Ok(Change::cut(id));
+    }
+    let mut object = object(alloc, id, 1)?;
+    object.labels = labels(alloc, step.written == Written::Copy)?;
+    Change::put(Shared::new(alloc, object)?)
+}
+
+/// The namespaces that hold a source of the role `x`, with a blank behind each.
+fn holders(store: &Store) -> Result<String, NoMemory> {
+    let mut holders = String::new(store.allocator());
+    for source in store.sources(Kind::Role, "x")?.iter() {
+        holders.push_str(source.object().id.ns.as_str())?;
+        holders.push_str(" ")?;
+    }
+    Ok(holders)
+}
+
+/// Whether the store tells the holders of a step once it is done.
+fn tells_holders(store: &mut Store, step: &Step) -> Result<bool, NoMemory> {
+    let alloc = store.allocator();
+    let mut changes = Vec::new(alloc);
+    changes.push(write_of(alloc, step)?)?;
+    store.stage(changes)?;
+    if step.is_made {
+        store.apply(1);
+    } else {
+        store.discard();
+    }
+    Ok(holders(store)?.as_str() == step.holders)
+}
+
+#[test]
+fn sources_are_told_by_kind_and_name(rt: HostRuntime) -> Result<(), Fail> {
+    let mut store = Store::new(rt.alloc(), 0, RandomState::new(&rt)?);
+    for step in STEPS.iter() {
+        assert!(rt;
+            tells_holders(&mut store, step)?,
+            "{} {} {}",
+            step.ns,
+            step.name,
+            step.holders
+        );
     }
     Ok(())
 }

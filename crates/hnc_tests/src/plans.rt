@@ -1,0 +1,99 @@
+// A plan of each kind of key that has facts, made with ample memory from a brief made by hand.
+use crate::stores::object;
+use hx_model::{Key, Write};
+use hx_object::{Id, Kind, List, Mode, NoMemory, Object, Pairs, Payload, Shared, Text};
+use hx_rules::{Brief, Facts, Plan, plan};
+use std::alloc::Global;
+use std::test::Fail;
+
+fn namespace(alloc: Global, name: &str) -> Result<Shared, NoMemory> {
+    Shared::new(
+        alloc,
+        Object {
+            id: Id {
+                kind: Kind::Namespace,
+                ns: Text::of(alloc, "")?,
+                name: Text::of(alloc, name)?,
+            },
+            labels: Pairs::new(alloc),
+            annotations: Pairs::new(alloc),
+            payload: Payload::Namespace { terminating: false },
+            version: 2,
+        },
+    )
+}
+
+fn role(alloc: Global, ns: &str) -> Result<Shared, NoMemory> {
+    let id = Id {
+        kind: Kind::Role,
+        ns: Text::of(alloc, ns)?,
+        name: Text::of(alloc, "r")?,
+    };
+    Shared::new(alloc, object(alloc, id, 1)?)
+}
+
+/// The brief of Role r in app, which lies under team and acme: each has one.
+fn brief_of_copy(alloc: Global) -> Result<Brief, NoMemory> {
+    let sources = Vec::from_array(alloc, [role(alloc, "acme")?, role(alloc, "team")?])?;
+    Ok(Brief {
+        key: Key::Copy {
+            ns: Text::of(alloc, "app")?,
+            kind: Kind::Role,
+            name: Text::of(alloc, "r")?,
+        },
+        seen: 3,
+        guards: List::of(Vec::new(alloc)),
+        facts: Facts::Copy {
+            ns: Some(namespace(alloc, "app")?),
+            is_open: true,
+            place: None,
+            mode: Mode::Propagate,
+            sources: List::of(sources),
+        },
+    })
+}
+
+/// The brief of the tree labels of app.
+fn brief_of_tree(alloc: Global) -> Result<Brief, NoMemory> {
+    let chain = Vec::from_array(alloc, [Text::of(alloc, "app")?, Text::of(alloc, "acme")?])?;
+    Ok(Brief {
+        key: Key::Tree {
+            ns: Text::of(alloc, "app")?,
+        },
+        seen: 3,
+        guards: List::of(Vec::new(alloc)),
+        facts: Facts::Tree {
+            ns: Some(namespace(alloc, "app")?),
+            is_open: true,
+            chain: List::of(chain),
+        },
+    })
+}
+
+/// Whether a plan puts an object with this label.
+fn puts(planned: &Result<Plan, Brief>, key: &str, value: &str) -> bool {
+    let Ok(plan) = planned else {
+        return false;
+    };
+    match plan.write() {
+        Some(Write::Put(object)) => object.labels.get(key).map(Text::as_str) == Some(value),
+        _ => false,
+    }
+}
+
+fn puts_copy(alloc: Global) -> Result<bool, NoMemory> {
+    let planned = plan(alloc, brief_of_copy(alloc)?);
+    Ok(puts(&planned, "hnc.x-k8s.io/inherited-from", "acme"))
+}
+
+fn puts_tree_labels(alloc: Global) -> Result<bool, NoMemory> {
+    let planned = plan(alloc, brief_of_tree(alloc)?);
+    Ok(puts(&planned, "acme.tree.hnc.x-k8s.io/depth", "1"))
+}
+
+#[test]
+fn plans(rt: HostRuntime) -> Result<(), Fail> {
+    assert!(rt; puts_copy(rt.alloc())?);
+    assert!(rt; puts_tree_labels(rt.alloc())?);
+    Ok(())
+}
