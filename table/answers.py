@@ -140,12 +140,20 @@ def has_version(resource, name, version):
 # What a refusal says of a rule of admission.
 RULES = {
     "H7": "the name must be hierarchy",
+    "C1": "the name must be config",
+    "O1": "propagated copies cannot be made or changed",
     "N3": "the subnamespace annotation cannot be changed",
     "H1": "the new parent does not exist",
     "H2": "the new parent is in the subtree of the namespace",
     "H4": "the tree is halted",
     "H6": "the namespace is excluded",
     "H8": "the tree would be deeper than 64",
+    "C2": "the resource is unknown",
+    "C3": "the resource is named twice",
+    "C4": "the mode of this resource is fixed",
+    "C6": "the resource cannot be propagated",
+    "H5": "a source would be overwritten", "C5": "a source would be overwritten", "O2": "a source would overwrite or be overwritten",
+    "O3": "the exception is not valid",
 }
 
 
@@ -299,8 +307,8 @@ def configurations(t):
     t.part("worked examples: configurations of the cluster")
     resource = "hncconfigurations.hnc.x-k8s.io"
     t.lists(get(CONFIGS), "HNCConfiguration", [])
-    said = thing("HNCConfiguration", "config", spec={"resources": [{"resource": "secrets", "mode": "Remove"}, {"group": "apps", "resource": "deployments"}]})
-    kept = thing("HNCConfiguration", "config", spec={"resources": [{"group": "", "mode": "Remove", "resource": "secrets"}, {"group": "apps", "mode": "Propagate", "resource": "deployments"}]})
+    said = thing("HNCConfiguration", "config", spec={"resources": [{"resource": "secrets", "mode": "Remove"}, {"group": "networking.k8s.io", "resource": "networkpolicies"}]})
+    kept = thing("HNCConfiguration", "config", spec={"resources": [{"group": "", "mode": "Remove", "resource": "secrets"}, {"group": "networking.k8s.io", "mode": "Propagate", "resource": "networkpolicies"}]})
     stored = t.creates(post(CONFIGS, said), kept)
     t.refuses(post(CONFIGS, said), exists(resource, "config"))
     t.shows(get(f"{CONFIGS}/config"), stored)
@@ -441,7 +449,7 @@ def users_members(t):
         (thing("HierarchyConfiguration", "hierarchy", spec={"parent": "beta", "x": 1}, status={"children": ["beta"], "conditions": []}, data=1), thing("HierarchyConfiguration", "hierarchy", "acme", spec={"parent": "beta"})),
     ])
     t.tries(CONFIGS, [
-        (thing("HNCConfiguration", "c", spec={"resources": [{"resource": "pods", "x": 1}], "types": []}, status={}, data=1), thing("HNCConfiguration", "c", spec={"resources": [{"group": "", "mode": "Propagate", "resource": "pods"}]})),
+        (thing("HNCConfiguration", "config", spec={"resources": [{"resource": "limitranges", "x": 1}], "types": []}, status={}, data=1), thing("HNCConfiguration", "config", spec={"resources": [{"group": "", "mode": "Propagate", "resource": "limitranges"}]})),
     ])
     both = thing("ConfigMap", "both", labels={"b": "2", "a": "1"}, annotations={"z": "", "a": "\n\u0001\"\\é😀"})
     t.tries(CONFIGMAPS, [(both, configmap("both", labels={"a": "1", "b": "2"}, annotations={"a": "\n\u0001\"\\é😀", "z": ""}))])
@@ -675,13 +683,13 @@ def bodies(t):
     t.tries(CONFIGMAPS, HEAD_FAULTS)
 
 
-def config(resources, name="c"):
+def config(resources, name="config"):
     return f'{{"apiVersion":"hnc.x-k8s.io/v1alpha2","kind":"HNCConfiguration","metadata":{{"name":"{name}"}},"spec":{resources}}}'
 
 
 def config_kept(*entries):
     """A configuration of groups, modes and resources."""
-    return thing("HNCConfiguration", "c", spec={"resources": [{"group": group, "mode": mode, "resource": resource} for group, mode, resource in entries]})
+    return thing("HNCConfiguration", "config", spec={"resources": [{"group": group, "mode": mode, "resource": resource} for group, mode, resource in entries]})
 
 
 RESOURCES = wrong_type("spec.resources")
@@ -691,10 +699,10 @@ NO_RESOURCE = missing("spec.resources.resource")
 MODE = wrong_type("spec.resources.mode")
 
 CONFIG_FAULTS = [
-    ('{"apiVersion":"v1","kind":"HNCConfiguration","metadata":{"name":"c"}}', not_kind("HNCConfiguration")),
-    ('{"apiVersion":"hnc.x-k8s.io/v1alpha1","kind":"HNCConfiguration","metadata":{"name":"c"}}', not_kind("HNCConfiguration")),
-    ('{"apiVersion":"hnc.x-k8s.io/v1alpha2","kind":"HncConfiguration","metadata":{"name":"c"}}', not_kind("HNCConfiguration")),
-    ('{"apiVersion":"hnc.x-k8s.io/v1alpha2","kind":"HNCConfiguration","metadata":{"name":"c"}}', config_kept()),
+    ('{"apiVersion":"v1","kind":"HNCConfiguration","metadata":{"name":"config"}}', not_kind("HNCConfiguration")),
+    ('{"apiVersion":"hnc.x-k8s.io/v1alpha1","kind":"HNCConfiguration","metadata":{"name":"config"}}', not_kind("HNCConfiguration")),
+    ('{"apiVersion":"hnc.x-k8s.io/v1alpha2","kind":"HncConfiguration","metadata":{"name":"config"}}', not_kind("HNCConfiguration")),
+    ('{"apiVersion":"hnc.x-k8s.io/v1alpha2","kind":"HNCConfiguration","metadata":{"name":"config"}}', config_kept()),
     (config("null"), config_kept()),
     (config("{}"), config_kept()),
     (config('{"resources":null}'), config_kept()),
@@ -711,8 +719,8 @@ CONFIG_FAULTS = [
     (config('{"resources":[{"group":1,"resource":"a"},1]}'), RESOURCES),
     (config('{"resources":[{"group":1,"resource":"a"}]}'), GROUP),
     (config('{"resources":[{"group":[],"resource":"a"}]}'), GROUP),
-    (config('{"resources":[{"group":null,"resource":"a"}]}'), config_kept(("", "Propagate", "a"))),
-    (config('{"resources":[{"group":"","resource":""}]}'), config_kept(("", "Propagate", ""))),
+    (config('{"resources":[{"group":null,"resource":"secrets"}]}'), config_kept(("", "Propagate", "secrets"))),
+    (config('{"resources":[{"group":"","resource":""}]}'), broken("C2")),
     (config('{"resources":[{}]}'), NO_RESOURCE),
     (config('{"resources":[{"group":"g"}]}'), NO_RESOURCE),
     (config('{"resources":[{"resource":null}]}'), RESOURCE),
@@ -722,10 +730,10 @@ CONFIG_FAULTS = [
     (config('{"resources":[{"resource":"a","mode":" Remove"}]}'), MODE),
     (config('{"resources":[{"resource":"a","mode":1}]}'), MODE),
     (config('{"resources":[{"resource":"a","mode":["Remove"]}]}'), MODE),
-    (config('{"resources":[{"resource":"a","mode":null}]}'), config_kept(("", "Propagate", "a"))),
-    (config('{"resources":[{"resource":"a","mode":""}]}'), config_kept(("", "Propagate", "a"))),
-    (config('{"resources":[{"resource":"a","mode":"Propagate"},{"resource":"a","mode":"Remove"},{"resource":"b","mode":"Ignore","group":"g"}]}'), config_kept(("", "Propagate", "a"),
-    ("", "Remove", "a"), ("g", "Ignore", "b"))),
+    (config('{"resources":[{"resource":"secrets","mode":null}]}'), config_kept(("", "Propagate", "secrets"))),
+    (config('{"resources":[{"resource":"secrets","mode":""}]}'), config_kept(("", "Propagate", "secrets"))),
+    (config('{"resources":[{"resource":"secrets","mode":"Propagate"},{"resource":"configmaps","mode":"Remove"},{"resource":"networkpolicies","mode":"Ignore","group":"networking.k8s.io"}]}'),
+    config_kept(("", "Propagate", "secrets"), ("", "Remove", "configmaps"), ("networking.k8s.io", "Ignore", "networkpolicies"))),
     # all groups, then all resources, then all modes
     (config('{"resources":[{"group":1}]}'), GROUP),
     (config('{"resources":[{},{"group":1,"resource":"a"}]}'), GROUP),
@@ -735,10 +743,10 @@ CONFIG_FAULTS = [
     (config('{"resources":[{},{"resource":1}]}'), NO_RESOURCE),
     (config('{"resources":[{"resource":1},{}]}'), RESOURCE),
     # the metadata before the members of the kind, and those before another place and the grammar
-    ('{"apiVersion":"hnc.x-k8s.io/v1alpha2","kind":"HNCConfiguration","metadata":{"name":"c","annotations":[]},"spec":[]}', wrong_type("metadata.annotations")),
-    ('{"apiVersion":"hnc.x-k8s.io/v1alpha2","kind":"HNCConfiguration","metadata":{"name":"c","namespace":"acme"},"spec":[]}', RESOURCES),
-    ('{"apiVersion":"hnc.x-k8s.io/v1alpha2","kind":"HNCConfiguration","metadata":{"name":"c","namespace":"acme"},"spec":{"resources":[{"resource":"a","mode":"x"}]}}', MODE),
-    ('{"apiVersion":"hnc.x-k8s.io/v1alpha2","kind":"HNCConfiguration","metadata":{"name":"c","namespace":"acme"}}', OTHER_PLACE),
+    ('{"apiVersion":"hnc.x-k8s.io/v1alpha2","kind":"HNCConfiguration","metadata":{"name":"config","annotations":[]},"spec":[]}', wrong_type("metadata.annotations")),
+    ('{"apiVersion":"hnc.x-k8s.io/v1alpha2","kind":"HNCConfiguration","metadata":{"name":"config","namespace":"acme"},"spec":[]}', RESOURCES),
+    ('{"apiVersion":"hnc.x-k8s.io/v1alpha2","kind":"HNCConfiguration","metadata":{"name":"config","namespace":"acme"},"spec":{"resources":[{"resource":"a","mode":"x"}]}}', MODE),
+    ('{"apiVersion":"hnc.x-k8s.io/v1alpha2","kind":"HNCConfiguration","metadata":{"name":"config","namespace":"acme"}}', OTHER_PLACE),
     (config("[]", name="C"), RESOURCES),
 ]
 
@@ -881,7 +889,7 @@ def names(t):
     for name, fits in ROLE_NAMES:
         t.tries(ROLES, [(thing("Role", name), thing("Role", name, "acme") if fits else BAD_NAME)])
     t.tries(ROLES.replace("roles", "rolebindings"), [(thing("RoleBinding", "A:b"), thing("RoleBinding", "A:b", "acme")), (thing("RoleBinding", "a/b"), BAD_NAME)])
-    t.tries(CONFIGS, [(thing("HNCConfiguration", "C"), BAD_NAME), (thing("HNCConfiguration", "c.d"), thing("HNCConfiguration", "c.d", spec={"resources": []}))])
+    t.tries(CONFIGS, [(thing("HNCConfiguration", "C"), BAD_NAME), (thing("HNCConfiguration", "c.d"), broken("C1"))])
     # of those that fit their grammar one alone is allowed
     t.tries(HIERARCHIES, [
         (thing("HierarchyConfiguration", "h_"), BAD_NAME),
@@ -940,7 +948,10 @@ def labels(t):
 
 
 # Labels that don't count.
-UNCOUNTED = {"acme.tree.hnc.x-k8s.io/depth": "0", "x.tree.hnc.x-k8s.io/depth": "1", "hnc.x-k8s.io/included-namespace": "true", "hnc.x-k8s.io/inherited-from": "beta"}
+UNCOUNTED = {"acme.tree.hnc.x-k8s.io/depth": "0", "x.tree.hnc.x-k8s.io/depth": "1", "hnc.x-k8s.io/included-namespace": "true"}
+
+# The label of a copy doesn't count, either, and is nobody's to give.
+COPIED = {"hnc.x-k8s.io/inherited-from": "beta"}
 
 
 def some_labels(count):
@@ -953,6 +964,8 @@ def sizes(t):
         (thing("ConfigMap", "x", labels=some_labels(256)), configmap("x", labels=some_labels(256))),
         (thing("ConfigMap", "x", labels=some_labels(257)), TOO_MANY_LABELS),
         (thing("ConfigMap", "x", labels={**some_labels(256), **UNCOUNTED}), configmap("x", labels={**some_labels(256), **UNCOUNTED})),
+        (thing("ConfigMap", "x", labels={**some_labels(256), **UNCOUNTED, **COPIED}), broken("O1")),
+        (thing("ConfigMap", "x", labels={**some_labels(257), **COPIED}), TOO_MANY_LABELS),
         (thing("ConfigMap", "x", labels={**some_labels(256), "tree.hnc.x-k8s.io/depth": "0"}), TOO_MANY_LABELS),
         (thing("ConfigMap", "x", labels={**some_labels(256), "hnc.x-k8s.io/managed-by": ""}), TOO_MANY_LABELS),
         (thing("ConfigMap", "x", labels={**some_labels(256), "-": ""}), BAD_LABEL),
@@ -964,6 +977,8 @@ def sizes(t):
     t.tries(CONFIGMAPS, [
         (thing("ConfigMap", "x", data='"é' + "a" * 65513, **full), configmap("x", data='"é' + "a" * 65513, **full)),
         (thing("ConfigMap", "x", data='"é' + "a" * 65514, **full), TOO_LARGE),
+        (thing("ConfigMap", "x", data='"é' + "a" * 65513, labels={**full["labels"], **COPIED}, annotations=full["annotations"]), broken("O1")),
+        (thing("ConfigMap", "x", data='"é' + "a" * 65514, labels={**full["labels"], **COPIED}, annotations=full["annotations"]), TOO_LARGE),
         (thing("ConfigMap", "x", data="a" * 65526, labels=some_labels(257)), TOO_MANY_LABELS),
     ])
     # a namespace has 2 bytes beside its labels and annotations
@@ -1037,13 +1052,19 @@ QUERIES = [
     ("admission=skip&admission=x", None), ("admission=x&admission=skip", bad_query("admission")),
     ("admission=", bad_query("admission")), ("admission", bad_query("admission")),
     ("admission=Skip", bad_query("admission")), ("admission=skip+", bad_query("admission")), ("since=x", None),
-    ("labelSelector=", None), ("labelSelector", None), ("labelSelector=a", NOT_SERVED),
-    ("labelSelector=a%3Db", NOT_SERVED), ("%6cabelSelector=+", NOT_SERVED), ("labelSelector=&labelSelector=a", None),
-    ("limit=1&labelSelector=a", NOT_SERVED),
+    ("labelSelector=", None), ("labelSelector", None), ("labelSelector=a", None), ("labelSelector=a%3Db", None),
+    ("%6cabelSelector=+", None), ("labelSelector=&labelSelector=a", None), ("limit=1&labelSelector=a", None),
+    ("labelSelector=,", bad_query("labelSelector")), ("labelSelector=,&labelSelector=a", bad_query("labelSelector")),
+    ("labelSelector=,&labelSelector=", bad_query("labelSelector")), ("labelSelector=a&labelSelector=,", None),
+    ("labelSelector=&labelSelector=,", None), ("labelSelector&labelSelector=,", None), ("LabelSelector=,", None),
+    ("labelSelector+=,", None), ("x=labelSelector=,", None), ("label%53elector=%2C", bad_query("labelSelector")),
     # of two the earlier in their order goes first
     ("watch=1&admission=x", bad_query("admission")), ("fieldSelector=1&watch=1", bad_query("watch")),
     ("dryRun=1&fieldSelector=1", bad_query("fieldSelector")), ("continue=x&dryRun=1", bad_query("dryRun")),
-    ("labelSelector=a&continue=x", bad_query("continue")),
+    ("labelSelector=a&continue=x", bad_query("continue")), ("labelSelector=&admission=x", bad_query("admission")),
+    ("labelSelector=,&admission=x", bad_query("labelSelector")), ("admission=x&labelSelector=,", bad_query("labelSelector")),
+    ("watch=1&labelSelector=,", bad_query("labelSelector")), ("dryRun=1&labelSelector=,", bad_query("labelSelector")),
+    ("continue=x&dryRun=1&fieldSelector=1&watch=1&admission=x&labelSelector=,", bad_query("labelSelector")),
     ("continue=x&dryRun=1&fieldSelector=1&watch=1&admission=x", bad_query("admission")),
 ]
 
@@ -1055,7 +1076,8 @@ FEED = [
     ("?since=x&since=1", bad_query("since")), ("?since=0", NOT_SERVED), ("?since=1&since=x", NOT_SERVED),
     ("?since=%31", NOT_SERVED), ("?since=1234567890123456789", NOT_SERVED),
     ("?since=9999999999999999999", NOT_SERVED), ("?since=0&admission=skip", NOT_SERVED),
-    ("?since=0&labelSelector=a", NOT_SERVED), ("?since=x&admission=no", bad_query("admission")),
+    ("?since=0&labelSelector=a", NOT_SERVED), ("?since=0&labelSelector=,", NOT_SERVED),
+    ("?since=x&labelSelector=,", bad_query("since")), ("?since=x&admission=no", bad_query("admission")),
     ("?since=x&watch=1", bad_query("since")), ("?since=0&watch=1", bad_query("watch")),
     ("?since=0&continue=1", bad_query("continue")),
 ]
@@ -1070,6 +1092,12 @@ ORDERS = [
     ("POST /api/v1/pods {", NO_METHOD),
     ("PUT /api/v1/namespaces/n/pods {", NO_METHOD),
     ("GET /api/v1/namespaces/%ff?watch=1", BAD_PATH),
+    ("GET /api/v1/namespaces/n/pod?labelSelector=,", NO_PATH),
+    ("PUT /api/v1/pods?labelSelector=, {", NO_METHOD),
+    ("GET /api/v1/namespaces/%ff/pods?labelSelector=,", BAD_PATH),
+    ("POST /api/v1/namespaces/n/pods?labelSelector=, {", NOT_SERVED),
+    ("POST /api/v1/namespaces/n/configmaps?labelSelector=,&dryRun=All {", bad_query("dryRun")),
+    ("DELETE /api/v1/namespaces/n?labelSelector=,", NOT_SERVED),
     ("POST /api/v1/namespaces/%ff/pods {", BAD_PATH),
     ("PUT /api/v1/namespaces/%ff/configmaps/a {", BAD_PATH),
     ("PUT /api/v1/namespaces/a/configmaps/%C3 {", BAD_PATH),
@@ -1147,8 +1175,8 @@ def queries(t):
             t.lists(get(f"/api/v1/pods?{query}"), "Pod", [])
         else:
             t.refuses(get(f"/api/v1/pods?{query}"), wanted)
-    t.refuses(get(f"{NAMESPACES}?labelSelector=a"), NOT_SERVED)
     t.refuses(get(f"{NAMESPACES}/none?labelSelector=a"), not_found("namespaces", "none"))
+    t.refuses(get(f"{NAMESPACES}/none?labelSelector=,"), not_found("namespaces", "none"))
     t.refuses(get(f"{NAMESPACES}/none#?watch=1"), bad_query("watch"))
     t.refuses(delete(f"{SERVICES}/none?admission=skip"), not_found("services", "none"))
     t.refuses(delete(f"{SERVICES}/none?labelSelector=a"), not_found("services", "none"))
@@ -1156,6 +1184,120 @@ def queries(t):
     stored = t.creates(post(f"{CONFIGMAPS}?admission=skip&watch=", MINIMAL), configmap("x"))
     t.shows(put(f"{CONFIGMAPS}/x?admission=skip&labelSelector=a", MINIMAL), stored)
     t.removes(delete(f"{CONFIGMAPS}/x?admission=skip"))
+
+
+# ConfigMaps of two namespaces, with their labels.
+LABELLED = [
+    ("acme", "a", None),
+    ("acme", "b", {"app": "web"}),
+    ("acme", "c", {"app": "web", "tier": "front"}),
+    ("acme", "d", {"app": "db", "tier": ""}),
+    ("acme", "e", {"example.com/app": "web", "in": "notin"}),
+    ("beta", "a", {"app": "web"}),
+    ("beta", "b", {"tier": "front"}),
+]
+
+# Selectors as they are sent, and the ConfigMaps of acme that a list by them has.
+SELECTORS = [
+    # a key that is there, or isn't
+    ("app", "b c d"), ("!app", "a e"), ("tier", "c d"), ("example.com/app", "e"), ("example.com%2Fapp", "e"),
+    ("web", ""), ("!web", "a b c d e"), ("App", ""), ("example.com", ""), ("in", "e"), ("!in", "a b c d"),
+    ("notin", ""), ("!notin", "a b c d e"), ("a" * 63, ""), (f"!{'a' * 63}", "a b c d e"), (f"{'a' * 64}.com/app", ""),
+    # a value
+    ("app=web", "b c"), ("app==web", "b c"), ("app%3Dweb", "b c"), ("app%3D%3dweb", "b c"), ("app!=web", "a d e"),
+    ("app%21=web", "a d e"), ("app=", ""), ("app==", ""), ("tier=", "d"), ("tier==", "d"), ("tier!=", "a b c e"),
+    ("app=Web", ""), ("app=we", ""), ("app=webs", ""), ("in=notin", "e"), ("in==in", ""), ("example.com/app=web", "e"),
+    ("app=1.a_b-C", ""), (f"app={'a' * 63}", ""), (f"app!={'a' * 63}", "a b c d e"), ("%61pp=w%65b", "b c"),
+    # a set of values
+    ("app+in+(web)", "b c"), ("app%20in%20(db,web)", "b c d"), ("app+in+(web,web)", "b c"), ("app+in(web)", "b c"),
+    ("app+notin+(web)", "a d e"), ("app+notin+(web,db)", "a e"), ("app+notin(db)", "a b c e"), ("tier+in+()", "d"),
+    ("tier+in+(,)", "d"), ("tier+in+(front,)", "c d"), ("tier+in+(,front)", "c d"), ("tier+notin+()", "a b c e"),
+    ("tier+notin+(front,)", "a b e"), ("app+in+(in,notin)", ""), ("in+in+(in,notin)", "e"), ("app+in+(Web,dB)", ""),
+    ("notin+notin+(notin)", "a b c d e"), ("in+notin+(notin)", "a b c d"),
+    # several requirements
+    ("app=web,tier", "c"), ("app,!tier", "b"), ("app=web,app=db", ""), ("app!=web,app", "d"), ("!app,!in", "a"),
+    ("app+in+(web,db),tier=front", "c"), ("tier=,app", "d"), ("app!=,app", "b c d"), ("app,app,app", "b c d"),
+    ("app,!app", ""), ("tier=front,app+notin+(db),app==web,!in", "c"),
+    # spaces
+    ("+", "a b c d e"), ("++%20", "a b c d e"), ("+app+", "b c d"), ("+app+=+web+", "b c"), ("app+==web", "b c"),
+    ("app+!=+web", "a d e"), ("+!+app+", "a e"), ("app++in++(+web+,+db+)+,+tier", "c d"), ("app+=+,+tier", ""),
+    # many of them
+    (",".join(f"!k{number}" for number in range(1000)), "a b c d e"),
+    (f"app+in+({','.join(f'k{number}' for number in range(1000))},db)", "d"),
+    (f"tier{',tier' * 1000}", "c d"),
+]
+
+# Texts that are no selectors, as they are sent.
+NO_SELECTORS = [
+    # a sign or a word that can't stand there, or an end too early
+    ",", "+,+", ",,", "app,", ",app", "app,,tier", "app=web,", "app+in+(web),", "!", "+!+", "!!app", "!app=web", "!app,!",
+    "!app+in+(web)", "app!", "app!tier", "app+tier", "app=web+db", "app+=+web+tier", "=", "==", "!=", "=web", "!=web",
+    "==web", "app===web", "app=!web", "app!==web", "app!=!web", "app=web=db", "app=(web)", "app+in", "app+notin",
+    "app+in+web", "app+in=web", "app+in,tier", "app+in+(", "app+in+(web", "app+in+(web,", "app+in+(web+db)",
+    "app+in+((web))", "app+in+(web))", "app+in+(web)+tier", "app+in+(web)(db)", "app+in+(!web)", "app+in+(a=b)",
+    "app+in+()+()", "app+In+(web)", "app+has+(web)", "app+exists", "in+(web)", "in+in", "(app)", "()", "(", ")",
+    "app)", "app(web)", "!in+in+(a)", "app<5", "app>5", "app+<+5", "<", ">", "app+in+(<)", "app=<", "app=>",
+    # no key of a label
+    "-app", "app-", "_app", "/app", "example.com/", "a/b/c", "Example.com/app", "-a.com/app", "a@b", "a:b", "app%09", "%09",
+    "app%2Bweb", "%22app%22", "%C3%A9", "%ff", "%00", "*", "!-app", "!/", "app,-tier", "-app=web", "app=web,tier-",
+    "a" * 64, f"{'a' * 254}/app", "%26", "app%26tier",
+    # no value of a label
+    "app=-web", "app=web-", "app=a/b", "app=%22web%22", "app=a:b", "app=%C3%A9", "app=%ff", "app!=.", "app==-", "app=web%26",
+    "app+in+(web,-)", "app+in+(-,web)", "app+notin+(a/b)", f"app={'a' * 64}", f"app+in+({'a' * 64})", "app=*",
+]
+
+# Queries with a selector beside other parameters, and the ConfigMaps of acme that a list by them has.
+SELECTED = [
+    ("labelSelector=app&labelSelector=tier", "b c d"), ("labelSelector=app&labelSelector=,", "b c d"),
+    ("labelSelector=&labelSelector=app", "a b c d e"), ("labelSelector&labelSelector=app", "a b c d e"),
+    ("labelSelector=+&labelSelector=app", "a b c d e"), ("LabelSelector=app", "a b c d e"),
+    ("labelSelector+=app", "a b c d e"), ("label%53elector=app", "b c d"), ("limit=1&labelSelector=app&pretty", "b c d"),
+    ("labelSelector=app&admission=skip", "b c d"), ("labelSelector=app=web&tier=front", "b c"),
+    ("&&labelSelector=app&&", "b c d"), ("watch=&labelSelector=app&fieldSelector=", "b c d"),
+]
+
+
+def selectors(t):
+    t.part("targets: label selectors")
+    path = "/api/v1/namespaces/{}/configmaps"
+    made = {}
+    for ns, name, labels in LABELLED:
+        new = thing("ConfigMap", name, ns, labels=labels)
+        made[ns, name] = t.creates(post(path.format(ns), new), new)
+    for selector, names in SELECTORS:
+        t.lists(get(f"{CONFIGMAPS}?labelSelector={selector}"), "ConfigMap", [made["acme", name] for name in names.split()])
+    for selector in NO_SELECTORS:
+        t.refuses(get(f"{CONFIGMAPS}?labelSelector={selector}"), bad_query("labelSelector"))
+    for query, names in SELECTED:
+        t.lists(get(f"{CONFIGMAPS}?{query}"), "ConfigMap", [made["acme", name] for name in names.split()])
+    everywhere = "/api/v1/configmaps"
+    t.lists(get(f"{everywhere}?labelSelector=app"), "ConfigMap", [made["acme", name] for name in "bcd"] + [made["beta", "a"]])
+    t.lists(get(f"{everywhere}?labelSelector=tier=front"), "ConfigMap", [made["acme", "c"], made["beta", "b"]])
+    t.lists(get(f"{everywhere}?labelSelector=!app"), "ConfigMap", [made["acme", "a"], made["acme", "e"], made["beta", "b"]])
+    t.lists(get(f"{everywhere}?labelSelector=none"), "ConfigMap", [])
+    t.lists(get(f"{path.format('beta')}?labelSelector=!tier"), "ConfigMap", [made["beta", "a"]])
+    t.lists(get(f"{path.format('none')}?labelSelector=!app"), "ConfigMap", [])
+    t.lists(get(f"{SECRETS}?labelSelector=!app"), "Secret", [])
+    t.refuses(get(f"{everywhere}?labelSelector=app,"), bad_query("labelSelector"))
+    t.refuses(get(f"{path.format('none')}?labelSelector=app,"), bad_query("labelSelector"))
+    # of other requests the parameter is ignored
+    stored = t.creates(post(f"{CONFIGMAPS}?labelSelector=,", MINIMAL), configmap("x"))
+    t.shows(get(f"{CONFIGMAPS}/x?labelSelector=,"), stored)
+    t.shows(get(f"{CONFIGMAPS}/x?labelSelector=app"), stored)
+    stored = t.changes(put(f"{CONFIGMAPS}/x?labelSelector=,", thing("ConfigMap", "x", labels={"app": "x"})), configmap("x", labels={"app": "x"}))
+    t.lists(get(f"{CONFIGMAPS}?labelSelector=app+notin+(web,db),app"), "ConfigMap", [stored])
+    t.refuses(get(f"{CONFIGMAPS}/x?labelSelector=,&watch=1"), bad_query("watch"))
+    t.removes(delete(f"{CONFIGMAPS}/x?labelSelector=,"))
+    t.lists(get(f"{CONFIGMAPS}?labelSelector=app+notin+(web,db),app"), "ConfigMap", [])
+    for ns, name, _ in LABELLED:
+        t.removes(delete(f"{path.format(ns)}/{name}?labelSelector=none"))
+    # namespaces are listed by their labels too
+    beta = t.changes(put(f"{NAMESPACES}/beta", thing("Namespace", "beta", labels={"chosen": "yes"})), namespace("beta", labels={"chosen": "yes"}))
+    t.lists(get(f"{NAMESPACES}?labelSelector=chosen"), "Namespace", [beta])
+    t.lists(get(f"{NAMESPACES}?labelSelector=chosen+in+(no,maybe)"), "Namespace", [])
+    t.refuses(get(f"{NAMESPACES}?labelSelector=chosen<2"), bad_query("labelSelector"))
+    t.changes(put(f"{NAMESPACES}/beta", thing("Namespace", "beta")), namespace("beta"))
+    t.lists(get(f"{NAMESPACES}?labelSelector=chosen"), "Namespace", [])
 
 
 def feed(t):
@@ -1791,6 +1933,298 @@ def trees(t):
         part(t, g)
 
 
+# ---- modes, copies and exceptions
+
+# The kinds whose resources an HNCConfiguration may name, and the rule that refuses an entry of theirs.
+NAMED = [
+    ("rbac.authorization.k8s.io", "roles", "C4"), ("rbac.authorization.k8s.io", "rolebindings", "C4"), ("", "configmaps", None),
+    ("", "secrets", None), ("networking.k8s.io", "networkpolicies", None), ("", "limitranges", None), ("", "pods", "C6"),
+    ("", "services", "C6"), ("", "persistentvolumeclaims", "C6"),
+]
+
+# Groups and resources that are no kind's, or not one of these.
+UNKNOWN = [
+    ("", "roles"), ("", "rolebindings"), ("rbac.authorization.k8s.io", "secrets"), ("", "networkpolicies"),
+    ("networking.k8s.io", "limitranges"), ("core", "secrets"), ("v1", "secrets"), ("", "Secrets"), ("", "secret"),
+    ("", "secrets "), ("", "namespaces"), ("hnc.x-k8s.io", "hncconfigurations"), ("hnc.x-k8s.io", "hierarchyconfigurations"),
+    ("hnc.x-k8s.io", "subnamespaceanchors"), ("hnc.x-k8s.io", "hierarchicalresourcequotas"), ("apps", "deployments"),
+    ("", "networkpolicies.networking.k8s.io"), ("", "roles.rbac.authorization.k8s.io"), ("", ""),
+]
+
+
+def modes_of(*entries, name="config", **members):
+    """A configuration of groups and resources, each propagated."""
+    return thing("HNCConfiguration", name, spec={"resources": [{"group": group, "mode": "Propagate", "resource": resource} for group, resource in entries]}, **members)
+
+
+def modes(t):
+    t.part("rules: modes")
+    known = [(group, resource) for group, resource, rule in NAMED if rule is None]
+    for group, resource, rule in NAMED:
+        entry = (group, resource)
+        t.tries(CONFIGS, [(modes_of(entry), broken(rule) if rule else modes_of(entry)), (modes_of(entry, entry), broken("C3")), (modes_of(entry, ("", "x")), broken("C2"))])
+    for entry in UNKNOWN:
+        t.tries(CONFIGS, [(modes_of(entry), broken("C2")), (modes_of(*known, entry), broken("C2")), (modes_of(entry, entry), broken("C2"))])
+    roles, pods, secrets = ("rbac.authorization.k8s.io", "roles"), ("", "pods"), ("", "secrets")
+    t.tries(CONFIGS, [
+        # one behind the other: unknown, twice, fixed, not propagated
+        (modes_of(pods, pods, roles, ("", "x")), broken("C2")),
+        (modes_of(pods, roles, secrets, secrets), broken("C3")),
+        (modes_of(secrets, *[(group, resource) for group, resource, rule in NAMED]), broken("C3")),
+        (modes_of(pods, roles), broken("C4")),
+        (modes_of(*[(group, resource) for group, resource, rule in NAMED]), broken("C4")),
+        (modes_of(secrets, pods), broken("C6")),
+        (modes_of(*known), modes_of(*known)),
+        # the name comes first, and then the label of a copy
+        (modes_of(("", "x"), name="confi"), broken("C1")),
+        (modes_of(name="hierarchy"), broken("C1")),
+        (modes_of(name="config.x", labels=COPIED), broken("C1")),
+        (modes_of(("", "x"), labels=COPIED), broken("O1")),
+    ])
+    # nothing of it is passed over
+    skip = f"{CONFIGS}?admission=skip"
+    t.refuses(post(skip, modes_of(name="other")), broken("C1"))
+    t.refuses(post(skip, modes_of(labels=COPIED)), broken("O1"))
+    t.refuses(post(skip, modes_of(("", "x"))), broken("C2"))
+    t.refuses(post(skip, modes_of(secrets, secrets)), broken("C3"))
+    t.refuses(post(skip, modes_of(roles)), broken("C4"))
+    t.refuses(post(skip, modes_of(pods)), broken("C6"))
+    # a PUT is judged like a POST, behind its version
+    one = f"{CONFIGS}/config"
+    stored = t.creates(post(CONFIGS, modes_of(secrets)), modes_of(secrets))
+    t.refuses(put(one, with_version(modes_of(("", "x")), t.version - 1)), has_version("hncconfigurations.hnc.x-k8s.io", "config", t.version))
+    t.refuses(put(one, modes_of(labels=COPIED)), broken("O1"))
+    t.refuses(put(one, modes_of(("", "x"))), broken("C2"))
+    t.refuses(put(one, modes_of(secrets, secrets)), broken("C3"))
+    t.refuses(put(one, modes_of(roles)), broken("C4"))
+    t.refuses(put(one, modes_of(pods)), broken("C6"))
+    t.shows(put(one, modes_of(secrets)), stored)
+    t.removes(delete(one))
+
+
+def copies(t):
+    t.part("rules: copies")
+    # the label is nobody's to give, of whatever value and whatever kind
+    t.refuses(post(NAMESPACES, thing("Namespace", "copied", labels=COPIED)), broken("O1"))
+    t.refuses(post(f"{NAMESPACES}?admission=skip", thing("Namespace", "copied", labels=COPIED)), broken("O1"))
+    t.refuses(post(NAMESPACES, thing("Namespace", "copied", labels=COPIED, annotations={SUBNAMESPACE_OF: "acme"})), broken("O1"))
+    t.refuses(post(HIERARCHIES, thing("HierarchyConfiguration", "hierarchy", labels=COPIED, spec={"parent": "none"})), broken("O1"))
+    t.refuses(post(HIERARCHIES, thing("HierarchyConfiguration", "h", labels=COPIED)), broken("H7"))
+    t.refuses(post(CONFIGS, thing("HNCConfiguration", "config", labels=COPIED)), broken("O1"))
+    for kind, resource, path, name, said, kept, _, _ in STORED:
+        here = path.format("acme")
+        one = f"{here}/{name}"
+        for labels in (COPIED, {"hnc.x-k8s.io/inherited-from": ""}, {"a": "b", **COPIED}):
+            t.refuses(post(here, thing(kind, name, labels=labels, **said)), broken("O1"))
+        t.refuses(post(f"{here}?admission=skip", thing(kind, name, labels=COPIED, **said)), broken("O1"))
+        t.refuses(post(path.format("none"), thing(kind, name, labels=COPIED, **said)), not_found("namespaces", "none"))
+        stored = t.creates(post(here, thing(kind, name, labels={"hnc.x-k8s.io/inherited": "a"}, **said)), thing(kind, name, "acme", labels={"hnc.x-k8s.io/inherited": "a"}, **kept))
+        t.refuses(post(here, thing(kind, name, labels=COPIED, **said)), exists(resource, name))
+        t.refuses(put(one, with_version(thing(kind, name, labels=COPIED, **said), t.version - 1)), has_version(resource, name, t.version))
+        t.refuses(put(one, thing(kind, name, labels=COPIED, **said)), broken("O1"))
+        t.refuses(put(f"{one}?admission=skip", thing(kind, name, labels=COPIED)), broken("O1"))
+        t.shows(get(one), stored)
+        t.removes(delete(one))
+    acme = f"{NAMESPACES}/acme"
+    t.refuses(put(acme, thing("Namespace", "acme", labels=COPIED)), broken("O1"))
+    # an annotation of that key is none
+    t.tries(ROLES, [(thing("Role", "r", annotations=COPIED), thing("Role", "r", "acme", annotations=COPIED))])
+
+
+SELECT = "propagate.hnc.x-k8s.io/select"
+TREE_SELECT = "propagate.hnc.x-k8s.io/treeSelect"
+NONE = "propagate.hnc.x-k8s.io/none"
+
+# Annotations of an object that can be copied, and whether they are valid.
+EXCEPTIONS = [
+    ({NONE: "true"}, True), ({NONE: "false"}, True), ({NONE: ""}, True), ({NONE: "yes"}, False), ({NONE: "True"}, False),
+    ({NONE: " true"}, False), ({NONE: "true "}, False), ({NONE: " "}, False), ({NONE: "truefalse"}, False), ({NONE: "0"}, False),
+    ({SELECT: "", TREE_SELECT: "", NONE: ""}, True), ({SELECT: "", TREE_SELECT: "", NONE: "true"}, True),
+    ({SELECT: "a", NONE: "true"}, False), ({SELECT: "a", NONE: "false"}, False), ({TREE_SELECT: "a", NONE: "true"}, False),
+    ({SELECT: "a", TREE_SELECT: "a"}, False), ({SELECT: "a", TREE_SELECT: "a", NONE: "true"}, False),
+    ({SELECT: "(", TREE_SELECT: "A"}, False), ({SELECT: " ", NONE: "true"}, False),
+    # other keys say nothing
+    ({"propagate.hnc.x-k8s.io/None": "yes"}, True), ({"propagate.hnc.x-k8s.io/all": "yes"}, True), ({"hnc.x-k8s.io/none": "yes"}, True),
+]
+
+# The same of texts that are read: selectors of labels, and names of namespaces.
+SELECTING = [
+    ({SELECT: " "}, True), ({SELECT: "a"}, True), ({SELECT: "!a"}, True), ({SELECT: "a=b,c!=d"}, True), ({SELECT: "a in (b, c)"}, True),
+    ({SELECT: "a notin ()"}, True), ({SELECT: "a b"}, False), ({SELECT: ","}, False), ({SELECT: "a,"}, False), ({SELECT: "a<1"}, False),
+    ({SELECT: "-a"}, False), ({SELECT: "a=-"}, False), ({SELECT: "a in b"}, False), ({SELECT: "a", TREE_SELECT: "", NONE: ""}, True),
+    ({TREE_SELECT: "beta"}, True), ({TREE_SELECT: "!beta"}, True), ({TREE_SELECT: "!a, !b"}, True), ({TREE_SELECT: "a,!b"}, True),
+    ({TREE_SELECT: " "}, False), ({TREE_SELECT: ","}, False), ({TREE_SELECT: "a,"}, False), ({TREE_SELECT: "A"}, False),
+    ({TREE_SELECT: "a.b"}, False), ({TREE_SELECT: "a,b"}, False), ({TREE_SELECT: "!"}, False),
+]
+
+
+def exceptions(t):
+    t.part("rules: exceptions")
+    for annotations, valid in EXCEPTIONS + SELECTING:
+        t.tries(CONFIGMAPS, [(thing("ConfigMap", "x", annotations=annotations), configmap("x", annotations=annotations) if valid else broken("O3"))])
+    wrong, right = {NONE: "yes"}, {NONE: "true"}
+    for kind, _, path, name, said, kept, _, _ in STORED:
+        here = path.format("acme")
+        one = f"{here}/{name}"
+        if kind == "Service":
+            # exceptions of what isn't copied say nothing
+            t.tries(here, [(thing(kind, name, annotations=wrong, **said), thing(kind, name, "acme", annotations=wrong, **kept))])
+            continue
+        t.refuses(post(here, thing(kind, name, annotations=wrong, **said)), broken("O3"))
+        t.refuses(post(f"{here}?admission=skip", thing(kind, name, annotations=wrong, **said)), broken("O3"))
+        t.refuses(post(here, thing(kind, name, annotations=wrong, labels=COPIED, **said)), broken("O1"))
+        stored = t.creates(post(here, thing(kind, name, annotations=right, **said)), thing(kind, name, "acme", annotations=right, **kept))
+        t.refuses(put(one, thing(kind, name, annotations=wrong, **said)), broken("O3"))
+        t.refuses(put(f"{one}?admission=skip", thing(kind, name, annotations=wrong, **said)), broken("O3"))
+        t.refuses(put(one, thing(kind, name, annotations=wrong, labels=COPIED, **said)), broken("O1"))
+        t.shows(put(one, thing(kind, name, annotations=right, **said)), stored)
+        t.removes(delete(one))
+
+
+# ---- sources that a copy would overwrite
+
+ROLES_IN = "/apis/rbac.authorization.k8s.io/v1/namespaces/{}/roles"
+CONFIGMAPS_IN = "/api/v1/namespaces/{}/configmaps"
+UNDER = "upper", "middle", "lower"
+
+
+def role_in(ns, name, **members):
+    """The line that makes a Role, and the Role that is made."""
+    return post(ROLES_IN.format(ns), thing("Role", name, **members)), thing("Role", name, ns, **members)
+
+
+def map_in(ns, name, **members):
+    return post(CONFIGMAPS_IN.format(ns), thing("ConfigMap", name, **members)), thing("ConfigMap", name, ns, **members)
+
+
+def parent_in(ns, parent):
+    """The body that gives a namespace a parent, and what is kept of it."""
+    return thing("HierarchyConfiguration", "hierarchy", spec={"parent": parent}), thing("HierarchyConfiguration", "hierarchy", ns, spec={"parent": parent})
+
+
+def mode_of(mode):
+    return thing("HNCConfiguration", "config", spec={"resources": [{"group": "", "mode": mode, "resource": "configmaps"}]})
+
+
+def conflicts(t):
+    t.part("rules: conflicts")
+    for name in (*UNDER, "aside"):
+        t.creates(post(NAMESPACES, thing("Namespace", name)), thing("Namespace", name, status=ACTIVE))
+    for parent, ns in zip(UNDER, UNDER[1:]):
+        body, kept = parent_in(ns, parent)
+        t.creates(post(HIERARCHIES_IN.format(ns), body), kept)
+    conflicts_of_sources(t)
+    conflicts_of_exceptions(t)
+    conflicts_of_modes(t)
+    conflicts_of_moves(t)
+
+
+def conflicts_of_sources(t):
+    # one above, one below, on both sides, beside each other
+    t.creates(*role_in("upper", "r"))
+    t.refuses(role_in("middle", "r")[0], broken("O2"))
+    t.refuses(role_in("lower", "r")[0], broken("O2"))
+    t.creates(*role_in("aside", "r"))
+    t.creates(*role_in("lower", "s"))
+    t.refuses(role_in("middle", "s")[0], broken("O2"))
+    t.refuses(role_in("upper", "s")[0], broken("O2"))
+    t.removes(delete(f"{ROLES_IN.format('upper')}/r"))
+    t.creates(*role_in("lower", "r"))
+    t.refuses(role_in("middle", "r")[0], broken("O2"))
+    # exceptions and the label of a copy come first; skipping passes over it
+    t.refuses(role_in("middle", "r", annotations={NONE: "yes"})[0], broken("O3"))
+    t.refuses(role_in("middle", "r", labels=COPIED)[0], broken("O1"))
+    body, kept = thing("Role", "r"), thing("Role", "r", "middle")
+    t.creates(post(f"{ROLES_IN.format('middle')}?admission=skip", body), kept)
+    # a conflict that stands is nobody's fault
+    for ns in ("middle", "lower"):
+        t.changes(put(f"{ROLES_IN.format(ns)}/r", thing("Role", "r", rules=[])), thing("Role", "r", ns, rules=[]))
+        t.changes(put(f"{ROLES_IN.format(ns)}/r", thing("Role", "r", labels={"a": "b"})), thing("Role", "r", ns, labels={"a": "b"}))
+    t.refuses(role_in("upper", "r")[0], broken("O2"))
+    for ns, name in (("middle", "r"), ("lower", "r"), ("lower", "s"), ("aside", "r")):
+        t.removes(delete(f"{ROLES_IN.format(ns)}/{name}"))
+
+
+def conflicts_of_exceptions(t):
+    one = f"{ROLES_IN.format('upper')}/r"
+    t.creates(*role_in("upper", "r", annotations={NONE: "true"}))
+    t.creates(*role_in("lower", "r"))
+    for annotations, goes in [
+        (None, True), ({NONE: "false"}, True), ({SELECT: "a"}, False), ({SELECT: "!a"}, True), ({SELECT: " "}, True),
+        ({SELECT: "lower.tree.hnc.x-k8s.io/depth"}, True), ({SELECT: "upper.tree.hnc.x-k8s.io/depth=2"}, True),
+        ({SELECT: "upper.tree.hnc.x-k8s.io/depth=1"}, False), ({SELECT: "hnc.x-k8s.io/included-namespace=true"}, True),
+        ({TREE_SELECT: "lower"}, True), ({TREE_SELECT: "middle"}, True), ({TREE_SELECT: "aside"}, False), ({TREE_SELECT: "!middle"}, False),
+        ({TREE_SELECT: "!aside"}, True), ({TREE_SELECT: "middle, !lower"}, False),
+    ]:
+        line = put(one, thing("Role", "r", annotations=annotations))
+        if goes:
+            t.refuses(line, broken("O2"))
+        else:
+            t.changes(line, thing("Role", "r", "upper", annotations=annotations))
+    # by the labels that a namespace has now, and those that the tree prescribes
+    t.changes(put(one, thing("Role", "r", annotations={SELECT: "a"})), thing("Role", "r", "upper", annotations={SELECT: "a"}))
+    for ns in ("upper", "lower"):
+        t.removes(delete(f"{ROLES_IN.format(ns)}/r"))
+
+
+def conflicts_of_modes(t):
+    # what is ignored or taken away makes none
+    t.creates(*map_in("upper", "d"))
+    t.creates(*map_in("lower", "d"))
+    t.refuses(post(CONFIGS, mode_of("Propagate")), broken("C5"))
+    t.creates(post(CONFIGS, mode_of("Remove")), mode_of("Remove"))
+    one = f"{CONFIGS}/config"
+    t.refuses(put(one, mode_of("Propagate")), broken("C5"))
+    t.creates(*map_in("middle", "d"))
+    t.changes(put(one, mode_of("Ignore")), mode_of("Ignore"))
+    t.removes(delete(f"{CONFIGMAPS_IN.format('middle')}/d"))
+    t.changes(put(f"{one}?admission=skip", mode_of("Propagate")), mode_of("Propagate"))
+    t.refuses(map_in("middle", "d")[0], broken("O2"))
+    t.changes(put(f"{CONFIGMAPS_IN.format('lower')}/d", thing("ConfigMap", "d", data={"a": "b"})), thing("ConfigMap", "d", "lower", data={"a": "b"}))
+    t.removes(delete(one))
+    t.refuses(post(CONFIGS, mode_of("Propagate")), broken("C5"))
+    t.removes(delete(f"{CONFIGMAPS_IN.format('upper')}/d"))
+    t.creates(post(CONFIGS, mode_of("Propagate")), mode_of("Propagate"))
+    # the certificates of a cluster go nowhere
+    t.creates(*map_in("upper", "kube-root-ca.crt"))
+    t.creates(*map_in("lower", "kube-root-ca.crt"))
+    for ns, name in (("upper", "kube-root-ca.crt"), ("lower", "kube-root-ca.crt"), ("lower", "d")):
+        t.removes(delete(f"{CONFIGMAPS_IN.format(ns)}/{name}"))
+    t.removes(delete(one))
+
+
+def conflicts_of_moves(t):
+    # a namespace that comes below a source, and one that brings some
+    t.creates(*role_in("upper", "r"))
+    t.creates(*role_in("aside", "r"))
+    aside = HIERARCHIES_IN.format("aside")
+    body, kept = parent_in("aside", "upper")
+    t.refuses(post(aside, body), broken("H5"))
+    t.refuses(post(aside, parent_in("aside", "lower")[0]), broken("H5"))
+    t.removes(delete(f"{ROLES_IN.format('upper')}/r"))
+    t.creates(post(aside, body), kept)
+    t.refuses(role_in("upper", "r")[0], broken("O2"))
+    t.removes(delete(f"{aside}/hierarchy"))
+    middle = f"{HIERARCHIES_IN.format('middle')}/hierarchy"
+    t.creates(*role_in("lower", "r"))
+    body, kept = parent_in("middle", "aside")
+    t.refuses(put(middle, body), broken("H5"))
+    t.changes(put(f"{middle}?admission=skip", body), kept)
+    body, kept = parent_in("middle", "upper")
+    t.changes(put(middle, body), kept)
+    t.removes(delete(f"{ROLES_IN.format('lower')}/r"))
+    t.removes(delete(f"{ROLES_IN.format('aside')}/r"))
+    # labels of the tree that go let a source go further down
+    t.creates(*role_in("middle", "r", annotations={TREE_SELECT: "!upper"}))
+    t.creates(*role_in("lower", "r"))
+    t.refuses(delete(middle), broken("H5"))
+    t.refuses(put(middle, parent_in("middle", "aside")[0]), broken("H5"))
+    t.removes(delete(f"{ROLES_IN.format('lower')}/r"))
+    t.removes(delete(middle))
+    t.removes(delete(f"{ROLES_IN.format('middle')}/r"))
+    t.removes(delete(f"{HIERARCHIES_IN.format('lower')}/hierarchy"))
+
+
 # ---- lines
 
 # Lines in no form.
@@ -1933,9 +2367,14 @@ PARTS = [
     decoded_segments,
     methods,
     queries,
+    selectors,
     feed,
     orders,
     trees,
+    modes,
+    copies,
+    exceptions,
+    conflicts,
     silent_lines,
     line_ends,
     line_forms,
