@@ -6,9 +6,10 @@ mod tests;
 mod top;
 
 use crate::top::{Ended, Status, top};
-use hx_ports::{StdSink, StdSource};
+use hx_ports::{Meta, StdSink, StdSource, SureKeeper};
 use hx_sqlite::{SqlFault, SqlKeeper};
 use hx_words::{WordsFault, first_untaken, read_words};
+use std::alloc::Global;
 use std::hash::RandomState;
 use std::process::ExitCode;
 use std::{env, io};
@@ -16,6 +17,13 @@ use std::{env, io};
 /// How the command is used.
 const USAGE: &str =
     "usage: hnc run [--db PATH] [--excluded-namespace NAMES] [--allow-skip] <SCRIPT";
+
+/// What a keeper without rows says of itself.
+const NO_ROWS: Meta = Meta {
+    schema: 2,
+    version: 0,
+    rows: 0,
+};
 
 fn main(rt: HostRuntime) -> ExitCode {
     let words = match words_of(&rt) {
@@ -38,8 +46,40 @@ struct Outcome {
     write_fault: Option<io::ErrorKind>,
 }
 
-/// Runs the command over standard input and output, with the rows in a database.
+/// Runs the command over standard input and output.
 fn run(rt: &HostRuntime, words: &[String], keys: RandomState) -> Outcome {
+    if names_no_database(rt.alloc(), words) {
+        run_in_memory(rt, words, keys)
+    } else {
+        run_over_database(rt, words, keys)
+    }
+}
+
+/// Whether the words are taken and name no database.
+fn names_no_database(alloc: Global, words: &[String]) -> bool {
+    match read_words(alloc, words) {
+        Ok(run) => run.db.as_str().is_empty(),
+        Err(_fault) => false,
+    }
+}
+
+/// Runs the command with the rows in a tree of the program's own memory, which is gone with it.
+fn run_in_memory(rt: &HostRuntime, words: &[String], keys: RandomState) -> Outcome {
+    let mut source = StdSource::new(rt.stdin());
+    let mut sink = StdSink::new(rt.stdout());
+    let keeper = SureKeeper::new(Vec::new(rt.alloc()), NO_ROWS);
+    let ended = top(rt.alloc(), words, &mut source, &mut sink, keeper, keys);
+    Outcome {
+        status: ended.status,
+        damaged_row: ended.damaged_row,
+        database_fault: None,
+        read_fault: source.last_fault(),
+        write_fault: sink.last_fault(),
+    }
+}
+
+/// Runs the command with the rows in a database.
+fn run_over_database(rt: &HostRuntime, words: &[String], keys: RandomState) -> Outcome {
     let mut source = StdSource::new(rt.stdin());
     let mut sink = StdSink::new(rt.stdout());
     let keeper = SqlKeeper::new(rt);
