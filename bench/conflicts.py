@@ -8,12 +8,11 @@ the parent of the next one, with 15 Roles in each, whose names differ. Roles are
 below it under its name, or above it. A Role is made in a leaf, or in the root, and removed again: both requests count. A PUT changes the
 contents of a Role in a leaf. A move takes the fourth of a column with the four below it, and their 75 Roles, below the third of another one. All
 come in shuffled order and in parts of 248 requests, in turns at the small and the large size. The least of 32 parts counts. Everything runs on
-one processor. The rows are kept in a database file, since in memory the engine walks over all of them for each that is removed.
+one processor.
 """
 import itertools
 import os
 import sys
-import tempfile
 
 from program import Kind, compare
 from trees import Columns
@@ -46,8 +45,7 @@ class Filled(Columns):
     """A tree with Roles in so many of its namespaces."""
 
     def __init__(self, program, namespaces, filled):
-        self.folder = tempfile.TemporaryDirectory()
-        super().__init__(program, (namespaces - 1) // DEPTH, DEPTH, namespaces, "--db", f"{self.folder.name}/rows.db")
+        super().__init__(program, (namespaces - 1) // DEPTH, DEPTH, namespaces)
         self.filled = filled
         self.ask([make(f"n{i}", f"r{i}-{at}") for i in range(filled) for at in range(OBJECTS)])
 
