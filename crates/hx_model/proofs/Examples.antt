@@ -1,6 +1,6 @@
 -- Short histories, texts and counts, computed. Each expected value is written out.
 use Rattle.std.specs.Prelude.{codes, replicate}
-use Rattle.std.proofs.Common.{◌≡◌, ℕ, true, false, true≢false, List, [], ◌∷◌, None, Some, refl}
+use Rattle.std.proofs.Common.{◌≡◌, ℕ, Bool, true, false, true≢false, List, [], ◌∷◌, Option, None, Some, refl}
 use Rattle.std.specs.Fmt.{digits}
 use Rattle.serde_json.proofs.OnLiterals.{serde_json_on_literals}
 use Rattle.hx_object.specs.Json.{object_text}
@@ -24,7 +24,7 @@ use Rattle.hx_model.specs.Json.{list_text}
 use Rattle.hx_model.specs.Replies.{status_text, gone_text, message_about, version_message, said_of}
 use Rattle.hx_model.specs.Limits.{is_copy, counts, names_in, objects_in, bytes_in}
 use Rattle.hx_model.specs.Answers.{with_status, same_object, answer_to, refusal_of}
-use Rattle.hx_model.specs.Machine.{History, Refused, Request, LostRequest, KeeperFault, opening_world, IsLegal, IsHistory, replay, loses_to_fault}
+use Rattle.hx_model.specs.Machine.{World, History, Refused, Request, LostRequest, KeeperFault, opening_world, IsLegal, IsHistory, replay, loses_to_fault}
 use Rattle.hx_model.specs.declared.config.RunConfig.{RunConfig}
 
 -- nothing is excluded, and nothing skipped
@@ -44,6 +44,15 @@ stored name version = with_version (new_namespace name) version
 -- the namespace acme with a label
 abbrev labelled : ℕ → Object
 labelled version = record { id = namespace_id acme; labels = (codes "team", codes "red") ∷ []; annotations = []; payload = NamespaceOf false; version = version }
+
+-- what a world has but hands and keys
+record Left : Type 0 where
+  state : State
+  broken : Bool
+  torn : Option State
+
+abbrev left : World → Left
+left w = record { state = w.state; broken = w.broken; torn = w.torn }
 
 -- a ConfigMap's identity
 abbrev config_id : List ℕ → List ℕ → Id
@@ -188,7 +197,7 @@ pub first_requests_legal : IsHistory (opening_world false (opening_state no_conf
 unfolding counts
 first_requests_legal = ((refl, λ _. refl), ((refl, λ _. refl), ((refl, λ _. refl), ((refl, λ _. refl), (tt, tt)))))
 
-pub first_requests_leave : replay (opening_world false (opening_state no_config 0)) first_requests ≡ record { state = record { objects = stored acme 1 ∷ []; last = 1; config = no_config }; hands = []; broken = false; torn = None }
+pub first_requests_leave : left (replay (opening_world false (opening_state no_config 0)) first_requests) ≡ record { state = record { objects = stored acme 1 ∷ []; last = 1; config = no_config }; broken = false; torn = None }
 unfolding counts
 first_requests_leave = refl
 
@@ -206,7 +215,7 @@ pub replacements_legal : IsHistory (opening_world false (opening_state no_config
 unfolding same_object counts is_copy
 replacements_legal = ((refl, λ _. refl), ((refl, λ _. refl), ((refl, λ _. refl), ((refl, λ _. refl), ((refl, λ _. refl), tt)))))
 
-pub replacements_leave : replay (opening_world false (opening_state no_config 0)) replacements ≡ record { state = record { objects = labelled 2 ∷ []; last = 2; config = no_config }; hands = []; broken = false; torn = None }
+pub replacements_leave : left (replay (opening_world false (opening_state no_config 0)) replacements) ≡ record { state = record { objects = labelled 2 ∷ []; last = 2; config = no_config }; broken = false; torn = None }
 unfolding same_object counts is_copy
 replacements_leave = refl
 
@@ -240,7 +249,7 @@ unfolding counts is_copy size_of
 config_requests_legal =
     ((refl, λ _. refl), ((refl, λ _. refl), ((refl, λ _. refl), ((refl, λ _. refl), ((refl, λ _. refl), ((refl, λ _. refl), ((refl, λ _. refl), ((refl, λ _. refl), ((refl, λ _. refl), tt)))))))))
 
-pub config_requests_leave : replay (opening_world false (opening_state no_config 0)) config_requests ≡ record { state = record { objects = stored acme 1 ∷ []; last = 3; config = no_config }; hands = []; broken = false; torn = None }
+pub config_requests_leave : left (replay (opening_world false (opening_state no_config 0)) config_requests) ≡ record { state = record { objects = stored acme 1 ∷ []; last = 3; config = no_config }; broken = false; torn = None }
 unfolding counts is_copy size_of
 config_requests_leave = refl
 
@@ -261,9 +270,8 @@ pub listings_legal : IsHistory (opening_world false (opening_state no_config 0))
 unfolding counts is_copy size_of
 listings_legal = ((refl, λ _. refl), ((refl, λ _. refl), ((refl, λ _. refl), ((refl, λ _. refl), ((refl, λ _. refl), ((refl, λ _. refl), ((refl, λ _. refl), ((refl, λ _. refl), tt))))))))
 
-pub listings_leave : replay (opening_world false (opening_state no_config 0)) listings ≡ record {
+pub listings_leave : left (replay (opening_world false (opening_state no_config 0)) listings) ≡ record {
   state = record { objects = stored (codes "a") 3 ∷ stored (codes "a-b") 1 ∷ config (codes "a") (codes "b") 5 ∷ config (codes "a") (codes "d") 4 ∷ config (codes "a-b") (codes "c") 2 ∷ []; last = 5; config = no_config };
-  hands = [];
   broken = false;
   torn = None;
 }
@@ -282,7 +290,7 @@ pub used_up_legal : IsHistory (opening_world false (opening_state no_config 9223
 unfolding counts
 used_up_legal = ((refl, λ _. refl), ((refl, λ _. refl), ((refl, λ _. refl), tt)))
 
-pub used_up_leaves : replay (opening_world false (opening_state no_config 9223372036854775807)) used_up ≡ record { state = record { objects = []; last = 9223372036854775807; config = no_config }; hands = []; broken = false; torn = None }
+pub used_up_leaves : left (replay (opening_world false (opening_state no_config 9223372036854775807)) used_up) ≡ record { state = record { objects = []; last = 9223372036854775807; config = no_config }; broken = false; torn = None }
 unfolding counts
 used_up_leaves = refl
 
@@ -305,9 +313,8 @@ pub third_fails_legal : IsHistory (opening_world false (opening_state no_config 
 unfolding counts
 third_fails_legal = ((refl, λ _. refl), ((refl, λ _. refl), ((refl, λ none. cc), ((refl, λ changes. absurd (changes.1 refl)), ((refl, λ none. cc), tt)))))
 
-pub third_fails_leaves : replay (opening_world false (opening_state no_config 0)) third_fails ≡ record {
+pub third_fails_leaves : left (replay (opening_world false (opening_state no_config 0)) third_fails) ≡ record {
   state = record { objects = stored (codes "a") 1 ∷ stored (codes "b") 2 ∷ []; last = 2; config = no_config };
-  hands = [];
   broken = true;
   torn = Some (record { objects = stored (codes "a") 1 ∷ stored (codes "b") 2 ∷ stored (codes "c") 3 ∷ []; last = 3; config = no_config });
 }
@@ -323,7 +330,7 @@ unfolding counts
 no_write_when_broken legal = true≢false (legal.1 (refl, λ none. cc))
 
 -- a broken store answers a replacement by the same content, which writes nothing
-pub same_content_when_broken : IsLegal (record { state = record { objects = stored acme 1 ∷ []; last = 1; config = no_config }; hands = []; broken = true; torn = None }) (Request (Replace (new_namespace acme) None false) (One (stored acme 1) false))
+pub same_content_when_broken : IsLegal (record { state = record { objects = stored acme 1 ∷ []; last = 1; config = no_config }; hands = []; marked = λ _. false; broken = true; torn = None }) (Request (Replace (new_namespace acme) None false) (One (stored acme 1) false))
 unfolding same_object counts is_copy
 same_content_when_broken = (refl, λ changes. absurd (changes.1 refl))
 

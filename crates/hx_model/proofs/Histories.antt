@@ -1,5 +1,5 @@
 -- Histories one after the other, and the entry that a request is.
-use Rattle.std.proofs.Common.{◌≡◌, Bool, true, false, [], ◌∷◌, ◌++◌, refl, ap, ◌∙◌}
+use Rattle.std.proofs.Common.{◌≡◌, Some, Bool, true, false, [], ◌∷◌, ◌++◌, refl, ap, ◌∙◌}
 use Rattle.std.specs.Prelude.{◌||◌}
 use Rattle.hx_model.specs.declared.ask.Ask.{Ask}
 use Rattle.hx_model.specs.declared.ask.Answer.{Answer}
@@ -25,7 +25,7 @@ loses_to_fault-append [] k = refl
 loses_to_fault-append (e ∷ h) k = ap (λ b. is_lost_to_fault e || b) (loses_to_fault-append h k) ∙ or_assoc (is_lost_to_fault e) (loses_to_fault h) (loses_to_fault k)
 
 -- the entry of a request answers what the request did
-pub answer_of-request_entry : (ask : Ask) (answer : Answer) → answer_of (request_entry ask answer) ≡ answer
+pub answer_of-request_entry : (ask : Ask) (answer : Answer) → answer_of (request_entry ask answer) ≡ Some answer
 answer_of-request_entry ask (One x fresh) = refl
 answer_of-request_entry ask (Many kind objects version) = refl
 answer_of-request_entry ask (Gone version) = refl

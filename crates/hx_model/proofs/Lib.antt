@@ -20,3 +20,4 @@ pub mod RuleExamples
 pub mod PropagationExamples
 pub mod NextParents
 pub mod Displacing
+pub mod TurnExamples

@@ -28,6 +28,10 @@ pub mod Wanted
 pub mod Serving
 pub mod Valid
 pub mod Writes
+pub mod Keys
+pub mod Hands
+pub mod Settled
+pub mod Covered
 pub mod Machine
 pub mod Requests
 pub mod Parents

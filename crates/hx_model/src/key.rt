@@ -2,7 +2,7 @@
 use hx_object::{Id, Kind, Object, Text};
 
 /// A place that a reconciler looks after.
-#[derive(Drop)]
+#[derive(Clone, PartialEq, Eq, Hash, Drop)]
 pub enum Key {
     /// The copy of a kind and name in a namespace.
     Copy { ns: Text, kind: Kind, name: Text },
@@ -32,4 +32,22 @@ pub struct Guard {
 pub enum Write {
     Put(Object),
     Cut(Id),
+}
+
+/// How a worker's turn ended.
+#[derive(Clone, Copy, Debug, PartialEq, Eq)]
+pub enum Finish {
+    /// The worker held nothing.
+    Empty,
+    /// Its key wanted nothing.
+    Nothing,
+    /// What the write rests on has changed since the key was taken at version `seen`, or it would overwrite a source and isn't wanted any more.
+    Conflict { seen: u64, now: u64 },
+    /// No version is left.
+    Spent,
+    /// It was written, with this version.
+    Written(u64),
+    /// The store failed.
+    Fault,
+    NoMemory,
 }

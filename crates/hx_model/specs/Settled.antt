@@ -1,0 +1,54 @@
+-- When a state is settled: each namespace that takes part holds exactly the copies and the tree labels that its place prescribes.
+--     HasTreeLabels s n x  a namespace has the labels that its chain prescribes
+--     IsKeptIn             what lies in a place of copies, by the mode of the kind: the copy of the source that wins, or else no copy
+--     IsSettled s          so it is in each namespace that takes part
+-- Objects are compared without their versions. What is ignored is left alone.
+use Rattle.std.specs.Prelude.{◌≡◌, ℕ, true, false, List, Option, Some, None, IfSome}
+use Rattle.hx_object.specs.Kinds.{can_be_copied}
+use Rattle.hx_object.specs.declared.kind.Kind.{Kind}
+use Rattle.hx_object.specs.declared.object.Mode.{Mode}
+use Rattle.hx_object.specs.declared.object.Mode.TheVariants.{Propagate, AllowPropagate, Remove, Ignore}
+use Rattle.hx_object.specs.declared.object.Object.{Object}
+use Rattle.hx_model.specs.Forest.{chain_of}
+use Rattle.hx_model.specs.Limits.{is_copy}
+use Rattle.hx_model.specs.Modes.{mode_of}
+use Rattle.hx_model.specs.Propagation.{copy_of, id_in, top_source}
+use Rattle.hx_model.specs.State.{State, object_at, namespace_id, with_version}
+use Rattle.hx_model.specs.Tree.{forest_of}
+use Rattle.hx_model.specs.TreeLabels.{is_open, prescribed_labels}
+
+-- ---- places of copies
+
+-- a copy doesn't lie there
+abbrev pub HasNoCopy : Option Object → Type 0
+HasNoCopy place = IfSome place (λ x. is_copy x ≡ false)
+
+-- the copy of the source that wins lies there or, where none does, no copy
+abbrev pub HasCopyOf : Option Object → List ℕ → Option Object → Type 0
+HasCopyOf (Some top) n place = (x : Object) × (place ≡ Some x) × (with_version x 0 ≡ copy_of top n)
+HasCopyOf None n place = HasNoCopy place
+
+-- by the mode of the kind
+abbrev pub IsKeptIn : Mode → Option Object → List ℕ → Option Object → Type 0
+IsKeptIn Propagate top n place = HasCopyOf top n place
+IsKeptIn AllowPropagate top n place = HasCopyOf top n place
+IsKeptIn Remove top n place = HasNoCopy place
+IsKeptIn Ignore top n place = Unit {0}
+
+-- ---- namespaces
+
+-- the namespace has the labels that its chain prescribes
+abbrev pub HasTreeLabels : State → List ℕ → Object → Type 0
+HasTreeLabels s n x = x.labels ≡ prescribed_labels (chain_of (forest_of s) n) x.labels
+
+-- each of its places holds what its labels and the sources above prescribe
+abbrev pub HasCopies : State → List ℕ → Object → Type 0
+HasCopies s n x = (kind : Kind) (name : List ℕ) → can_be_copied kind ≡ true → IsKeptIn (mode_of s kind) (top_source s n kind name x.labels) n (object_at s.objects (id_in kind name n))
+
+pub record IsSettledIn (s : State) (n : List ℕ) (x : Object) : Type 0 where
+  pub labels : HasTreeLabels s n x
+  pub copies : HasCopies s n x
+
+-- each namespace that takes part
+abbrev pub IsSettled : State → Type 0
+IsSettled s = (n : List ℕ) (x : Object) → object_at s.objects (namespace_id n) ≡ Some x → is_open (forest_of s) n ≡ true → IsSettledIn s n x
