@@ -24,7 +24,6 @@ use Rattle.hx_model.specs.declared.key.Key.TheVariants as key
 use Rattle.hx_model.specs.declared.key.Write.{Write}
 use Rattle.hx_model.specs.declared.key.Write.TheVariants.{Put, Cut}
 use Rattle.hx_rules.specs.Briefs.{facts_of, planned}
-use Rattle.hx_rules.specs.declared.brief.Facts.{Facts}
 use Rattle.hx_rules.specs.declared.brief.Facts.TheVariants as facts
 
 abbrev acme : List ℕ
@@ -147,13 +146,9 @@ tree excluded = record {
 abbrev orphan : State
 orphan = record (tree []) { objects = with_version (new_namespace team) 2 ∷ under team acme 3 ∷ role team (from app) [] (codes "{}") 5 ∷ [] }
 
-abbrev plan_by : Option Facts → Option Write
-plan_by (Some found) = planned (key.Copy team Role (codes "r")) found
-plan_by None = None
-
 -- what is planned for r in team
 abbrev plan_in : State → Option Write
-plan_in s = plan_by (facts_of s (key.Copy team Role (codes "r")))
+plan_in s = planned (key.Copy team Role (codes "r")) (facts_of s (key.Copy team Role (codes "r")))
 
 included : plan_in (tree []) ≡ Some (Put (role team (from acme) [] (codes "{}") 0))
 unfolding is_copy same_object
@@ -201,3 +196,13 @@ right_labels = refl
 halted_labels : labels_of moved_app false ≡ None
 unfolding is_tree_key same_object digits
 halted_labels = refl
+
+-- ---- other keys
+
+-- nothing of a state counts, and nothing is planned
+other_keys : planned (key.Report app) (facts_of (tree []) (key.Report app)) ≡ None
+other_keys = refl
+
+-- facts that aren't of the key plan nothing
+other_facts : planned (key.Tree app) facts.Unserved ≡ None
+other_facts = refl

@@ -15,20 +15,14 @@ use Rattle.hx_rules.specs.declared.brief.Facts.{Facts}
 use Rattle.hx_rules.specs.declared.brief.Facts.TheVariants as found
 use Rattle.hx_rules.specs.Briefs.{IsPlanned, IsShort, IsWanted, facts_of, planned}
 
--- the write by the facts, where there are any
-by_facts : Key → Option Facts → Option Write
-by_facts k (Some facts) = planned k facts
-by_facts k None = None
-
-facts_want : (s : State) (k : Key) (facts : Facts) → facts_of s k ≡ Some facts → planned k facts ≡ wanted_write s k
-unfolding by_facts
-facts_want s (key.Copy n kind name) facts e = sym (ap (by_facts (key.Copy n kind name)) e)
-facts_want s (key.Tree n) facts e = sym (ap (by_facts (key.Tree n)) e)
-facts_want s (key.Report n) facts e = absurd (let h : None ≡ Some facts = e in cc)
-facts_want s (key.Child n name) facts e = absurd (let h : None ≡ Some facts = e in cc)
-facts_want s (key.Anchor n name) facts e = absurd (let h : None ≡ Some facts = e in cc)
-facts_want s (key.Used n name) facts e = absurd (let h : None ≡ Some facts = e in cc)
-facts_want s (key.Purge n) facts e = absurd (let h : None ≡ Some facts = e in cc)
+facts_want : (s : State) (k : Key) (facts : Facts) → facts ≡ facts_of s k → planned k facts ≡ wanted_write s k
+facts_want s (key.Copy n kind name) facts e = ap (planned (key.Copy n kind name)) e
+facts_want s (key.Tree n) facts e = ap (planned (key.Tree n)) e
+facts_want s (key.Report n) facts e = ap (planned (key.Report n)) e
+facts_want s (key.Child n name) facts e = ap (planned (key.Child n name)) e
+facts_want s (key.Anchor n name) facts e = ap (planned (key.Anchor n name)) e
+facts_want s (key.Used n name) facts e = ap (planned (key.Used n name)) e
+facts_want s (key.Purge n) facts e = ap (planned (key.Purge n)) e
 
 pub planned_is_wanted : (brief : Brief) (write : Option Write) → IsPlanned brief write → IsWanted brief write
 planned_is_wanted brief write is s valid stands = is.planned ∙ facts_want s brief.key brief.facts stands.facts
@@ -36,6 +30,7 @@ planned_is_wanted brief write is s valid stands = is.planned ∙ facts_want s br
 pub short_none : (facts : Facts) → IsShort facts None
 short_none (found.Copy ns takes_part place mode sources) = tt
 short_none (found.Tree ns takes_part chain) = tt
+short_none found.Unserved = tt
 
 pub short_copy : (r : Result (Option Write) NoMemory) (facts : Facts) (ns : Option Object) (takes_part : Bool) (place : Option Object) (mode : Mode) (sources : List Object) → facts ≡ found.Copy ns takes_part place mode sources
     → IfOk r (λ write. IsShort facts write)

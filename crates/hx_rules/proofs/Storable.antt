@@ -33,7 +33,7 @@ use Rattle.hx_model.proofs.Objects.{found_id}
 use Rattle.hx_model.proofs.Planting.{there-objects}
 use Rattle.hx_model.proofs.Storing.{All-found}
 use Rattle.hx_model.proofs.Walking.{chain_there}
-use Rattle.hx_rules.specs.Briefs.{IsPlanned, IsShort, IsStorable, IsStorableFor, facts_of, planned}
+use Rattle.hx_rules.specs.Briefs.{IsPlanned, IsShort, IsStorable, IsStorableFor, facts_of, planned, planned_by}
 use Rattle.hx_rules.specs.declared.brief.Brief.{Brief}
 use Rattle.hx_rules.specs.declared.brief.Facts.{Facts}
 use Rattle.hx_rules.specs.declared.brief.Facts.TheVariants as facts
@@ -140,33 +140,28 @@ chain_named s n all =
 
 -- ---- what is planned
 
-by_facts : Key → Option Facts → Option Write
-by_facts k (Some found) = planned k found
-by_facts k None = None
-
-short_by : Option Facts → Option Write → Type 0
-short_by (Some found) write = IsShort found write
-short_by None write = Unit {0}
-
 planned_tree : (s : State) (n : List ℕ) (write : Option Write) → AllByRecursion IsServed s.objects
     → IsShort (facts.Tree (object_at s.objects (namespace_id n)) (is_open (forest_of s) n) (chain_of (forest_of s) n)) write → write ≡ tree_write (is_open (forest_of s) n) (chain_of (forest_of s) n) (object_at s.objects (namespace_id n)) → IsStorable write
 planned_tree s n None all short e = tt
 planned_tree s n (Some write) all short e =
     subst IsStorable (sym e) (tree_storable (is_open (forest_of s) n) (chain_of (forest_of s) n) (object_at s.objects (namespace_id n)) (λ y there. All-found IsServed (namespace_id n) y s.objects all there) (chain_named s n all) short)
 
-planned_storable : (s : State) (k : Key) (found : Facts) (write : Option Write) → AllByRecursion IsServed s.objects → facts_of s k ≡ Some found → IsShort found write → write ≡ planned k found → IsStorable write
-unfolding by_facts short_by
+planned_storable : (s : State) (k : Key) (found : Facts) (write : Option Write) → AllByRecursion IsServed s.objects → found ≡ facts_of s k → IsShort found write → write ≡ planned k found → IsStorable write
 planned_storable s (key.Copy n kind name) found write all e short is =
-    subst IsStorable (sym (is ∙ sym (ap (by_facts (key.Copy n kind name)) e)))
+    subst IsStorable (sym (is ∙ ap (planned (key.Copy n kind name)) e))
     (copy_storable (is_open (forest_of s) n) (object_at s.objects (namespace_id n)) (mode_of s kind) (sources_above s n kind name) n (object_at s.objects (id_in kind name n)) (λ y there. named_there s.objects n y all there)
     (sources_served s.objects kind name (tail_of (chain_of (forest_of s) n)) all))
 planned_storable s (key.Tree n) found write all e short is =
-    planned_tree s n write all (subst (λ (o : Option Facts). short_by o write) (sym e) short) (is ∙ sym (ap (by_facts (key.Tree n)) e))
-planned_storable s (key.Report n) found write all e short is = absurd (let h : None ≡ Some found = e in cc)
-planned_storable s (key.Child n name) found write all e short is = absurd (let h : None ≡ Some found = e in cc)
-planned_storable s (key.Anchor n name) found write all e short is = absurd (let h : None ≡ Some found = e in cc)
-planned_storable s (key.Used n name) found write all e short is = absurd (let h : None ≡ Some found = e in cc)
-planned_storable s (key.Purge n) found write all e short is = absurd (let h : None ≡ Some found = e in cc)
+    planned_tree s n write all (subst (λ (f : Facts). IsShort f write) e short) (is ∙ ap (planned (key.Tree n)) e)
+planned_storable s (key.Report n) found write all e short is = subst IsStorable (sym (is ∙ ap (planned (key.Report n)) e)) tt
+planned_storable s (key.Child n name) found write all e short is = subst IsStorable (sym (is ∙ ap (planned (key.Child n name)) e)) tt
+planned_storable s (key.Anchor n name) found write all e short is = subst IsStorable (sym (is ∙ ap (planned (key.Anchor n name)) e)) tt
+planned_storable s (key.Used n name) found write all e short is = subst IsStorable (sym (is ∙ ap (planned (key.Used n name)) e)) tt
+planned_storable s (key.Purge n) found write all e short is = subst IsStorable (sym (is ∙ ap (planned (key.Purge n)) e)) tt
 
 pub storable : (brief : Brief) (write : Option Write) → IsPlanned brief write → IsStorableFor brief write
 storable brief write is s valid stands = planned_storable s brief.key brief.facts write (all_served s.last s.objects valid.stored) stands.facts is.short is.planned
+
+-- the same of a brief that is seen as it is
+pub storable_seen : (brief seen : Brief) (write : Option Write) → seen ≡ brief → write ≡ planned_by seen → IsShort seen.facts write → IsStorableFor brief write
+storable_seen brief seen write same planned short = subst (λ (b : Brief). IsStorableFor b write) same (storable seen write (record { planned = planned; short = short }))

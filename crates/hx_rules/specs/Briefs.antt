@@ -1,15 +1,17 @@
 -- What a brief stands for, and what is planned for it.
---     facts_of s key        what of a state the write of a key depends on. The keys that aren't served yet have none
+--     facts_of s key        what of a state the write of a key depends on
 --     StandsFor brief s     the brief is copied out of a state
 --     planned_by brief      the write, by the brief alone
+--     hand_by worker brief  what a worker holds that was given the brief
 --     IsWanted brief write  the write is the wanted one of every valid state that the brief stands for
 --     IsStorableFor brief write   what is put there may be stored in every such state
 --     IsPlanned brief write what every plan keeps
 --     Planned               a brief and its write
-use Rattle.std.specs.Prelude.{◌≡◌, ◌<◌, ◌^◌, Bool, false, length, Option, Some, None}
+use Rattle.std.specs.Prelude.{ℕ, ◌≡◌, ◌<◌, ◌^◌, Bool, false, length, Option, Some, None}
 use Rattle.hx_object.specs.declared.object.Object.{Object}
 use Rattle.hx_model.specs.Answers.{same_object}
 use Rattle.hx_model.specs.Forest.{chain_of}
+use Rattle.hx_model.specs.Hands.{Hand}
 use Rattle.hx_model.specs.Modes.{mode_of}
 use Rattle.hx_model.specs.Propagation.{id_in, sources_above}
 use Rattle.hx_model.specs.Serving.{IsServed}
@@ -29,17 +31,17 @@ use Rattle.hx_rules.specs.declared.brief.Facts.TheVariants as facts
 -- ---- what is copied out of a state
 
 -- the namespace, whether it takes part, and what its write looks at beside that
-abbrev pub facts_of : State → Key → Option Facts
+abbrev pub facts_of : State → Key → Facts
 facts_of s (key.Copy n kind name) =
-    Some (facts.Copy (object_at s.objects (namespace_id n)) (is_open (forest_of s) n) (object_at s.objects (id_in kind name n)) (mode_of s kind) (sources_above s n kind name))
-facts_of s (key.Tree n) = Some (facts.Tree (object_at s.objects (namespace_id n)) (is_open (forest_of s) n) (chain_of (forest_of s) n))
-facts_of s _ = None
+    facts.Copy (object_at s.objects (namespace_id n)) (is_open (forest_of s) n) (object_at s.objects (id_in kind name n)) (mode_of s kind) (sources_above s n kind name)
+facts_of s (key.Tree n) = facts.Tree (object_at s.objects (namespace_id n)) (is_open (forest_of s) n) (chain_of (forest_of s) n)
+facts_of s _ = facts.Unserved
 
 -- its version, its guards and its facts are those of the state, for its key
 pub record StandsFor (brief : Brief) (s : State) : Type 0 where
   pub seen : brief.seen ≡ s.last
   pub guards : brief.guards ≡ guards_of s brief.key
-  pub facts : facts_of s brief.key ≡ Some brief.facts
+  pub facts : brief.facts ≡ facts_of s brief.key
 
 -- ---- what is planned
 
@@ -56,6 +58,10 @@ planned _ _ = None
 
 abbrev pub planned_by : Brief → Option Write
 planned_by brief = planned brief.key brief.facts
+
+-- what a worker holds that was given a brief
+abbrev pub hand_by : ℕ → Brief → Hand
+hand_by worker brief = record { worker = worker; key = brief.key; seen = brief.seen; guards = brief.guards; write = planned_by brief }
 
 -- the wanted one of every valid state that the brief stands for
 abbrev pub IsWanted : Brief → Option Write → Type 0

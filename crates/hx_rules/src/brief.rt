@@ -1,6 +1,11 @@
 // What a plan is made from.
+ghost use Rattle.std.specs.Prelude.{◌≡◌, IfOk};
+
 use hx_model::{Guard, Key};
-use hx_object::{List, Mode, Shared, Text};
+use hx_object::{List, Mode, NoMemory, Shared, Text};
+use std::alloc::Global;
+use std::marker::Model;
+use std::sync::Arc;
 
 /// What a plan is made from, copied out of a state: the key, and what of the state its write depends on.
 #[derive(Drop)]
@@ -38,4 +43,53 @@ pub enum Facts {
         /// The namespace, its parent, the parent's parent and so on.
         chain: List<Text>,
     },
+    /// Of the keys that want nothing yet: those of reports, subnamespaces, anchors, quotas and removals.
+    Unserved,
+}
+
+/// A brief with several owners. Contracts see it as the brief itself.
+///
+/// Whoever gave a brief out keeps it too, so that it knows what a plan was made from.
+#[derive(Drop)]
+pub struct SharedBrief {
+    inner: Arc<Brief>,
+}
+
+impl Model for SharedBrief {
+    ghost use Rattle.std.specs.Arc.{arc_value};
+    ghost use Rattle.hx_rules.specs.Sharing.{brief_code};
+    ghost use Rattle.hx_rules.specs.declared.brief.Brief.{Brief};
+
+    ghost Value = { Brief };
+
+    ghost coded = { brief_code };
+
+    ghost view = { λ s. arc_value s.inner };
+}
+
+impl SharedBrief {
+    /// The first owner of a brief.
+    pub fn new(alloc: Global, brief: Brief) -> Result<SharedBrief, NoMemory>
+        ensures { IfOk result (λ shared. shared ≡ brief) }
+    {
+        Ok(SharedBrief {
+            inner: Arc::new(alloc, brief)?,
+        })
+    }
+
+    /// One more owner. It takes no memory, and fails only where there are too many owners to count, which counts as want of memory.
+    pub fn share(&self) -> Result<SharedBrief, NoMemory>
+        ensures { IfOk result (λ shared. shared ≡ self.now) }
+    {
+        Ok(SharedBrief {
+            inner: Arc::try_clone(&self.inner)?,
+        })
+    }
+
+    /// The brief.
+    pub fn brief(&self) -> &Brief
+        ensures { result.now ≡ self.now }
+    {
+        &self.inner
+    }
 }

@@ -9,8 +9,8 @@ ghost use Rattle.hx_model.specs.State.{with_version};
 ghost use Rattle.hx_model.specs.Wanted.{copied_in, placed, without_copy};
 ghost use Rattle.hx_rules.specs.Briefs.{is_placed};
 
-use crate::sources::{is_copy, top_source};
-use hx_model::Write;
+use crate::sources::top_source;
+use hx_model::{Write, is_copy};
 use hx_object::well_known::INHERITED_FROM;
 use hx_object::{Id, Mode, NoMemory, Object, Pairs, Payload, Shared, Text};
 use std::alloc::Global;

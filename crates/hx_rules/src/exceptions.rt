@@ -48,7 +48,8 @@ fn passes_tree_select(alloc: Global, source: &Object, labels: &Pairs) -> Result<
     }
 }
 
-fn passes_none(source: &Object) -> bool
+/// Whether the exception that keeps a source at home lets it go.
+pub(crate) fn passes_none(source: &Object) -> bool
     ensures { result ≡ passes is_false (none_of source.now) }
 {
     match exception(source, NONE_EXCEPTION) {

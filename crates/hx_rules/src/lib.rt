@@ -1,6 +1,6 @@
 //! What a reconciler writes for a key: a plan, which is made from a small brief without the state that the brief was copied out of.
 //!
-//! Plans are made for the keys of copies and of tree labels. The other keys have no facts yet, so that no brief is of them. Which sources go where, and which labels a place prescribes, is told to others as well.
+//! Plans are made for the keys of copies and of tree labels. The other keys want nothing yet. Which sources go where, and which labels a place prescribes, is told to others as well.
 #![tactic(auto)]
 
 mod brief;
@@ -11,9 +11,9 @@ mod planning;
 mod sources;
 mod tree_labels;
 
-pub use brief::{Brief, Facts};
+pub use brief::{Brief, Facts, SharedBrief};
 pub use exceptions::exception;
 pub use planned::Plan;
 pub use planning::plan;
-pub use sources::{goes_to, is_source, stays_home};
+pub use sources::{goes_to, is_sent, stays_home};
 pub use tree_labels::prescribed_labels;

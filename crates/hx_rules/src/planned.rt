@@ -2,7 +2,7 @@
 ghost use Rattle.std.specs.Prelude.{◌≡◌, option_copied};
 ghost use Rattle.hx_rules.specs.Briefs.{IsShort, IsStorableFor, IsWanted, planned_by};
 
-use crate::Brief;
+use crate::{Brief, SharedBrief};
 use hx_model::Write;
 use std::marker::Model;
 
@@ -11,7 +11,7 @@ use std::marker::Model;
 /// Contracts see the two. The write is the wanted one of every valid state that the brief stands for.
 #[derive(Drop)]
 pub struct Plan {
-    brief: Brief,
+    brief: SharedBrief,
     write: Option<Write>,
 }
 
@@ -27,7 +27,7 @@ impl Model for Plan {
 
 impl Plan {
     /// A plan of the write that its brief asks for.
-    pub(crate) fn new(brief: Brief, write: Option<Write>) -> Plan
+    pub(crate) fn new(brief: SharedBrief, write: Option<Write>) -> Plan
         requires planned { write ≡ planned_by brief }
         requires short { IsShort brief.facts write }
         ensures brief { result.brief ≡ brief }
@@ -40,12 +40,13 @@ impl Plan {
     pub fn brief(&self) -> &Brief
         ensures { result.now ≡ self.now.brief }
     {
-        &self.brief
+        self.brief.brief()
     }
 
     /// What is to be written, if anything.
     pub fn write(&self) -> Option<&Write>
         ensures write { option_copied result ≡ self.now.write }
+        ensures planned { self.now.write ≡ planned_by self.now.brief }
         ensures wanted { IsWanted self.now.brief self.now.write }
         ensures storable { IsStorableFor self.now.brief self.now.write }
     {
@@ -53,9 +54,10 @@ impl Plan {
     }
 
     /// The brief and the write.
-    pub fn into_parts(self) -> (Brief, Option<Write>)
+    pub fn into_parts(self) -> (SharedBrief, Option<Write>)
         ensures brief { result.0 ≡ self.brief }
         ensures write { result.1 ≡ self.write }
+        ensures planned { result.1 ≡ planned_by result.0 }
         ensures wanted { IsWanted result.0 result.1 }
         ensures storable { IsStorableFor result.0 result.1 }
     {

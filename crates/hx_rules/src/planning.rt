@@ -4,7 +4,7 @@ ghost use Rattle.hx_rules.specs.Briefs.{IsShort, IsStorableFor, IsWanted, planne
 
 use crate::copies::wanted_copy;
 use crate::tree_labels::wanted_labels;
-use crate::{Brief, Facts, Plan};
+use crate::{Brief, Facts, Plan, SharedBrief};
 use hx_model::{Key, Write};
 use hx_object::NoMemory;
 use std::alloc::Global;
@@ -12,13 +12,14 @@ use std::alloc::Global;
 /// The plan of a brief. Where no memory is left, the brief comes back.
 ///
 /// The write is that of HNC's reconcilers (HNC user guide, concepts): in a namespace that takes part, a place of copies holds the copy of the farthest source that goes there, and the namespace's labels tell its ancestors.
-pub fn plan(alloc: Global, brief: Brief) -> Result<Plan, Brief>
+pub fn plan(alloc: Global, brief: SharedBrief) -> Result<Plan, SharedBrief>
     ensures brief { IfOk result (λ planned. planned.brief ≡ brief) }
+    ensures planned { IfOk result (λ planned. planned.write ≡ planned_by brief) }
     ensures wanted { IfOk result (λ planned. IsWanted brief planned.write) }
     ensures storable { IfOk result (λ planned. IsStorableFor brief planned.write) }
     ensures given_back { IfErr result (λ same. same ≡ brief) }
 {
-    match write_of(alloc, &brief) {
+    match write_of(alloc, brief.brief()) {
         Ok(write) => Ok(Plan::new(brief, write)),
         Err(NoMemory) => Err(brief),
     }

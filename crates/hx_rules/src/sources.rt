@@ -1,10 +1,11 @@
 // Which source wins at a place.
-ghost use Rattle.std.specs.Prelude.{◌≡◌, IfOk, option_copied};
-ghost use Rattle.hx_model.specs.Limits.{is_copy};
-ghost use Rattle.hx_model.specs.Propagation.{goes_to, is_source, is_token, stays_home, top_of};
+ghost use Rattle.std.specs.Prelude.{◌≡◌, ◌&&◌, not, IfOk, option_copied};
+ghost use Rattle.hx_model.specs.Exceptions.{is_false, none_of, passes};
+ghost use Rattle.hx_model.specs.Propagation.{goes_to, is_propagated, is_source, is_token, stays_home, top_of};
 
-use crate::exceptions::is_allowed;
-use hx_object::well_known::{INHERITED_FROM, ROOT_CERTIFICATES};
+use crate::exceptions::{is_allowed, passes_none};
+use hx_model::is_source;
+use hx_object::well_known::ROOT_CERTIFICATES;
 use hx_object::{Kind, Mode, NoMemory, Object, Pairs, Payload, Shared};
 use std::alloc::Global;
 
@@ -35,18 +36,14 @@ pub fn goes_to(alloc: Global, mode: Mode, source: &Object, labels: &Pairs) -> Re
     is_allowed(alloc, source, labels)
 }
 
-pub fn is_source(object: &Object) -> bool
-    ensures { result ≡ is_source object.now }
+/// Whether a source of a kind in this mode goes to some labels or other: what its exceptions say of labels counts for nothing.
+pub fn is_sent(mode: Mode, source: &Object) -> bool
+    ensures { result ≡ (is_propagated mode && (is_source source.now && (not (stays_home source.now) && passes is_false (none_of source.now)))) }
 {
-    object.id.kind.can_be_copied() && !is_copy(object)
-}
-
-/// Whether the object is a copy, which its label tells.
-#[tactic(auto, unfolding(hx_model::specs::Limits::is_copy))]
-pub(crate) fn is_copy(object: &Object) -> bool
-    ensures { result ≡ is_copy object.now }
-{
-    object.id.kind.can_be_copied() && object.labels.get(INHERITED_FROM).is_some()
+    matches!(mode, Mode::Propagate)
+        && is_source(source)
+        && !stays_home(source)
+        && passes_none(source)
 }
 
 /// Whether the object goes nowhere: the certificates that Kubernetes keeps in each namespace, and the token of a service account.
