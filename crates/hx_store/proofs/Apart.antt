@@ -13,8 +13,8 @@ use Rattle.hx_object.specs.declared.kind.Kind.{Kind}
 use Rattle.hx_object.specs.declared.object.Id.{Id}
 use Rattle.hx_object.specs.declared.object.Object.{Object}
 use Rattle.hx_model.specs.State.{same_id, object_at}
-use Rattle.hx_store.specs.Places.{AreShelves, IsShelf, found, place_in, place_of, of_place, objects_in, objects_of}
-use Rattle.hx_store.specs.declared.shelf.Shelf.{Shelf}
+use Rattle.hx_store.specs.Places.{entries_of, AreShelves, IsBoard, found, place_in, place_of, of_place, objects_in, objects_of}
+use Rattle.hx_store.specs.declared.board.Board.{Board}
 use Rattle.hx_store.specs.declared.shelves.Shelves.{Shelves}
 use Rattle.hx_store.proofs.Finding.{none_among, each, level, id_of, apart_in, apart_of, own_in}
 
@@ -54,23 +54,23 @@ module _ {Y V : Type 0} (f : V → List Object) where
           level f x.id (key x.id) es (IsDistinct-tail string_eq e.0 (keys_of es) distinct) (others x.id).1
           ∙ ap (option_and_then (λ v. object_at (f v) x.id)) (none_among e.0 (key x.id) es ((bytes_eq-Decides (key x.id) (string_bytes e.0)).1 same) (IsDistinct-head string_eq e.0 (keys_of es) distinct))
 
-module _ (kind : Kind) (ns : List ℕ) (shelf : Shelf) (distinct : IsShelf shelf) (own : (m : List ℕ) (x : Object) → found (place_in shelf m) ≡ Some x → x.id ≡ id_of kind ns m) where
-  named : (m : List ℕ) (v : Option Object) → place_in shelf m ≡ Some v → AllByRecursion (λ x. x.id.name ≡ m) (of_place v)
+module _ (kind : Kind) (ns : List ℕ) (board : Board) (distinct : IsBoard board) (own : (m : List ℕ) (x : Object) → found (place_in board m) ≡ Some x → x.id ≡ id_of kind ns m) where
+  named : (m : List ℕ) (v : Option Object) → place_in board m ≡ Some v → AllByRecursion (λ x. x.id.name ≡ m) (of_place v)
   named m None e = tt
   named m (Some x) e = (ap (λ (i : Id). i.name) (own m x (ap found e)), tt)
 
-  pub lies_in : AllByRecursion (λ x. x.id.ns ≡ ns) (objects_in shelf)
-  lies_in = all_flat of_place (λ x. x.id.ns ≡ ns) shelf.places.entries (each (λ m v. AllByRecursion (λ x. x.id.ns ≡ ns) (of_place v)) shelf.places.entries distinct lies)
+  pub lies_in : AllByRecursion (λ x. x.id.ns ≡ ns) (objects_in board)
+  lies_in = all_flat of_place (λ x. x.id.ns ≡ ns) (entries_of board) (each (λ m v. AllByRecursion (λ x. x.id.ns ≡ ns) (of_place v)) (entries_of board) distinct lies)
     where
-      lies : (m : List ℕ) (v : Option Object) → place_in shelf m ≡ Some v → AllByRecursion (λ x. x.id.ns ≡ ns) (of_place v)
+      lies : (m : List ℕ) (v : Option Object) → place_in board m ≡ Some v → AllByRecursion (λ x. x.id.ns ≡ ns) (of_place v)
       lies m None e = tt
       lies m (Some x) e = (ap (λ (i : Id). i.ns) (own m x (ap found e)), tt)
 
-  pub shelf_apart : AreApart (objects_in shelf)
-  shelf_apart = flat_apart of_place (λ i. i.name) shelf.places.entries distinct
-      (each (λ m v. AreApart (of_place v)) shelf.places.entries distinct (λ m v e. one v))
-      (each (λ m v. AllByRecursion (λ x. x.id.name ≡ m) (of_place v)) shelf.places.entries distinct named)
-      (λ q. each (λ m v. bytes_eq q.name m ≡ false → object_at (of_place v) q ≡ None) shelf.places.entries distinct (apart_in kind ns shelf distinct own q))
+  pub board_apart : AreApart (objects_in board)
+  board_apart = flat_apart of_place (λ i. i.name) (entries_of board) distinct
+      (each (λ m v. AreApart (of_place v)) (entries_of board) distinct (λ m v e. one v))
+      (each (λ m v. AllByRecursion (λ x. x.id.name ≡ m) (of_place v)) (entries_of board) distinct named)
+      (λ q. each (λ m v. bytes_eq q.name m ≡ false → object_at (of_place v) q ≡ None) (entries_of board) distinct (apart_in kind ns board distinct own q))
     where
       one : (v : Option Object) → AreApart (of_place v)
       one None = tt
@@ -79,6 +79,6 @@ module _ (kind : Kind) (ns : List ℕ) (shelf : Shelf) (distinct : IsShelf shelf
 module _ (kind : Kind) (shelves : Shelves) (distinct : AreShelves shelves) (own : (n m : List ℕ) (x : Object) → found (place_of shelves n m) ≡ Some x → x.id ≡ id_of kind n m) where
   pub shelves_apart : AreApart (objects_of shelves)
   shelves_apart = flat_apart objects_in (λ i. i.ns) shelves.shelves.entries distinct.0
-      (each (λ n shelf. AreApart (objects_in shelf)) shelves.shelves.entries distinct.0 (λ n shelf e. shelf_apart kind n shelf (distinct.1 n shelf e).0 (own_in kind shelves distinct own n shelf e)))
-      (each (λ n shelf. AllByRecursion (λ x. x.id.ns ≡ n) (objects_in shelf)) shelves.shelves.entries distinct.0 (λ n shelf e. lies_in kind n shelf (distinct.1 n shelf e).0 (own_in kind shelves distinct own n shelf e)))
-      (λ q. each (λ n shelf. bytes_eq q.ns n ≡ false → object_at (objects_in shelf) q ≡ None) shelves.shelves.entries distinct.0 (apart_of kind shelves distinct own q))
+      (each (λ n board. AreApart (objects_in board)) shelves.shelves.entries distinct.0 (λ n board e. board_apart kind n board (distinct.1 n board e).0 (own_in kind shelves distinct own n board e)))
+      (each (λ n board. AllByRecursion (λ x. x.id.ns ≡ n) (objects_in board)) shelves.shelves.entries distinct.0 (λ n board e. lies_in kind n board (distinct.1 n board e).0 (own_in kind shelves distinct own n board e)))
+      (λ q. each (λ n board. bytes_eq q.ns n ≡ false → object_at (objects_in board) q ≡ None) shelves.shelves.entries distinct.0 (apart_of kind shelves distinct own q))

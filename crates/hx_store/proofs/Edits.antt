@@ -6,11 +6,14 @@ use Rattle.std.specs.Map.{keys_of, lookup}
 use Rattle.std.specs.List.{IsDistinct}
 use Rattle.std.specs.Str.{bytes_eq}
 use Rattle.std.specs.String.{string_bytes, string_eq}
+use Rattle.std.proofs.lemmas.Map.Keys.{IsDistinct-cons}
 use Rattle.std.proofs.lemmas.Map.Text.{hash_map_updates_text}
 use Rattle.std.proofs.lemmas.Slice.Eq.{bytes_eq-Decides}
 use Rattle.std.proofs.Common.{Global}
 use Rattle.hx_object.specs.declared.object.Object.{Object}
-use Rattle.hx_store.specs.Places.{Place, EditsShelf, EditsShelves, IsShelf, IsFull, IsNewShelf, AreShelves, AreShelvesBut, made, filled, unchanged, place_in, place_of, shelf_in}
+use Rattle.hx_store.specs.Places.{entries_of, place_on, EditsShelf, Place, EditsBoard, EditsShelves, IsBoard, IsFull, IsNewBoard, AreShelves, AreShelvesBut, made, filled, unchanged, place_in, place_of, board_in}
+use Rattle.hx_store.specs.declared.board.Board.{Board}
+use Rattle.hx_store.specs.declared.board.Board.TheVariants.{Empty, One}
 use Rattle.hx_store.specs.declared.shelf.Shelf.{Shelf}
 use Rattle.hx_store.specs.declared.shelves.Shelves.{Shelves}
 
@@ -36,23 +39,23 @@ module _ (g : Place → Place) (old new : List ℕ → Place) (name : List ℕ) 
       by false e = refl
 
 module _ (g : Place → Place) (old new : Shelves) (ns name : List ℕ) where
-  -- a shelf that is set to an edited one
-  pub lift_edits : (was shelf : Shelf) → shelf_in old ns ≡ Some was → ((q : List ℕ) → shelf_in new q ≡ cond (bytes_eq ns q) (Some shelf) (shelf_in old q)) → EditsShelf g was shelf name → EditsShelves g old new ns name
-  lift_edits was shelf there is edits n m = ap (option_and_then (λ s. place_in s m)) (is n) ∙ by (bytes_eq ns n) refl
+  -- a board that is set to an edited one
+  pub lift_edits : (was board : Board) → board_in old ns ≡ Some was → ((q : List ℕ) → board_in new q ≡ cond (bytes_eq ns q) (Some board) (board_in old q)) → EditsBoard g was board name → EditsShelves g old new ns name
+  lift_edits was board there is edits n m = ap (option_and_then (λ s. place_in s m)) (is n) ∙ by (bytes_eq ns n) refl
     where
-      by : (b : Bool) → bytes_eq ns n ≡ b → option_and_then (λ s. place_in s m) (cond b (Some shelf) (shelf_in old n)) ≡ cond (b && bytes_eq name m) (g (place_of old n m)) (place_of old n m)
+      by : (b : Bool) → bytes_eq ns n ≡ b → option_and_then (λ s. place_in s m) (cond b (Some board) (board_in old n)) ≡ cond (b && bytes_eq name m) (g (place_of old n m)) (place_of old n m)
       by true e =
-          let found : shelf_in old n ≡ Some was = ap (shelf_in old) (sym ((bytes_eq-Decides ns n).0 e)) ∙ there in
+          let found : board_in old n ≡ Some was = ap (board_in old) (sym ((bytes_eq-Decides ns n).0 e)) ∙ there in
           edits m ∙ ap (λ o. let p = option_and_then (λ s. place_in s m) o in cond (bytes_eq name m) (g p) p) (sym found)
       by false e = refl
 
-  -- where there is no shelf, and g makes none
-  pub none_edits : shelf_in old ns ≡ None → ((q : List ℕ) → shelf_in new q ≡ shelf_in old q) → g None ≡ None → EditsShelves g old new ns name
+  -- where there is no board, and g makes none
+  pub none_edits : board_in old ns ≡ None → ((q : List ℕ) → board_in new q ≡ board_in old q) → g None ≡ None → EditsShelves g old new ns name
   none_edits none is same n m = ap (option_and_then (λ s. place_in s m)) (is n) ∙ by (bytes_eq ns n) refl
     where
       by : (b : Bool) → bytes_eq ns n ≡ b → place_of old n m ≡ cond (b && bytes_eq name m) (g (place_of old n m)) (place_of old n m)
       by true e =
-          let gone : shelf_in old n ≡ None = ap (shelf_in old) (sym ((bytes_eq-Decides ns n).0 e)) ∙ none in
+          let gone : board_in old n ≡ None = ap (board_in old) (sym ((bytes_eq-Decides ns n).0 e)) ∙ none in
           rw gone (either (bytes_eq name m))
         where
           either : (b : Bool) → None ≡ cond b (g None) None
@@ -61,7 +64,25 @@ module _ (g : Place → Place) (old new : Shelves) (ns name : List ℕ) where
       by false e = refl
 
 pub all_but : (shelves : Shelves) (ns : List ℕ) → AreShelves shelves → AreShelvesBut ns shelves
-all_but shelves ns sound = (sound.0, λ n shelf there. ((sound.1 n shelf there).0, λ _. (sound.1 n shelf there).1))
+all_but shelves ns sound = (sound.0, λ n board there. ((sound.1 n board there).0, λ _. (sound.1 n board there).1))
+
+-- a board that becomes a shelf with one more place
+pub grown_edits : (old new : Board) (was now : Shelf) (name : List ℕ) → ((q : List ℕ) → place_in old q ≡ place_on was q) → ((q : List ℕ) → place_in new q ≡ place_on now q) → EditsShelf made was now name → EditsBoard made old new name
+grown_edits old new was now name before after edits q = after q ∙ edits q ∙ ap (λ p. cond (bytes_eq name q) (made p) p) (sym (before q))
+
+-- where the boards are the same
+pub same_shelves : (old new : Shelves) → new.shelves.entries ≡ old.shelves.entries → AreShelves old → AreShelves new
+same_shelves old new same =
+    subst (λ es. IsDistinct string_eq (keys_of es) × ((ns : List ℕ) (board : Board) → lookup (λ k. bytes_eq ns (string_bytes k)) es ≡ Some board → IsBoard board × IsFull board)) (sym same)
+
+-- ---- boards of no place, and of one
+
+pub empty_board : IsBoard Empty
+unfolding IsDistinct
+empty_board = tt
+
+pub one_board : (name : String Global) (place : Option Object) → IsBoard (One name place)
+one_board name place = IsDistinct-cons string_eq name [] tt empty_board
 
 -- ---- places that stay
 
@@ -73,13 +94,13 @@ pub filled_keeps : (o : Option Object) (p : Place) → IsSome p → IsSome (fill
 filled_keeps o None some = some
 filled_keeps o (Some _) some = refl
 
--- a shelf that has the place of a name isn't without places
-pub full_from : (shelf : Shelf) (name : List ℕ) → IsSome (place_in shelf name) → IsFull shelf
-full_from shelf name some empty = true≢false (sym some ∙ ap (λ es. is_some (lookup (λ k. bytes_eq name (string_bytes k)) es)) empty)
+-- a board that has the place of a name isn't without places
+pub full_from : (board : Board) (name : List ℕ) → IsSome (place_in board name) → IsFull board
+full_from board name some empty = true≢false (sym some ∙ ap (λ es. is_some (lookup (λ k. bytes_eq name (string_bytes k)) es)) empty)
 
--- a shelf stays with places, where the edit takes none away
-pub full_edits : (g : Place → Place) (old new : Shelf) (name : List ℕ) → EditsShelf g old new name → ((p : Place) → IsSome p → IsSome (g p)) → IsFull old → IsFull new
-full_edits g old new name edits leaves full = by old.places.entries refl
+-- a board stays with places, where the edit takes none away
+pub full_edits : (g : Place → Place) (old new : Board) (name : List ℕ) → EditsBoard g old new name → ((p : Place) → IsSome p → IsSome (g p)) → IsFull old → IsFull new
+full_edits g old new name edits leaves full = by (entries_of old) refl
   where
     stays : (q : List ℕ) → IsSome (place_in old q) → IsSome (place_in new q)
     stays q some = ap is_some (edits q) ∙ either (bytes_eq name q)
@@ -88,81 +109,81 @@ full_edits g old new name edits leaves full = by old.places.entries refl
         either true = leaves (place_in old q) some
         either false = some
 
-    by : (es : List (String Global × Option Object)) → old.places.entries ≡ es → IsFull new
+    by : (es : List (String Global × Option Object)) → entries_of old ≡ es → IsFull new
     by [] e = absurd (full e)
     by (e ∷ es) is = full_from new (string_bytes e.0) (stays (string_bytes e.0) (ap (λ fs. is_some (lookup (λ k. bytes_eq (string_bytes e.0) (string_bytes k)) fs)) is
         ∙ ap (λ b. is_some (cond b (Some e.1) (lookup (λ k. bytes_eq (string_bytes e.0) (string_bytes k)) es))) ((bytes_eq-Decides (string_bytes e.0) (string_bytes e.0)).1 refl)))
 
 module _ (old new : Shelves) (ns : List ℕ) where
-  -- a shelf that has a new place
-  pub new_edits : (shelf : Shelf) (name : List ℕ) → shelf_in old ns ≡ None → ((q : List ℕ) → shelf_in new q ≡ cond (bytes_eq ns q) (Some shelf) (shelf_in old q)) → IsNewShelf name shelf → EditsShelves made old new ns name
-  new_edits shelf name none is one n m = ap (option_and_then (λ s. place_in s m)) (is n) ∙ by (bytes_eq ns n) refl
+  -- a board that has a new place
+  pub new_edits : (board : Board) (name : List ℕ) → board_in old ns ≡ None → ((q : List ℕ) → board_in new q ≡ cond (bytes_eq ns q) (Some board) (board_in old q)) → IsNewBoard name board → EditsShelves made old new ns name
+  new_edits board name none is one n m = ap (option_and_then (λ s. place_in s m)) (is n) ∙ by (bytes_eq ns n) refl
     where
-      by : (b : Bool) → bytes_eq ns n ≡ b → option_and_then (λ s. place_in s m) (cond b (Some shelf) (shelf_in old n)) ≡ cond (b && bytes_eq name m) (made (place_of old n m)) (place_of old n m)
+      by : (b : Bool) → bytes_eq ns n ≡ b → option_and_then (λ s. place_in s m) (cond b (Some board) (board_in old n)) ≡ cond (b && bytes_eq name m) (made (place_of old n m)) (place_of old n m)
       by true e =
-          let gone : shelf_in old n ≡ None = ap (shelf_in old) (sym ((bytes_eq-Decides ns n).0 e)) ∙ none in
+          let gone : board_in old n ≡ None = ap (board_in old) (sym ((bytes_eq-Decides ns n).0 e)) ∙ none in
           one m ∙ ap (λ o. let p = option_and_then (λ s. place_in s m) o in cond (bytes_eq name m) (made p) p) (sym gone)
       by false e = refl
 
-  -- a shelf without places that is taken away
-  pub drop_edits : (shelf : Shelf) → shelf_in old ns ≡ Some shelf → shelf.places.entries ≡ [] → ((q : List ℕ) → shelf_in new q ≡ cond (bytes_eq ns q) None (shelf_in old q)) → (n m : List ℕ) → place_of new n m ≡ place_of old n m
-  drop_edits shelf there empty is n m = ap (option_and_then (λ s. place_in s m)) (is n) ∙ by (bytes_eq ns n) refl
+  -- a board without places that is taken away
+  pub drop_edits : (board : Board) → board_in old ns ≡ Some board → entries_of board ≡ [] → ((q : List ℕ) → board_in new q ≡ cond (bytes_eq ns q) None (board_in old q)) → (n m : List ℕ) → place_of new n m ≡ place_of old n m
+  drop_edits board there empty is n m = ap (option_and_then (λ s. place_in s m)) (is n) ∙ by (bytes_eq ns n) refl
     where
-      by : (b : Bool) → bytes_eq ns n ≡ b → option_and_then (λ s. place_in s m) (cond b None (shelf_in old n)) ≡ place_of old n m
+      by : (b : Bool) → bytes_eq ns n ≡ b → option_and_then (λ s. place_in s m) (cond b None (board_in old n)) ≡ place_of old n m
       by true e =
-          let found : shelf_in old n ≡ Some shelf = ap (shelf_in old) (sym ((bytes_eq-Decides ns n).0 e)) ∙ there in
+          let found : board_in old n ≡ Some board = ap (board_in old) (sym ((bytes_eq-Decides ns n).0 e)) ∙ there in
           sym (ap (option_and_then (λ s. place_in s m)) found ∙ ap (lookup (λ k. bytes_eq m (string_bytes k))) empty)
       by false e = refl
 
-  -- what is kept true, where one shelf is set or taken away
-  pub are_shelves : (w : Option Shelf) → ((q : List ℕ) → shelf_in new q ≡ cond (bytes_eq ns q) w (shelf_in old q)) → IsDistinct string_eq (keys_of new.shelves.entries) → IfSome w (λ s. IsShelf s × IsFull s) → AreShelvesBut ns old → AreShelves new
-  are_shelves w is distinct sound was = (distinct, λ n shelf there. by n shelf w (bytes_eq ns n) refl sound (sym (is n) ∙ there))
+  -- what is kept true, where one board is set or taken away
+  pub are_shelves : (w : Option Board) → ((q : List ℕ) → board_in new q ≡ cond (bytes_eq ns q) w (board_in old q)) → IsDistinct string_eq (keys_of new.shelves.entries) → IfSome w (λ s. IsBoard s × IsFull s) → AreShelvesBut ns old → AreShelves new
+  are_shelves w is distinct sound was = (distinct, λ n board there. by n board w (bytes_eq ns n) refl sound (sym (is n) ∙ there))
     where
-      by : (n : List ℕ) (shelf : Shelf) (o : Option Shelf) (b : Bool) → bytes_eq ns n ≡ b → IfSome o (λ s. IsShelf s × IsFull s) → cond b o (shelf_in old n) ≡ Some shelf → IsShelf shelf × IsFull shelf
-      by n shelf None true _ _ e = absurd (cc)
-      by n shelf (Some s) true _ h e = let same : s ≡ shelf = cc in subst (λ t. IsShelf t × IsFull t) same h
-      by n shelf o false other _ e = ((was.1 n shelf e).0, (was.1 n shelf e).1 other)
+      by : (n : List ℕ) (board : Board) (o : Option Board) (b : Bool) → bytes_eq ns n ≡ b → IfSome o (λ s. IsBoard s × IsFull s) → cond b o (board_in old n) ≡ Some board → IsBoard board × IsFull board
+      by n board None true _ _ e = absurd (cc)
+      by n board (Some s) true _ h e = let same : s ≡ board = cc in subst (λ t. IsBoard t × IsFull t) same h
+      by n board o false other _ e = ((was.1 n board e).0, (was.1 n board e).1 other)
 
-  -- where the shelf is set, and may be without places
-  pub are_but : (w : Shelf) → ((q : List ℕ) → shelf_in new q ≡ cond (bytes_eq ns q) (Some w) (shelf_in old q)) → IsDistinct string_eq (keys_of new.shelves.entries) → IsShelf w → AreShelves old → AreShelvesBut ns new
-  are_but w is distinct sound was = (distinct, λ n shelf there. by n shelf (bytes_eq ns n) refl (sym (is n) ∙ there))
+  -- where the board is set, and may be without places
+  pub are_but : (w : Board) → ((q : List ℕ) → board_in new q ≡ cond (bytes_eq ns q) (Some w) (board_in old q)) → IsDistinct string_eq (keys_of new.shelves.entries) → IsBoard w → AreShelves old → AreShelvesBut ns new
+  are_but w is distinct sound was = (distinct, λ n board there. by n board (bytes_eq ns n) refl (sym (is n) ∙ there))
     where
-      by : (n : List ℕ) (shelf : Shelf) (b : Bool) → bytes_eq ns n ≡ b → cond b (Some w) (shelf_in old n) ≡ Some shelf → IsShelf shelf × (bytes_eq ns n ≡ false → IsFull shelf)
-      by n shelf true here e = let same : w ≡ shelf = cc in (subst IsShelf same sound, λ other. absurd (true≢false (sym here ∙ other)))
-      by n shelf false _ e = ((was.1 n shelf e).0, λ _. (was.1 n shelf e).1)
+      by : (n : List ℕ) (board : Board) (b : Bool) → bytes_eq ns n ≡ b → cond b (Some w) (board_in old n) ≡ Some board → IsBoard board × (bytes_eq ns n ≡ false → IsFull board)
+      by n board true here e = let same : w ≡ board = cc in (subst IsBoard same sound, λ other. absurd (true≢false (sym here ∙ other)))
+      by n board false _ e = ((was.1 n board e).0, λ _. (was.1 n board e).1)
 
-  -- where a shelf is written
-  pub looks : (was shelf : Shelf) → shelf_in old ns ≡ Some was → WritesThrough string_eq (λ k. bytes_eq ns (string_bytes k)) old.shelves shelf new.shelves → (q : List ℕ) → shelf_in new q ≡ cond (bytes_eq ns q) (Some shelf) (shelf_in old q)
-  looks was shelf there writes = hash_map_updates_text ns old.shelves new.shelves (Some shelf) (writes.3 (ap is_some there))
+  -- where a board is written
+  pub looks : (was board : Board) → board_in old ns ≡ Some was → WritesThrough string_eq (λ k. bytes_eq ns (string_bytes k)) old.shelves board new.shelves → (q : List ℕ) → board_in new q ≡ cond (bytes_eq ns q) (Some board) (board_in old q)
+  looks was board there writes = hash_map_updates_text ns old.shelves new.shelves (Some board) (writes.3 (ap is_some there))
 
-  pub written_edits : (g : Place → Place) (name : List ℕ) (was shelf : Shelf) → shelf_in old ns ≡ Some was → WritesThrough string_eq (λ k. bytes_eq ns (string_bytes k)) old.shelves shelf new.shelves → EditsShelf g was shelf name → EditsShelves g old new ns name
-  written_edits g name was shelf there writes edits = lift_edits g old new ns name was shelf there (looks was shelf there writes) edits
+  pub written_edits : (g : Place → Place) (name : List ℕ) (was board : Board) → board_in old ns ≡ Some was → WritesThrough string_eq (λ k. bytes_eq ns (string_bytes k)) old.shelves board new.shelves → EditsBoard g was board name → EditsShelves g old new ns name
+  written_edits g name was board there writes edits = lift_edits g old new ns name was board there (looks was board there writes) edits
 
-  pub written_full : (was shelf : Shelf) → shelf_in old ns ≡ Some was → WritesThrough string_eq (λ k. bytes_eq ns (string_bytes k)) old.shelves shelf new.shelves → (IsShelf was → IsShelf shelf) → (IsFull was → IsFull shelf) → AreShelves old → AreShelves new
-  written_full was shelf there writes keeps full sound =
+  pub written_full : (was board : Board) → board_in old ns ≡ Some was → WritesThrough string_eq (λ k. bytes_eq ns (string_bytes k)) old.shelves board new.shelves → (IsBoard was → IsBoard board) → (IsFull was → IsFull board) → AreShelves old → AreShelves new
+  written_full was board there writes keeps full sound =
       let before = sound.1 ns was there in
-      are_shelves (Some shelf) (looks was shelf there writes) writes.4 (keeps before.0, full before.1) (all_but old ns sound)
+      are_shelves (Some board) (looks was board there writes) writes.4 (keeps before.0, full before.1) (all_but old ns sound)
 
-  pub written_but : (was shelf : Shelf) → shelf_in old ns ≡ Some was → WritesThrough string_eq (λ k. bytes_eq ns (string_bytes k)) old.shelves shelf new.shelves → (IsShelf was → IsShelf shelf) → AreShelves old → AreShelvesBut ns new
-  written_but was shelf there writes keeps sound = are_but shelf (looks was shelf there writes) writes.4 (keeps (sound.1 ns was there).0) sound
+  pub written_but : (was board : Board) → board_in old ns ≡ Some was → WritesThrough string_eq (λ k. bytes_eq ns (string_bytes k)) old.shelves board new.shelves → (IsBoard was → IsBoard board) → AreShelves old → AreShelvesBut ns new
+  written_but was board there writes keeps sound = are_but board (looks was board there writes) writes.4 (keeps (sound.1 ns was there).0) sound
 
 pub either_way : {X Y : Type 0} {P Q R S : Type 0} (r : Result X Y) → MatchResult r (λ _. P) (λ _. Q) → (P → R) → (Q → S) → MatchResult r (λ _. R) (λ _. S)
 either_way (Ok x) h f g = f h
 either_way (Err y) h f g = g h
 
--- what `make` leaves of a shelf
-pub make_full : {X Y : Type 0} (old new : Shelf) (name : List ℕ) (r : Result X Y) → MatchResult r (λ _. EditsShelf made old new name) (λ _. EditsShelf unchanged old new name) → IsFull old → IsFull new
+-- what `make` leaves of a board
+pub make_full : {X Y : Type 0} (old new : Board) (name : List ℕ) (r : Result X Y) → MatchResult r (λ _. EditsBoard made old new name) (λ _. EditsBoard unchanged old new name) → IsFull old → IsFull new
 make_full old new name (Ok _) edits full = full_edits made old new name edits made_keeps full
 make_full old new name (Err _) edits full = full_edits unchanged old new name edits (λ p some. some) full
 
--- a new shelf has its place
-pub new_full : (name : List ℕ) (shelf : Shelf) → IsNewShelf name shelf → IsFull shelf
-new_full name shelf new = full_from shelf name (ap is_some (new name) ∙ ap (λ b. is_some (cond {A = Place} b (Some None) None)) ((bytes_eq-Decides name name).1 refl))
+-- a new board has its place
+pub new_full : (name : List ℕ) (board : Board) → IsNewBoard name board → IsFull board
+new_full name board new = full_from board name (ap is_some (new name) ∙ ap (λ b. is_some (cond {A = Place} b (Some None) None)) ((bytes_eq-Decides name name).1 refl))
 
--- where the one shelf isn't without places either
-pub none_but : (shelves : Shelves) (ns : List ℕ) → ((shelf : Shelf) → shelf_in shelves ns ≡ Some shelf → IsFull shelf) → AreShelvesBut ns shelves → AreShelves shelves
-none_but shelves ns full sound = (sound.0, λ n shelf there. ((sound.1 n shelf there).0, by n shelf there (bytes_eq ns n) refl))
+-- where the one board isn't without places either
+pub none_but : (shelves : Shelves) (ns : List ℕ) → ((board : Board) → board_in shelves ns ≡ Some board → IsFull board) → AreShelvesBut ns shelves → AreShelves shelves
+none_but shelves ns full sound = (sound.0, λ n board there. ((sound.1 n board there).0, by n board there (bytes_eq ns n) refl))
   where
-    by : (n : List ℕ) (shelf : Shelf) → shelf_in shelves n ≡ Some shelf → (b : Bool) → bytes_eq ns n ≡ b → IsFull shelf
-    by n shelf there true same = full shelf (ap (shelf_in shelves) ((bytes_eq-Decides ns n).0 same) ∙ there)
-    by n shelf there false other = (sound.1 n shelf there).1 other
+    by : (n : List ℕ) (board : Board) → board_in shelves n ≡ Some board → (b : Bool) → bytes_eq ns n ≡ b → IsFull board
+    by n board there true same = full board (ap (board_in shelves) ((bytes_eq-Decides ns n).0 same) ∙ there)
+    by n board there false other = (sound.1 n board there).1 other

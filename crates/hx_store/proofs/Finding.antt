@@ -19,8 +19,8 @@ use Rattle.hx_object.specs.declared.object.Object.{Object}
 use Rattle.hx_model.specs.State.{same_id, object_at}
 use Rattle.hx_model.proofs.Objects.{object_at-objects_from}
 use Rattle.hx_store.proofs.ByKind.{number_of-least}
-use Rattle.hx_store.specs.Places.{Place, AreShelves, IsShelf, IsSound, found, place_in, place_of, place_at, shelf_in, of_place, objects_in, objects_of, all_objects, objects_at}
-use Rattle.hx_store.specs.declared.shelf.Shelf.{Shelf}
+use Rattle.hx_store.specs.Places.{entries_of, Place, AreShelves, IsBoard, IsSound, found, place_in, place_of, place_at, board_in, of_place, objects_in, objects_of, all_objects, objects_at}
+use Rattle.hx_store.specs.declared.board.Board.{Board}
 use Rattle.hx_store.specs.declared.shelves.Shelves.{Shelves}
 use Rattle.hx_store.specs.declared.places.Places.{Places}
 
@@ -81,18 +81,18 @@ pub and_true : (b : Bool) → (b && true) ≡ b
 and_true true = refl
 and_true false = refl
 
-module _ (kind : Kind) (ns : List ℕ) (shelf : Shelf) (distinct : IsShelf shelf) (own : (m : List ℕ) (x : Object) → found (place_in shelf m) ≡ Some x → x.id ≡ id_of kind ns m) where
-  pub apart_in : (q : Id) (m : List ℕ) (v : Option Object) → place_in shelf m ≡ Some v → bytes_eq q.name m ≡ false → object_at (of_place v) q ≡ None
+module _ (kind : Kind) (ns : List ℕ) (board : Board) (distinct : IsBoard board) (own : (m : List ℕ) (x : Object) → found (place_in board m) ≡ Some x → x.id ≡ id_of kind ns m) where
+  pub apart_in : (q : Id) (m : List ℕ) (v : Option Object) → place_in board m ≡ Some v → bytes_eq q.name m ≡ false → object_at (of_place v) q ≡ None
   apart_in q m None e other = refl
   apart_in q m (Some x) e other =
       ap (λ i. cond (same_id q i) (Some x) None) (own m x (ap found e))
       ∙ ap (λ b. cond (number_of q.kind == number_of kind && bytes_eq q.ns ns && b) (Some x) None) other
       ∙ ap (λ b. cond {A = Option Object} b (Some x) None) (and_false (number_of q.kind == number_of kind && bytes_eq q.ns ns))
 
-  pub found_in : (q : Id) → object_at (objects_in shelf) q ≡ cond (number_of q.kind == number_of kind && bytes_eq q.ns ns) (found (place_in shelf q.name)) None
-  found_in q = level of_place q q.name shelf.places.entries distinct (each (λ m v. bytes_eq q.name m ≡ false → object_at (of_place v) q ≡ None) shelf.places.entries distinct (apart_in q)) ∙ by (place_in shelf q.name) refl
+  pub found_in : (q : Id) → object_at (objects_in board) q ≡ cond (number_of q.kind == number_of kind && bytes_eq q.ns ns) (found (place_in board q.name)) None
+  found_in q = level of_place q q.name (entries_of board) distinct (each (λ m v. bytes_eq q.name m ≡ false → object_at (of_place v) q ≡ None) (entries_of board) distinct (apart_in q)) ∙ by (place_in board q.name) refl
     where
-      by : (p : Place) → place_in shelf q.name ≡ p → option_and_then (λ v. object_at (of_place v) q) p ≡ cond (number_of q.kind == number_of kind && bytes_eq q.ns ns) (found p) None
+      by : (p : Place) → place_in board q.name ≡ p → option_and_then (λ v. object_at (of_place v) q) p ≡ cond (number_of q.kind == number_of kind && bytes_eq q.ns ns) (found p) None
       by None e = none (number_of q.kind == number_of kind && bytes_eq q.ns ns)
         where
           none : (b : Bool) → None ≡ cond {A = Option Object} b None None
@@ -111,28 +111,28 @@ module _ (kind : Kind) (ns : List ℕ) (shelf : Shelf) (distinct : IsShelf shelf
 -- ---- the objects of one kind
 
 module _ (kind : Kind) (shelves : Shelves) (distinct : AreShelves shelves) (own : (n m : List ℕ) (x : Object) → found (place_of shelves n m) ≡ Some x → x.id ≡ id_of kind n m) where
-  pub own_in : (n : List ℕ) (shelf : Shelf) → shelf_in shelves n ≡ Some shelf → (m : List ℕ) (x : Object) → found (place_in shelf m) ≡ Some x → x.id ≡ id_of kind n m
-  own_in n shelf e m x there = own n m x (ap (λ o. found (option_and_then (λ s. place_in s m) o)) e ∙ there)
+  pub own_in : (n : List ℕ) (board : Board) → board_in shelves n ≡ Some board → (m : List ℕ) (x : Object) → found (place_in board m) ≡ Some x → x.id ≡ id_of kind n m
+  own_in n board e m x there = own n m x (ap (λ o. found (option_and_then (λ s. place_in s m) o)) e ∙ there)
 
-  pub apart_of : (q : Id) (n : List ℕ) (shelf : Shelf) → shelf_in shelves n ≡ Some shelf → bytes_eq q.ns n ≡ false → object_at (objects_in shelf) q ≡ None
-  apart_of q n shelf e other =
-      found_in kind n shelf (distinct.1 n shelf e).0 (own_in n shelf e) q
-      ∙ ap (λ b. cond (number_of q.kind == number_of kind && b) (found (place_in shelf q.name)) None) other
-      ∙ ap (λ b. cond {A = Option Object} b (found (place_in shelf q.name)) None) (and_false (number_of q.kind == number_of kind))
+  pub apart_of : (q : Id) (n : List ℕ) (board : Board) → board_in shelves n ≡ Some board → bytes_eq q.ns n ≡ false → object_at (objects_in board) q ≡ None
+  apart_of q n board e other =
+      found_in kind n board (distinct.1 n board e).0 (own_in n board e) q
+      ∙ ap (λ b. cond (number_of q.kind == number_of kind && b) (found (place_in board q.name)) None) other
+      ∙ ap (λ b. cond {A = Option Object} b (found (place_in board q.name)) None) (and_false (number_of q.kind == number_of kind))
 
   pub found_of : (q : Id) → object_at (objects_of shelves) q ≡ cond (number_of q.kind == number_of kind) (found (place_of shelves q.ns q.name)) None
-  found_of q = level objects_in q q.ns shelves.shelves.entries distinct.0 (each (λ n shelf. bytes_eq q.ns n ≡ false → object_at (objects_in shelf) q ≡ None) shelves.shelves.entries distinct.0 (apart_of q)) ∙ by (shelf_in shelves q.ns) refl
+  found_of q = level objects_in q q.ns shelves.shelves.entries distinct.0 (each (λ n board. bytes_eq q.ns n ≡ false → object_at (objects_in board) q ≡ None) shelves.shelves.entries distinct.0 (apart_of q)) ∙ by (board_in shelves q.ns) refl
     where
-      by : (o : Option Shelf) → shelf_in shelves q.ns ≡ o → option_and_then (λ shelf. object_at (objects_in shelf) q) o ≡ cond (number_of q.kind == number_of kind) (found (option_and_then (λ shelf. place_in shelf q.name) o)) None
+      by : (o : Option Board) → board_in shelves q.ns ≡ o → option_and_then (λ board. object_at (objects_in board) q) o ≡ cond (number_of q.kind == number_of kind) (found (option_and_then (λ board. place_in board q.name) o)) None
       by None e = none (number_of q.kind == number_of kind)
         where
           none : (b : Bool) → None ≡ cond {A = Option Object} b None None
           none true = refl
           none false = refl
-      by (Some shelf) e =
-          found_in kind q.ns shelf (distinct.1 q.ns shelf e).0 (own_in q.ns shelf e) q
-          ∙ ap (λ b. cond (number_of q.kind == number_of kind && b) (found (place_in shelf q.name)) None) (text_itself q.ns)
-          ∙ ap (λ b. cond {A = Option Object} b (found (place_in shelf q.name)) None) (and_true (number_of q.kind == number_of kind))
+      by (Some board) e =
+          found_in kind q.ns board (distinct.1 q.ns board e).0 (own_in q.ns board e) q
+          ∙ ap (λ b. cond (number_of q.kind == number_of kind && b) (found (place_in board q.name)) None) (text_itself q.ns)
+          ∙ ap (λ b. cond {A = Option Object} b (found (place_in board q.name)) None) (and_true (number_of q.kind == number_of kind))
 
 -- ---- the objects of all kinds
 

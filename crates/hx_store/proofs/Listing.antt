@@ -31,12 +31,12 @@ use Rattle.hx_object.proofs.Identities.{derived_cmp}
 use Rattle.hx_model.specs.State.{Objects, same_id, object_at, is_below_all, ascends}
 use Rattle.hx_model.specs.Answers.{is_listed}
 use Rattle.hx_model.proofs.Objects.{id_total, same_id-cmp, same_from_Equal, same_rows, ascends-filter, object_at-filter, ascends-objects_from}
-use Rattle.hx_store.specs.Places.{IsSound, found, kind_at, place_in, place_of, place_at, shelf_in, objects_in, objects_under, objects_listed, all_objects, objects_at}
-use Rattle.hx_store.specs.declared.shelf.Shelf.{Shelf}
+use Rattle.hx_store.specs.Places.{IsSound, found, kind_at, place_in, place_of, place_at, board_in, objects_in, objects_under, objects_listed, all_objects, objects_at}
+use Rattle.hx_store.specs.declared.board.Board.{Board}
 use Rattle.hx_store.specs.declared.shelves.Shelves.{Shelves}
 use Rattle.hx_store.specs.declared.places.Places.{Places}
 use Rattle.hx_store.proofs.Finding.{and_true, id_of, found_in, found_of, found_at, own_in}
-use Rattle.hx_store.proofs.Apart.{AreApart, shelf_apart, shelves_apart}
+use Rattle.hx_store.proofs.Apart.{AreApart, board_apart, shelves_apart}
 
 -- whether two identities are one, as maps test it
 id_test : Id → Id → Bool
@@ -168,27 +168,27 @@ module _ (places : Places) (sound : IsSound places) (kind : Kind) where
       found_of kind s (sound.distinct.1 (number_of kind - 1) s e) (own_kind s e) q
       ∙ same_then (number_of q.kind == number_of kind) (found (place_of s q.ns q.name)) (found (place_at places q)) (λ t. ap found (sym (same_place (Some s) e q t)))
       ∙ ap (λ b. cond b (found (place_at places q)) None) (sym (and_true (number_of q.kind == number_of kind)))
-  finds (Some ns) (Some s) e q = by (shelf_in s ns) refl
+  finds (Some ns) (Some s) e q = by (board_in s ns) refl
     where
-      here : (number_of q.kind == number_of kind && bytes_eq q.ns ns) ≡ true → (o : Option Shelf) → shelf_in s ns ≡ o → place_at places q ≡ option_and_then (λ shelf. place_in shelf q.name) o
+      here : (number_of q.kind == number_of kind && bytes_eq q.ns ns) ≡ true → (o : Option Board) → board_in s ns ≡ o → place_at places q ≡ option_and_then (λ board. place_in board q.name) o
       here t o at =
           let parts = and_parts (number_of q.kind == number_of kind) (bytes_eq q.ns ns) t in
-          same_place (Some s) e q parts.0 ∙ ap (option_and_then (λ shelf. place_in shelf q.name)) (ap (shelf_in s) ((bytes_eq-Decides q.ns ns).0 parts.1) ∙ at)
+          same_place (Some s) e q parts.0 ∙ ap (option_and_then (λ board. place_in board q.name)) (ap (board_in s) ((bytes_eq-Decides q.ns ns).0 parts.1) ∙ at)
 
-      by : (o : Option Shelf) → shelf_in s ns ≡ o → object_at (option_map_or objects_in o []) q ≡ cond (number_of q.kind == number_of kind && bytes_eq q.ns ns) (found (place_at places q)) None
+      by : (o : Option Board) → board_in s ns ≡ o → object_at (option_map_or objects_in o []) q ≡ cond (number_of q.kind == number_of kind && bytes_eq q.ns ns) (found (place_at places q)) None
       by None at = none_then (number_of q.kind == number_of kind && bytes_eq q.ns ns) (found (place_at places q)) (λ t. ap found (here t None at))
-      by (Some shelf) at =
-          found_in kind ns shelf ((sound.distinct.1 (number_of kind - 1) s e).1 ns shelf at).0 (own_in kind s (sound.distinct.1 (number_of kind - 1) s e) (own_kind s e) ns shelf at) q
-          ∙ same_then (number_of q.kind == number_of kind && bytes_eq q.ns ns) (found (place_in shelf q.name)) (found (place_at places q)) (λ t. ap found (sym (here t (Some shelf) at)))
+      by (Some board) at =
+          found_in kind ns board ((sound.distinct.1 (number_of kind - 1) s e).1 ns board at).0 (own_in kind s (sound.distinct.1 (number_of kind - 1) s e) (own_kind s e) ns board at) q
+          ∙ same_then (number_of q.kind == number_of kind && bytes_eq q.ns ns) (found (place_in board q.name)) (found (place_at places q)) (λ t. ap found (sym (here t (Some board) at)))
 
   are_apart : (ns : Option (List ℕ)) (o : Option Shelves) → kind_at places kind ≡ o → AreApart (option_map_or (objects_under ns) o [])
   are_apart ns None e = tt
   are_apart None (Some s) e = shelves_apart kind s (sound.distinct.1 (number_of kind - 1) s e) (own_kind s e)
-  are_apart (Some ns) (Some s) e = by (shelf_in s ns) refl
+  are_apart (Some ns) (Some s) e = by (board_in s ns) refl
     where
-      by : (o : Option Shelf) → shelf_in s ns ≡ o → AreApart (option_map_or objects_in o [])
+      by : (o : Option Board) → board_in s ns ≡ o → AreApart (option_map_or objects_in o [])
       by None at = tt
-      by (Some shelf) at = shelf_apart kind ns shelf ((sound.distinct.1 (number_of kind - 1) s e).1 ns shelf at).0 (own_in kind s (sound.distinct.1 (number_of kind - 1) s e) (own_kind s e) ns shelf at)
+      by (Some board) at = board_apart kind ns board ((sound.distinct.1 (number_of kind - 1) s e).1 ns board at).0 (own_in kind s (sound.distinct.1 (number_of kind - 1) s e) (own_kind s e) ns board at)
 
   -- what lies under the kind and the namespace is what a filter keeps
   kept : (ns : Option (List ℕ)) (q : Id) (o : Option Object) → found (place_at places q) ≡ o → cond (is_under kind ns q) o None ≡ option_filter (is_listed kind ns) o

@@ -15,10 +15,10 @@ use Rattle.hx_object.specs.declared.object.Id.{Id}
 use Rattle.hx_object.specs.declared.object.Object.{Object}
 use Rattle.hx_model.specs.State.{same_id, object_at}
 use Rattle.hx_model.proofs.Objects.{ascends-objects_from}
-use Rattle.hx_store.specs.Places.{Place, IsShelf, IsSound, found, kind_at, place_in, place_of, place_at, shelf_in, of_place, objects_in, objects_under, objects_listed, all_objects, objects_at}
+use Rattle.hx_store.specs.Places.{entries_of, Place, IsBoard, IsSound, found, kind_at, place_in, place_of, place_at, board_in, of_place, objects_in, objects_under, objects_listed, all_objects, objects_at}
 use Rattle.hx_store.specs.Sources.{is_source, is_source_of, source_in}
 use Rattle.hx_store.specs.ByName.{IsIndex, by_name, turned}
-use Rattle.hx_store.specs.declared.shelf.Shelf.{Shelf}
+use Rattle.hx_store.specs.declared.board.Board.{Board}
 use Rattle.hx_store.specs.declared.shelves.Shelves.{Shelves}
 use Rattle.hx_store.specs.declared.places.Places.{Places}
 use Rattle.hx_store.specs.declared.sources.Sources.{Sources}
@@ -36,18 +36,18 @@ none_either false = refl
 
 -- ---- the objects of one kind and name, by their namespaces
 
-module _ (kind : Kind) (name : List ℕ) (shelf : Shelf) (distinct : IsShelf shelf) (own : (m : List ℕ) (x : Object) → found (place_in shelf m) ≡ Some x → x.id ≡ id_of kind m name) where
-  apart_named : (q : Id) (m : List ℕ) (v : Option Object) → place_in shelf m ≡ Some v → bytes_eq q.ns m ≡ false → object_at (of_place v) q ≡ None
+module _ (kind : Kind) (name : List ℕ) (board : Board) (distinct : IsBoard board) (own : (m : List ℕ) (x : Object) → found (place_in board m) ≡ Some x → x.id ≡ id_of kind m name) where
+  apart_named : (q : Id) (m : List ℕ) (v : Option Object) → place_in board m ≡ Some v → bytes_eq q.ns m ≡ false → object_at (of_place v) q ≡ None
   apart_named q m None e other = refl
   apart_named q m (Some x) e other =
       ap (λ i. cond (same_id q i) (Some x) None) (own m x (ap found e))
       ∙ ap (λ b. cond {A = Option Object} (number_of q.kind == number_of kind && b && bytes_eq q.name name) (Some x) None) other
       ∙ ap (λ b. cond {A = Option Object} (b && bytes_eq q.name name) (Some x) None) (and_false (number_of q.kind == number_of kind))
 
-  pub found_named : (q : Id) → object_at (objects_in shelf) q ≡ cond (is_named kind name q) (found (place_in shelf q.ns)) None
-  found_named q = level of_place q q.ns shelf.places.entries distinct (each (λ m v. bytes_eq q.ns m ≡ false → object_at (of_place v) q ≡ None) shelf.places.entries distinct (apart_named q)) ∙ by (place_in shelf q.ns) refl
+  pub found_named : (q : Id) → object_at (objects_in board) q ≡ cond (is_named kind name q) (found (place_in board q.ns)) None
+  found_named q = level of_place q q.ns (entries_of board) distinct (each (λ m v. bytes_eq q.ns m ≡ false → object_at (of_place v) q ≡ None) (entries_of board) distinct (apart_named q)) ∙ by (place_in board q.ns) refl
     where
-      by : (p : Place) → place_in shelf q.ns ≡ p → option_and_then (λ v. object_at (of_place v) q) p ≡ cond (is_named kind name q) (found p) None
+      by : (p : Place) → place_in board q.ns ≡ p → option_and_then (λ v. object_at (of_place v) q) p ≡ cond (is_named kind name q) (found p) None
       by None e = none_either (is_named kind name q)
       by (Some None) e = none_either (is_named kind name q)
       by (Some (Some x)) e =
@@ -55,17 +55,17 @@ module _ (kind : Kind) (name : List ℕ) (shelf : Shelf) (distinct : IsShelf she
           ∙ ap (λ b. cond {A = Option Object} (number_of q.kind == number_of kind && b && bytes_eq q.name name) (Some x) None) (text_itself q.ns)
           ∙ ap (λ b. cond {A = Option Object} (b && bytes_eq q.name name) (Some x) None) (and_true (number_of q.kind == number_of kind))
 
-  pub named_apart : AreApart (objects_in shelf)
-  named_apart = flat_apart of_place (λ i. i.ns) shelf.places.entries distinct
-      (each (λ m v. AreApart (of_place v)) shelf.places.entries distinct (λ m v e. one v))
-      (each (λ m v. AllByRecursion (λ x. x.id.ns ≡ m) (of_place v)) shelf.places.entries distinct lies)
-      (λ q. each (λ m v. bytes_eq q.ns m ≡ false → object_at (of_place v) q ≡ None) shelf.places.entries distinct (apart_named q))
+  pub named_apart : AreApart (objects_in board)
+  named_apart = flat_apart of_place (λ i. i.ns) (entries_of board) distinct
+      (each (λ m v. AreApart (of_place v)) (entries_of board) distinct (λ m v e. one v))
+      (each (λ m v. AllByRecursion (λ x. x.id.ns ≡ m) (of_place v)) (entries_of board) distinct lies)
+      (λ q. each (λ m v. bytes_eq q.ns m ≡ false → object_at (of_place v) q ≡ None) (entries_of board) distinct (apart_named q))
     where
       one : (v : Option Object) → AreApart (of_place v)
       one None = tt
       one (Some x) = (refl, tt)
 
-      lies : (m : List ℕ) (v : Option Object) → place_in shelf m ≡ Some v → AllByRecursion (λ x. x.id.ns ≡ m) (of_place v)
+      lies : (m : List ℕ) (v : Option Object) → place_in board m ≡ Some v → AllByRecursion (λ x. x.id.ns ≡ m) (of_place v)
       lies m None e = tt
       lies m (Some x) e = (ap (λ (i : Id). i.ns) (own m x (ap found e)), tt)
 
@@ -84,8 +84,8 @@ both_then true b x = refl
 both_then false b x = refl
 
 module _ (places : Places) (sources : Sources) (sound : IsSound places) (index : IsIndex sources places) (kind : Kind) (name : List ℕ) where
-  own_source : (s : Shelves) → kind_at (by_name sources) kind ≡ Some s → (shelf : Shelf) → shelf_in s name ≡ Some shelf → (m : List ℕ) (x : Object) → found (place_in shelf m) ≡ Some x → x.id ≡ id_of kind m name
-  own_source s e shelf at m x there =
+  own_source : (s : Shelves) → kind_at (by_name sources) kind ≡ Some s → (board : Board) → board_in s name ≡ Some board → (m : List ℕ) (x : Object) → found (place_in board m) ≡ Some x → x.id ≡ id_of kind m name
+  own_source s e board at m x there =
       sound.own (id_of kind m name) x (source_from (found (place_at places (id_of kind m name))) x (sym (index.same (id_of kind m name))
       ∙ ap (λ o. found (option_and_then (λ t. place_of t name m) o)) e ∙ ap (λ o. found (option_and_then (λ t. place_in t m) o)) at ∙ there))
 
@@ -94,26 +94,26 @@ module _ (places : Places) (sources : Sources) (sound : IsSound places) (index :
 
   finds : (o : Option Shelves) → kind_at (by_name sources) kind ≡ o → (q : Id) → object_at (option_map_or (objects_under (Some name)) o []) q ≡ cond (is_named kind name q) (found (place_at (by_name sources) (turned q))) None
   finds None e q = none_then (is_named kind name q) (found (place_at (by_name sources) (turned q))) (λ t. ap found (same_place None e q (and_parts (number_of q.kind == number_of kind) (bytes_eq q.name name) t).0))
-  finds (Some s) e q = by (shelf_in s name) refl
+  finds (Some s) e q = by (board_in s name) refl
     where
-      here : is_named kind name q ≡ true → (o : Option Shelf) → shelf_in s name ≡ o → place_at (by_name sources) (turned q) ≡ option_and_then (λ shelf. place_in shelf q.ns) o
+      here : is_named kind name q ≡ true → (o : Option Board) → board_in s name ≡ o → place_at (by_name sources) (turned q) ≡ option_and_then (λ board. place_in board q.ns) o
       here t o at =
           let parts = and_parts (number_of q.kind == number_of kind) (bytes_eq q.name name) t in
-          same_place (Some s) e q parts.0 ∙ ap (option_and_then (λ shelf. place_in shelf q.ns)) (ap (shelf_in s) ((bytes_eq-Decides q.name name).0 parts.1) ∙ at)
+          same_place (Some s) e q parts.0 ∙ ap (option_and_then (λ board. place_in board q.ns)) (ap (board_in s) ((bytes_eq-Decides q.name name).0 parts.1) ∙ at)
 
-      by : (o : Option Shelf) → shelf_in s name ≡ o → object_at (option_map_or objects_in o []) q ≡ cond (is_named kind name q) (found (place_at (by_name sources) (turned q))) None
+      by : (o : Option Board) → board_in s name ≡ o → object_at (option_map_or objects_in o []) q ≡ cond (is_named kind name q) (found (place_at (by_name sources) (turned q))) None
       by None at = none_then (is_named kind name q) (found (place_at (by_name sources) (turned q))) (λ t. ap found (here t None at))
-      by (Some shelf) at =
-          found_named kind name shelf ((index.distinct.1 (number_of kind - 1) s e).1 name shelf at).0 (own_source s e shelf at) q
-          ∙ same_then (is_named kind name q) (found (place_in shelf q.ns)) (found (place_at (by_name sources) (turned q))) (λ t. ap found (sym (here t (Some shelf) at)))
+      by (Some board) at =
+          found_named kind name board ((index.distinct.1 (number_of kind - 1) s e).1 name board at).0 (own_source s e board at) q
+          ∙ same_then (is_named kind name q) (found (place_in board q.ns)) (found (place_at (by_name sources) (turned q))) (λ t. ap found (sym (here t (Some board) at)))
 
   are_apart : (o : Option Shelves) → kind_at (by_name sources) kind ≡ o → AreApart (option_map_or (objects_under (Some name)) o [])
   are_apart None e = tt
-  are_apart (Some s) e = by (shelf_in s name) refl
+  are_apart (Some s) e = by (board_in s name) refl
     where
-      by : (o : Option Shelf) → shelf_in s name ≡ o → AreApart (option_map_or objects_in o [])
+      by : (o : Option Board) → board_in s name ≡ o → AreApart (option_map_or objects_in o [])
       by None at = tt
-      by (Some shelf) at = named_apart kind name shelf ((index.distinct.1 (number_of kind - 1) s e).1 name shelf at).0 (own_source s e shelf at)
+      by (Some board) at = named_apart kind name board ((index.distinct.1 (number_of kind - 1) s e).1 name board at).0 (own_source s e board at)
 
   -- a source of the kind and the name is what a filter keeps
   kept : (q : Id) (o : Option Object) → found (place_at places q) ≡ o → cond (is_named kind name q) (source_in o) None ≡ option_filter (is_source_of kind name) o

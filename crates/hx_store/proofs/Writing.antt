@@ -190,11 +190,11 @@ fill_edits old new w o id is_o is_id edits = subst (λ i. EditsPlaces (filled (o
 module _ (places : Places) (long : length places.kinds ≡ 14) (empty : (i : ℕ) (shelves : Shelves) → slice_get places.kinds i ≡ Some shelves → shelves.shelves.entries ≡ []) where
   empty_shelves : (shelves : Shelves) → shelves.shelves.entries ≡ [] → AreShelves shelves
   unfolding IsDistinct
-  empty_shelves shelves e = (subst (λ es. IsDistinct string_eq (keys_of es)) (sym e) tt, λ ns shelf there. absurd (true≢false (sym (ap is_some (sym (ap (lookup (λ k. bytes_eq ns (string_bytes k))) e) ∙ there)))))
+  empty_shelves shelves e = (subst (λ es. IsDistinct string_eq (keys_of es)) (sym e) tt, λ ns board there. absurd (true≢false (sym (ap is_some (sym (ap (lookup (λ k. bytes_eq ns (string_bytes k))) e) ∙ there)))))
 
   empty_place : (id : Id) (o : Option Shelves) → kind_at places id.kind ≡ o → option_and_then (λ s. place_of s id.ns id.name) o ≡ None
   empty_place id None e = refl
-  empty_place id (Some s) e = ap (λ es. option_and_then (λ shelf. place_in shelf id.name) (lookup (λ k. bytes_eq id.ns (string_bytes k)) es)) (empty (number_of id.kind - 1) s e)
+  empty_place id (Some s) e = ap (λ es. option_and_then (λ board. place_in board id.name) (lookup (λ k. bytes_eq id.ns (string_bytes k)) es)) (empty (number_of id.kind - 1) s e)
 
   pub none_placed : (id : Id) → place_at places id ≡ None
   none_placed id = empty_place id (kind_at places id.kind) refl

@@ -1,20 +1,22 @@
 -- Where a store keeps its objects: by kind, then by namespace, then by name. A place holds an object, or is empty.
---     place_in shelf name        the place of a name, among the objects of one kind and namespace
+--     entries_of board           the places of one kind and namespace, with their names: none, one, or those of a shelf
+--     place_in board name        the place of a name, among those;  place_on shelf name, on a shelf
 --     place_of shelves ns name   the place of a namespace and a name, among the objects of one kind
 --     place_at places id         the place of an identity
 --     found place                the object in a place, where there is one
---     EditsShelf g old new name  the place of one name changes by g, and every other stays
+--     EditsBoard g old new name  the place of one name changes by g, and every other stays
 --     made, filled, swept        how a place changes: it is there;  it holds this;  it is gone if it is empty
 --     objects_in, objects_of     the objects of one kind and namespace;  of one kind
 --     objects_at places          all objects, in the order of their identities
 --     IsReady places staged      what a store keeps true: each object is in its place, each staged write has its place, and no place is empty but those
-use Rattle.std.specs.Prelude.{◌≡◌, ◌≢◌, ℕ, ◌-◌, Bool, true, false, ◌&&◌, cond, List, [], ◌∷◌, Option, Some, None, IsSome, option_and_then, length}
+use Rattle.std.specs.Prelude.{String, ◌≡◌, ◌≢◌, ℕ, ◌-◌, Bool, true, false, ◌&&◌, cond, List, [], ◌∷◌, Option, Some, None, IsSome, option_and_then, length}
 use Rattle.std.specs.List.{IsDistinct, flat_map, list_any, slice_get}
-use Rattle.std.specs.Map.{keys_of, values_of}
+use Rattle.std.specs.Map.{keys_of, lookup, values_of}
 use Rattle.std.specs.HashMap.{get_by_text}
 use Rattle.std.specs.Option.{option_map_or}
 use Rattle.std.specs.Str.{bytes_eq}
-use Rattle.std.specs.String.{string_eq}
+use Rattle.std.specs.declared.alloc.Global.{Global}
+use Rattle.std.specs.String.{string_bytes, string_eq}
 use Rattle.hx_object.specs.Kinds.{number_of}
 use Rattle.hx_object.specs.declared.kind.Kind.{Kind}
 use Rattle.hx_object.specs.declared.object.Id.{Id}
@@ -23,6 +25,8 @@ use Rattle.hx_model.specs.State.{Objects, objects_from, same_id}
 use Rattle.hx_model.specs.declared.key.Write.{Write}
 use Rattle.hx_model.specs.declared.key.Write.TheVariants.{Put, Cut}
 use Rattle.hx_store.specs.Changes.{id_of}
+use Rattle.hx_store.specs.declared.board.Board.{Board}
+use Rattle.hx_store.specs.declared.board.Board.TheVariants.{Empty, One, Many}
 use Rattle.hx_store.specs.declared.shelf.Shelf.{Shelf}
 use Rattle.hx_store.specs.declared.shelves.Shelves.{Shelves}
 use Rattle.hx_store.specs.declared.places.Places.{Places}
@@ -35,17 +39,31 @@ Place = Option (Option Object)
 abbrev pub found : Place → Option Object
 found place = option_and_then (λ o. o) place
 
--- the place of a name
-abbrev pub place_in : Shelf → List ℕ → Place
-place_in shelf name = get_by_text shelf.places name
+-- the place of a name on a shelf
+abbrev pub place_on : Shelf → List ℕ → Place
+place_on shelf name = get_by_text shelf.places name
 
--- the shelf of a namespace
-abbrev pub shelf_in : Shelves → List ℕ → Option Shelf
-shelf_in shelves ns = get_by_text shelves.shelves ns
+-- the places of a board, with their names
+abbrev pub entries_of : Board → List (String Global × Option Object)
+entries_of Empty = []
+entries_of (One name place) = (name, place) ∷ []
+entries_of (Many shelf) = shelf.value.places.entries
+
+-- the place of a name on a board
+abbrev pub place_in : Board → List ℕ → Place
+place_in board name = lookup (λ k. bytes_eq name (string_bytes k)) (entries_of board)
+
+-- the place of a name, where there is but one
+abbrev pub place_alone : List ℕ → Option Object → List ℕ → Place
+place_alone held place name = cond (bytes_eq name held) (Some place) None
+
+-- the board of a namespace
+abbrev pub board_in : Shelves → List ℕ → Option Board
+board_in shelves ns = get_by_text shelves.shelves ns
 
 -- the place of a namespace and a name
 abbrev pub place_of : Shelves → List ℕ → List ℕ → Place
-place_of shelves ns name = option_and_then (λ shelf. place_in shelf name) (shelf_in shelves ns)
+place_of shelves ns name = option_and_then (λ board. place_in board name) (board_in shelves ns)
 
 -- the shelves of a kind
 abbrev pub kind_at : Places → Kind → Option Shelves
@@ -76,9 +94,12 @@ swept _ = None
 abbrev pub unchanged : Place → Place
 unchanged place = place
 
--- the place of the name changes so, and every other stays
+-- the place of the name changes so, and every other stays: on a shelf, and on a board
 abbrev pub EditsShelf : (Place → Place) → Shelf → Shelf → List ℕ → Type 0
-EditsShelf g old new name = (q : List ℕ) → place_in new q ≡ cond (bytes_eq name q) (g (place_in old q)) (place_in old q)
+EditsShelf g old new name = (q : List ℕ) → place_on new q ≡ cond (bytes_eq name q) (g (place_on old q)) (place_on old q)
+
+abbrev pub EditsBoard : (Place → Place) → Board → Board → List ℕ → Type 0
+EditsBoard g old new name = (q : List ℕ) → place_in new q ≡ cond (bytes_eq name q) (g (place_in old q)) (place_in old q)
 
 -- the place of the namespace and the name changes so, and every other stays
 abbrev pub EditsShelves : (Place → Place) → Shelves → Shelves → List ℕ → List ℕ → Type 0
@@ -90,21 +111,24 @@ EditsPlaces g old new id = (q : Id) → place_at new q ≡ cond (same_id id q) (
 
 -- ---- what is kept true
 
--- no two places have one name
+-- no two places have one name: on a shelf, and on a board
 abbrev pub IsShelf : Shelf → Type 0
 IsShelf shelf = IsDistinct string_eq (keys_of shelf.places.entries)
 
+abbrev pub IsBoard : Board → Type 0
+IsBoard board = IsDistinct string_eq (keys_of (entries_of board))
+
 -- a place is there
-abbrev pub IsFull : Shelf → Type 0
-IsFull shelf = shelf.places.entries ≢ []
+abbrev pub IsFull : Board → Type 0
+IsFull board = entries_of board ≢ []
 
--- no two shelves have one namespace, no two places of a shelf one name, and no shelf is without places
+-- no two boards have one namespace, no two places of a board one name, and no board is without places
 abbrev pub AreShelves : Shelves → Type 0
-AreShelves shelves = IsDistinct string_eq (keys_of shelves.shelves.entries) × ((ns : List ℕ) (shelf : Shelf) → shelf_in shelves ns ≡ Some shelf → IsShelf shelf × IsFull shelf)
+AreShelves shelves = IsDistinct string_eq (keys_of shelves.shelves.entries) × ((ns : List ℕ) (board : Board) → board_in shelves ns ≡ Some board → IsBoard board × IsFull board)
 
--- so it is, but that the shelf of one namespace may be without places
+-- so it is, but that the board of one namespace may be without places
 abbrev pub AreShelvesBut : List ℕ → Shelves → Type 0
-AreShelvesBut but shelves = IsDistinct string_eq (keys_of shelves.shelves.entries) × ((ns : List ℕ) (shelf : Shelf) → shelf_in shelves ns ≡ Some shelf → IsShelf shelf × (bytes_eq but ns ≡ false → IsFull shelf))
+AreShelvesBut but shelves = IsDistinct string_eq (keys_of shelves.shelves.entries) × ((ns : List ℕ) (board : Board) → board_in shelves ns ≡ Some board → IsBoard board × (bytes_eq but ns ≡ false → IsFull board))
 
 -- so it is for each of the kinds
 abbrev pub ArePlaces : Places → Type 0
@@ -158,9 +182,12 @@ pub record IsReady (places : Places) (staged : List Write) : Type 0 where
   pub there : HasPlaces places staged
   pub awaited : AreAwaited places staged
 
--- the one place has the name, and is empty
+-- the one place has the name, and is empty: on a shelf, and on a board
 abbrev pub IsNewShelf : List ℕ → Shelf → Type 0
-IsNewShelf name shelf = (q : List ℕ) → place_in shelf q ≡ cond (bytes_eq name q) (Some None) None
+IsNewShelf name shelf = (q : List ℕ) → place_on shelf q ≡ cond (bytes_eq name q) (Some None) None
+
+abbrev pub IsNewBoard : List ℕ → Board → Type 0
+IsNewBoard name board = (q : List ℕ) → place_in board q ≡ cond (bytes_eq name q) (Some None) None
 
 -- ---- the objects
 
@@ -169,9 +196,12 @@ abbrev pub of_place : Option Object → List Object
 of_place None = []
 of_place (Some x) = x ∷ []
 
--- the objects of one kind and namespace
-abbrev pub objects_in : Shelf → List Object
-objects_in shelf = flat_map of_place (values_of shelf.places.entries)
+-- the objects of one kind and namespace: on a shelf, and on a board
+abbrev pub objects_on : Shelf → List Object
+objects_on shelf = flat_map of_place (values_of shelf.places.entries)
+
+abbrev pub objects_in : Board → List Object
+objects_in board = flat_map of_place (values_of (entries_of board))
 
 -- the objects of one kind
 abbrev pub objects_of : Shelves → List Object
@@ -180,7 +210,7 @@ objects_of shelves = flat_map objects_in (values_of shelves.shelves.entries)
 -- the objects of one kind, in one namespace or in all
 abbrev pub objects_under : Option (List ℕ) → Shelves → List Object
 objects_under None shelves = objects_of shelves
-objects_under (Some ns) shelves = option_map_or objects_in (shelf_in shelves ns) []
+objects_under (Some ns) shelves = option_map_or objects_in (board_in shelves ns) []
 
 abbrev pub objects_listed : Places → Kind → Option (List ℕ) → List Object
 objects_listed places kind ns = option_map_or (objects_under ns) (kind_at places kind) []

@@ -1,10 +1,9 @@
 // Writes that are ready to be made.
 ghost use Rattle.std.specs.Prelude.{◌≡◌, Some, IfOk, is_some, option_copied};
 ghost use Rattle.hx_store.specs.Changes.{id_of, object_of};
-ghost use Rattle.hx_store.specs.Sources.{is_source, source_in};
+ghost use Rattle.hx_store.specs.Sources.{source_in};
 
-use hx_model::Write;
-use hx_object::well_known::INHERITED_FROM;
+use hx_model::{Write, is_source};
 use hx_object::{Id, NoMemory, Object, Shared};
 use std::marker::Model;
 
@@ -92,12 +91,4 @@ fn share_source(object: &Shared) -> Result<Option<Shared>, NoMemory>
         return Ok(Some(object.share()?));
     }
     Ok(None)
-}
-
-/// Whether an object is a source: of a kind that can be copied, and no copy itself.
-#[tactic(auto, unfolding(hx_model::specs::Limits::is_copy))]
-fn is_source(object: &Object) -> bool
-    ensures { result ≡ is_source object.now }
-{
-    object.id.kind.can_be_copied() && object.labels.get(INHERITED_FROM).is_none()
 }

@@ -4,6 +4,7 @@
 //! A [`Change`] is seen as the write that it is.
 #![tactic(auto)]
 
+mod board;
 mod change;
 mod map;
 mod places;

@@ -1,6 +1,6 @@
 // The objects of one kind in one namespace.
 ghost use Rattle.std.specs.Prelude.{◌≡◌, ◌++◌, ◌↔◌, IfOk, OnOk, IsTrue, [], MatchResult, option_copied};
-ghost use Rattle.hx_store.specs.Places.{IsShelf, place_in, found, EditsShelf, made, filled, swept, unchanged, objects_in, IsNewShelf};
+ghost use Rattle.hx_store.specs.Places.{IsShelf, place_on, found, EditsShelf, made, filled, swept, unchanged, objects_on, IsNewShelf};
 
 use crate::map::{TextMap, empty_map};
 use hx_object::{NoMemory, Shared};
@@ -28,7 +28,7 @@ impl Shelf {
 
     /// The object of a name.
     pub(crate) fn find(&self, name: &str) -> Option<&Shared>
-        ensures { option_copied result ≡ found (place_in self.now name.now) }
+        ensures { option_copied result ≡ found (place_on self.now name.now) }
     {
         match self.places.get(name) {
             Some(place) => place.as_ref(),
@@ -79,7 +79,7 @@ impl Shelf {
 
     /// Adds the objects to those that are listed.
     pub(crate) fn list(&self, listed: &mut Vec<Shared>) -> Result<(), NoMemory>
-        ensures { OnOk result (listed.new.items ≡ listed.old.items ++ objects_in self.now) }
+        ensures { OnOk result (listed.new.items ≡ listed.old.items ++ objects_on self.now) }
     {
         for (_, place) in self.places.iter() {
             if let Some(object) = place {

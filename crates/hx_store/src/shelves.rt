@@ -1,18 +1,18 @@
 // The objects of one kind.
 ghost use Rattle.std.specs.Prelude.{◌≡◌, ◌++◌, ℕ, List, [], None, OnOk, IsTrue, ◌↔◌, MatchResult, option_copied};
 ghost use Rattle.std.specs.Option.{option_map_or};
-ghost use Rattle.hx_store.specs.Places.{AreShelves, AreShelvesBut, shelf_in, place_of, found, EditsShelves, made, filled, swept, unchanged, objects_in, objects_of};
+ghost use Rattle.hx_store.specs.Places.{AreShelves, AreShelvesBut, board_in, place_of, found, EditsShelves, made, filled, swept, unchanged, objects_in, objects_of};
 
+use crate::board::Board;
 use crate::map::{TextMap, empty_map};
-use crate::shelf::Shelf;
 use hx_object::{NoMemory, Shared};
 use std::alloc::Global;
 use std::hash::RandomState;
 
-/// The objects of one kind, by their namespaces. No shelf is without places.
+/// The objects of one kind, by their namespaces. No board is without places.
 #[derive(Drop)]
 pub(crate) struct Shelves {
-    shelves: TextMap<Shelf>,
+    shelves: TextMap<Board>,
 }
 
 impl Shelves {
@@ -26,8 +26,8 @@ impl Shelves {
     }
 
     /// The objects of a namespace.
-    pub(crate) fn shelf(&self, ns: &str) -> Option<&Shelf>
-        ensures { option_copied result ≡ shelf_in self.now ns.now }
+    pub(crate) fn board(&self, ns: &str) -> Option<&Board>
+        ensures { option_copied result ≡ board_in self.now ns.now }
     {
         self.shelves.get(ns)
     }
@@ -36,8 +36,8 @@ impl Shelves {
     pub(crate) fn find(&self, ns: &str, name: &str) -> Option<&Shared>
         ensures { option_copied result ≡ found (place_of self.now ns.now name.now) }
     {
-        match self.shelf(ns) {
-            Some(shelf) => shelf.find(name),
+        match self.board(ns) {
+            Some(board) => board.find(name),
             None => None,
         }
     }
@@ -47,21 +47,23 @@ impl Shelves {
         ensures shelves { AreShelves self.old → AreShelves self.new }
         ensures places { MatchResult result (λ _. EditsShelves made self.old self.new ns.now name.now) (λ _. EditsShelves unchanged self.old self.new ns.now name.now) }
     {
+        let alloc = *self.shelves.allocator();
+        let keys = *self.shelves.hasher();
         match self.shelves.get_mut(ns) {
-            Some(shelf) => shelf.make(name),
+            Some(board) => board.make(alloc, keys, name),
             None => self.add(ns, name),
         }
     }
 
-    /// Adds a shelf with an empty place, which hashes with the same keys.
+    /// Adds a board with an empty place, which hashes with the same keys.
     fn add(&mut self, ns: &str, name: &str) -> Result<(), NoMemory>
-        requires { shelf_in self.old ns.now ≡ None }
+        requires { board_in self.old ns.now ≡ None }
         ensures shelves { AreShelves self.old → AreShelves self.new }
         ensures places { MatchResult result (λ _. EditsShelves made self.old self.new ns.now name.now) (λ _. EditsShelves unchanged self.old self.new ns.now name.now) }
     {
         let alloc = *self.shelves.allocator();
-        let shelf = Shelf::new(alloc, *self.shelves.hasher(), name)?;
-        let _none = self.shelves.insert(String::from_str(alloc, ns)?, shelf)?;
+        let board = Board::new(alloc, name)?;
+        let _none = self.shelves.insert(String::from_str(alloc, ns)?, board)?;
         Ok(())
     }
 
@@ -71,40 +73,40 @@ impl Shelves {
         ensures places { EditsShelves (filled object) self.old self.new ns.now name.now }
     {
         match self.shelves.get_mut(ns) {
-            Some(shelf) => shelf.fill(name, object),
+            Some(board) => board.fill(name, object),
             None => drop(object),
         }
     }
 
-    /// Takes a place away where it is empty, and its shelf where it is the last one.
+    /// Takes a place away where it is empty, and its board where it is the last one.
     pub(crate) fn sweep(&mut self, ns: &str, name: &str)
         ensures shelves { AreShelves self.old → AreShelves self.new }
         ensures places { EditsShelves swept self.old self.new ns.now name.now }
     {
-        if let Some(shelf) = self.shelves.get_mut(ns) {
-            shelf.sweep(name);
+        if let Some(board) = self.shelves.get_mut(ns) {
+            board.sweep(name);
             self.drop_empty(ns);
         }
     }
 
-    /// Takes a shelf away where it has no places.
+    /// Takes a board away where it has no places.
     fn drop_empty(&mut self, ns: &str)
         ensures shelves { AreShelvesBut ns.now self.old → AreShelves self.new }
         ensures places { (n m : List ℕ) → place_of self.new n m ≡ place_of self.old n m }
     {
-        if let Some(shelf) = self.shelves.get(ns) {
-            if shelf.is_empty() {
-                let _shelf = self.shelves.swap_remove(ns);
+        if let Some(board) = self.shelves.get(ns) {
+            if board.is_empty() {
+                let _board = self.shelves.swap_remove(ns);
             }
         }
     }
 
     /// Adds the objects of a namespace to those that are listed.
     pub(crate) fn list_in(&self, ns: &str, listed: &mut Vec<Shared>) -> Result<(), NoMemory>
-        ensures { OnOk result (listed.new.items ≡ listed.old.items ++ option_map_or objects_in (shelf_in self.now ns.now) []) }
+        ensures { OnOk result (listed.new.items ≡ listed.old.items ++ option_map_or objects_in (board_in self.now ns.now) []) }
     {
-        match self.shelf(ns) {
-            Some(shelf) => shelf.list(listed),
+        match self.board(ns) {
+            Some(board) => board.list(listed),
             None => Ok(()),
         }
     }
@@ -113,8 +115,8 @@ impl Shelves {
     pub(crate) fn list(&self, listed: &mut Vec<Shared>) -> Result<(), NoMemory>
         ensures { OnOk result (listed.new.items ≡ listed.old.items ++ objects_of self.now) }
     {
-        for (_, shelf) in self.shelves.iter() {
-            shelf.list(listed)?;
+        for (_, board) in self.shelves.iter() {
+            board.list(listed)?;
         }
         Ok(())
     }

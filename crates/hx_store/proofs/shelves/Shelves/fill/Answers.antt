@@ -1,19 +1,19 @@
 use Rattle.std.proofs.Common.{◌≡◌, Some, sym, ap, subst, ◌∙◌}
 use Rattle.std.specs.Option.{option_copied_mut}
-use Rattle.hx_store.specs.Places.{filled, shelf_in, AreShelves}
+use Rattle.hx_store.specs.Places.{filled, board_in, AreShelves}
 use Rattle.hx_store.proofs.Edits.{filled_keeps, full_edits, written_edits, written_full}
 use Rattle.hx_store.proofs.shelves.Shelves.fill.Goals as goal
 
-there : (c : goal.After-self-in-Some-1) → shelf_in c.args.self.now c.args.ns.now ≡ Some c.in-Some.shelf.now
+there : (c : goal.After-self-in-Some-1) → board_in c.args.self.now c.args.ns.now ≡ Some c.in-Some.board.now
 there c = sym c.get_mut.ensures.value ∙ ap option_copied_mut c.in-Some.is
 
 pub returns-in-Some-clause-shelves : goal.returns-in-Some-clause-shelves
-returns-in-Some-clause-shelves c = written_full c.args.self.now (record { shelves = c.get_mut.follows.lender c.fill.new.self }) c.args.ns.now c.in-Some.shelf.now c.fill.new.self
-    (there c) (c.get_mut.follows.holds c.fill.new.self) c.fill.ensures.shelf
-    (full_edits (filled c.args.object) c.in-Some.shelf.now c.fill.new.self c.args.name.now c.fill.ensures.places (filled_keeps c.args.object))
+returns-in-Some-clause-shelves c = written_full c.args.self.now (record { shelves = c.get_mut.follows.lender c.fill.new.self }) c.args.ns.now c.in-Some.board.now c.fill.new.self
+    (there c) (c.get_mut.follows.holds c.fill.new.self) c.fill.ensures.board
+    (full_edits (filled c.args.object) c.in-Some.board.now c.fill.new.self c.args.name.now c.fill.ensures.places (filled_keeps c.args.object))
 
 pub returns-in-Some-clause-places : goal.returns-in-Some-clause-places
-returns-in-Some-clause-places c = written_edits c.args.self.now (record { shelves = c.get_mut.follows.lender c.fill.new.self }) c.args.ns.now (filled c.args.object) c.args.name.now c.in-Some.shelf.now c.fill.new.self
+returns-in-Some-clause-places c = written_edits c.args.self.now (record { shelves = c.get_mut.follows.lender c.fill.new.self }) c.args.ns.now (filled c.args.object) c.args.name.now c.in-Some.board.now c.fill.new.self
     (there c) (c.get_mut.follows.holds c.fill.new.self) c.fill.ensures.places
 
 pub returns-in-None-clause-shelves : goal.returns-in-None-clause-shelves

@@ -5,5 +5,5 @@ use Rattle.hx_store.specs.Places.{objects_in, objects_of}
 use Rattle.hx_store.proofs.shelves.Shelves.list.Given as goal
 
 -- what is listed, and then the objects of the shelves that are left
-abbrev pub invariant-loop-shelf : goal.invariant-loop-shelf
-invariant-loop-shelf l = l.listed.items ++ flat_map objects_in (values_of l.shelf-iterator) ≡ l.fn.listed.items ++ objects_of l.self
+abbrev pub invariant-loop-board : goal.invariant-loop-board
+invariant-loop-board l = l.listed.items ++ flat_map objects_in (values_of l.board-iterator) ≡ l.fn.listed.items ++ objects_of l.self

@@ -1,25 +1,25 @@
 use Rattle.std.proofs.Common.{◌≡◌, Some, sym, ap, subst, ◌∙◌}
 use Rattle.std.specs.Option.{option_copied_mut}
 use Rattle.hx_store.specs.declared.shelves.Shelves.{Shelves}
-use Rattle.hx_store.specs.Places.{made, unchanged, shelf_in, AreShelves}
+use Rattle.hx_store.specs.Places.{made, unchanged, board_in, AreShelves}
 use Rattle.hx_store.proofs.Edits.{either_way, make_full, written_edits, written_full}
 use Rattle.hx_store.proofs.shelves.Shelves.make.Goals as goal
 
-there : (c : goal.After-self-in-Some-1) → shelf_in c.args.self.now c.args.ns.now ≡ Some c.in-Some.shelf.now
+there : (c : goal.After-self-in-Some-1) → board_in c.args.self.now c.args.ns.now ≡ Some c.in-Some.board.now
 there c = sym c.get_mut.ensures.value ∙ ap option_copied_mut c.in-Some.is
 
 pub returns-in-Some-clause-shelves : goal.returns-in-Some-clause-shelves
-returns-in-Some-clause-shelves c = written_full c.args.self.now (record { shelves = c.get_mut.follows.lender c.make.new.self }) c.args.ns.now c.in-Some.shelf.now c.make.new.self
-    (there c) (c.get_mut.follows.holds c.make.new.self) c.make.ensures.shelf
-    (make_full c.in-Some.shelf.now c.make.new.self c.args.name.now c.make.result c.make.ensures.places)
+returns-in-Some-clause-shelves c = written_full c.args.self.now (record { shelves = c.get_mut.follows.lender c.make.new.self }) c.args.ns.now c.in-Some.board.now c.make.new.self
+    (there c) (c.get_mut.follows.holds c.make.new.self) c.make.ensures.board
+    (make_full c.in-Some.board.now c.make.new.self c.args.name.now c.make.result c.make.ensures.places)
 
 pub returns-in-Some-clause-places : goal.returns-in-Some-clause-places
 returns-in-Some-clause-places c =
     let new : Shelves = record { shelves = c.get_mut.follows.lender c.make.new.self } in
     let writes = c.get_mut.follows.holds c.make.new.self in
     either_way c.make.result c.make.ensures.places
-    (written_edits c.args.self.now new c.args.ns.now made c.args.name.now c.in-Some.shelf.now c.make.new.self (there c) writes)
-    (written_edits c.args.self.now new c.args.ns.now unchanged c.args.name.now c.in-Some.shelf.now c.make.new.self (there c) writes)
+    (written_edits c.args.self.now new c.args.ns.now made c.args.name.now c.in-Some.board.now c.make.new.self (there c) writes)
+    (written_edits c.args.self.now new c.args.ns.now unchanged c.args.name.now c.in-Some.board.now c.make.new.self (there c) writes)
 
 pub returns-in-None-clause-shelves : goal.returns-in-None-clause-shelves
 returns-in-None-clause-shelves c sound = c.add.ensures.shelves (subst (λ m. AreShelves (record { shelves = m })) (sym c.get_mut.follows.holds-at-none) sound)
