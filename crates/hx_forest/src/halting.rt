@@ -2,6 +2,8 @@
 ghost use Rattle.std.specs.Prelude.{◌≡◌, ◌+◌, false, Some, [], ◌∷◌, is_some, length, option_copied, IfSome};
 ghost use Rattle.hx_model.specs.First.{so, first};
 ghost use Rattle.hx_model.specs.Forest.{own_halt_of, halt_of};
+ghost use Rattle.hx_model.specs.Moves.{is_calm};
+ghost use Rattle.hx_model.specs.TreeLabels.{is_open};
 ghost use Rattle.hx_model.specs.Walks.{walk_ends};
 ghost use Rattle.hx_forest.specs.Inside.{halt_at, halt_under, nodes_halt};
 ghost use Rattle.hx_forest.specs.Ways.{forest_of, node_in, place_of, LeadsUp, AllLeadUp};
@@ -18,6 +20,26 @@ impl Forest {
         ensures { result ≡ halt_of self.now.nodes name.now }
     {
         self.nodes.halt(name)
+    }
+
+    /// Whether a namespace is there and not on its way out, and isn't excluded.
+    pub fn is_calm(&self, name: &Text) -> bool
+        ensures { result ≡ is_calm self.now.nodes name.now }
+    {
+        match self.node(name) {
+            Some(node) => !node.terminating && !node.excluded,
+            None => false,
+        }
+    }
+
+    /// Whether a namespace takes part: it is there and not on its way out, and neither excluded nor halted.
+    pub fn is_open(&self, name: &Text) -> bool
+        ensures { result ≡ is_open self.now.nodes name.now }
+    {
+        match self.node(name) {
+            Some(node) => !node.terminating && !node.excluded && self.halt(name).is_none(),
+            None => false,
+        }
     }
 }
 
