@@ -1,0 +1,10 @@
+pub mod Keys
+pub mod Sets
+pub mod Lining
+pub mod Holding
+pub mod Queueing
+pub mod Looking
+pub mod Finding
+pub mod Handing
+pub mod Marking
+pub mod Tying

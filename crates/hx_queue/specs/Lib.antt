@@ -1,0 +1,5 @@
+pub mod Kept
+pub mod Line
+pub mod Slots
+pub mod Workers
+pub mod Tied

@@ -1,0 +1,27 @@
+-- The keys that wait, in two generations.
+--     LineView    the keys, the next one first, and the room
+--     in_line     the keys of both generations in order
+--     IsLine      what the generations keep
+use Rattle.std.specs.Prelude.{◌≡◌, ℕ, List, [], ◌++◌, reverse, refl}
+use Rattle.std.specs.List.{IsDistinct}
+use Rattle.std.specs.Coded.{Coded, code_by, coded×, coded_list, coded_ℕ}
+use Rattle.hx_model.specs.Keys.{same_key}
+use Rattle.hx_model.specs.contracts.key.Key as key
+use Rattle.hx_model.specs.declared.key.Key.{Key}
+
+pub record LineView : Type 0 where
+  pub keys : List Key
+  pub room : ℕ
+
+-- the older generation from its last key on, and then the younger one
+abbrev pub in_line : List Key → List Key → List Key
+in_line now later = reverse now ++ later
+
+-- no key is there twice, and the older generation has keys if the younger one does
+pub record IsLine (now later : List Key) : Type 0 where
+  pub distinct : IsDistinct same_key (in_line now later)
+  pub turned : now ≡ [] → later ≡ []
+
+-- as a pair
+abbrev pub line_code : Coded LineView
+line_code = code_by (List Key × ℕ) (coded× (coded_list key.the_row.coded) coded_ℕ) (λ l. (l.keys, l.room)) (λ p. record { keys = p.0; room = p.1 }) (λ _. refl)

@@ -1,0 +1,10 @@
+//! The keys of reconcilers' work: which wait, and which a worker holds, with the brief that it was given.
+#![tactic(auto)]
+
+mod line;
+mod queue;
+mod slots;
+mod workers;
+
+pub use queue::Queue;
+pub use workers::Workers;

@@ -1,0 +1,135 @@
+// The keys that wait, in their order.
+ghost use Rattle.std.specs.Prelude.{◌≡◌, ◌≤◌, ◌<◌, ◌+◌, ◌++◌, ◌∷◌, [], List, false, OnOk, option_copied, length, min, slice_get};
+ghost use Rattle.std.specs.List.{IsDistinct, list_any};
+ghost use Rattle.std.specs.List.Sorted.{IsPermutation};
+ghost use Rattle.indexmap.specs.IndexSet.{spare};
+ghost use Rattle.hx_model.specs.Keys.{same_key, is_among};
+ghost use Rattle.hx_model.specs.declared.key.Key.{Key as key_of};
+ghost use Rattle.hx_queue.specs.Kept.{waiting_without};
+ghost use Rattle.hx_queue.specs.Line.{in_line};
+
+use hx_model::Key;
+use hx_object::NoMemory;
+use indexmap::IndexSet;
+use std::alloc::Global;
+use std::hash::RandomState;
+use std::marker::Model;
+use std::mem;
+
+type KeySet = IndexSet<Key, RandomState>;
+
+/// The keys that wait.
+///
+/// A key that is pushed goes to the younger generation, and the next one is the last of the older generation. Where that has no keys left, the younger one takes its place, the other way round. So a key that is pushed and taken is moved twice, whatever waits.
+#[derive(Drop)]
+pub(crate) struct Line {
+    older: KeySet,
+    younger: KeySet,
+}
+
+impl Model for Line {
+    ghost use Rattle.std.specs.Prelude.{min};
+    ghost use Rattle.indexmap.specs.IndexSet.{spare};
+    ghost use Rattle.hx_queue.specs.Line.{LineView, line_code, in_line, IsLine};
+
+    ghost Value = { LineView };
+
+    ghost coded = { line_code };
+
+    ghost view = { λ l. record { keys = in_line l.older.keys l.younger.keys; room = min (spare l.older) (spare l.younger) } };
+
+    ghost invariant = { λ l. IsLine l.older.keys l.younger.keys };
+}
+
+impl Line {
+    /// No keys. It takes no memory.
+    pub(crate) fn new(alloc: Global, keys: RandomState) -> Line
+        ensures { result.keys ≡ [] }
+    {
+        Line {
+            older: IndexSet::with_hasher(alloc, keys),
+            younger: IndexSet::with_hasher(alloc, keys),
+        }
+    }
+
+    /// Makes room for `more` keys. Where no memory is left, the room stays.
+    pub(crate) fn reserve(&mut self, more: usize) -> Result<(), NoMemory>
+        ensures keys { self.new.keys ≡ self.old.keys }
+        ensures room { OnOk result (more ≤ self.new.room) }
+        ensures kept { self.old.room ≤ self.new.room }
+    {
+        self.older.reserve(more)?;
+        Ok(self.younger.reserve(more)?)
+    }
+
+    /// How many keys there are.
+    pub(crate) fn len(&self) -> usize
+        ensures len { result ≡ length self.now.keys }
+        ensures distinct { IsDistinct same_key self.now.keys }
+    {
+        self.older.len() + self.younger.len()
+    }
+
+    /// Whether a key is there.
+    #[tactic(auto, unfolding(hx_model::specs::Keys::same_key))]
+    pub(crate) fn has(&self, key: &Key) -> bool
+        ensures { result ≡ is_among key.now self.now.keys }
+    {
+        self.older.contains(key) || self.younger.contains(key)
+    }
+
+    /// The next key.
+    pub(crate) fn first(&self) -> Option<&Key>
+        ensures { option_copied result ≡ slice_get self.now.keys 0 }
+    {
+        self.older.last()
+    }
+
+    /// Puts a key behind the others. It takes no memory.
+    pub(crate) fn push(&mut self, key: Key)
+        requires room { 0 < self.old.room }
+        requires absent { is_among key self.old.keys ≡ false }
+        ensures keys { self.new.keys ≡ self.old.keys ++ key ∷ [] }
+        ensures room { self.old.room ≤ self.new.room + 1 }
+    {
+        if self.older.is_empty() {
+            push_in(&mut self.older, key);
+        } else {
+            push_in(&mut self.younger, key);
+        }
+    }
+
+    /// Takes a key out, where it is there. The others keep their order where it was the first.
+    pub(crate) fn take(&mut self, key: &Key)
+        ensures keys { IsPermutation self.new.keys (waiting_without self.old.keys key.now) }
+        ensures first { (rest : List key_of) → self.old.keys ≡ key.now ∷ rest → self.new.keys ≡ rest }
+        ensures room { self.old.room ≤ self.new.room }
+    {
+        let _older = self.older.swap_remove(key);
+        let _younger = self.younger.swap_remove(key);
+        turn(&mut self.older, &mut self.younger);
+    }
+}
+
+// Puts a key that isn't there behind the others.
+#[tactic(auto, unfolding(hx_model::specs::Keys::same_key))]
+fn push_in(keys: &mut KeySet, key: Key)
+    requires room { 0 < spare keys.old }
+    requires absent { is_among key keys.old.keys ≡ false }
+    ensures keys { keys.new.keys ≡ keys.old.keys ++ key ∷ [] }
+    ensures room { spare keys.old ≤ spare keys.new + 1 }
+{
+    let _pushed = keys.insert(key);
+}
+
+// Where the older generation has no keys, the younger one takes its place.
+fn turn(older: &mut KeySet, younger: &mut KeySet)
+    ensures keys { in_line older.new.keys younger.new.keys ≡ in_line older.old.keys younger.old.keys }
+    ensures turned { older.new.keys ≡ [] → younger.new.keys ≡ [] }
+    ensures room { min (spare older.old) (spare younger.old) ≤ min (spare older.new) (spare younger.new) }
+{
+    if older.is_empty() {
+        mem::swap(older, younger);
+        older.reverse();
+    }
+}
