@@ -1,0 +1,118 @@
+-- A HierarchyConfiguration that is written marks what wants another write.
+--     all_served         what is stored is served
+--     hierarchy_marks    what it marks, by its name
+--     MovesTree          what the tree is then
+--     move_same          a key that isn't marked wants the same, by the tree
+--     put_moves, cut_moves   what one that is put or cut makes of the tree
+--     move_law           a key that isn't marked wants the same
+use Rattle.std.proofs.Common.{◌≡◌, ℕ, ◌+◌, Bool, true, false, Option, Some, None, List, [], ◌∷◌, refl, sym, ap, ◌∙◌, subst, true≢false}
+use Rattle.std.specs.Prelude.{is_some, if◌then◌else◌}
+use Rattle.std.specs.List.{AllByRecursion}
+use Rattle.std.specs.Option.{option_map_or}
+use Rattle.std.specs.Str.{bytes_eq}
+use Rattle.hx_object.specs.Kinds.{is_hierarchy}
+use Rattle.hx_object.specs.declared.object.Id.{Id}
+use Rattle.hx_object.specs.declared.object.Object.{Object}
+use Rattle.hx_model.specs.Cases.{same_name}
+use Rattle.hx_model.specs.Covered.{IsSameFor}
+use Rattle.hx_model.specs.First.{or_else}
+use Rattle.hx_model.specs.Forest.{Forest, is_there, parent_of, with_parent}
+use Rattle.hx_model.specs.Keys.{is_among}
+use Rattle.hx_model.specs.Serving.{IsServed}
+use Rattle.hx_model.specs.State.{State, Objects, object_at, put, cut, home_in, namespace_id, state_after}
+use Rattle.hx_model.specs.Tree.{hierarchy, subnamespace_parent, named_parent, forest_in, forest_of}
+use Rattle.hx_model.specs.TreeLabels.{is_open}
+use Rattle.hx_model.specs.Valid.{IsStored, IsValid}
+use Rattle.hx_model.specs.Writes.{id_written, MayWriteAll}
+use Rattle.hx_model.specs.declared.key.Key.{Key}
+use Rattle.hx_model.specs.declared.key.Write.{Write}
+use Rattle.hx_model.specs.declared.key.Write.TheVariants.{Put, Cut}
+use Rattle.hx_model.proofs.Climbing.{is_same}
+use Rattle.hx_model.proofs.Displacing.{KeepsOthers, put_keeps, cut_keeps, with_same_parent}
+use Rattle.hx_model.proofs.Moving.{moved_parent}
+use Rattle.hx_model.proofs.Planting.{hierarchy_no_namespace, there-objects, home_of_hierarchy, forest-put_moves, forest-cut_moves}
+use Rattle.hx_marks.specs.Law.{is_modes, moved_by, move_marks, mode_marks, namespace_marks, object_marks, marks_by, marks_of}
+use Rattle.hx_marks.proofs.MoveBelow.{moved_same}
+use Rattle.hx_marks.proofs.MoveStates.{same_for}
+
+pub all_served : (last : ℕ) (objects : Objects) → AllByRecursion (IsStored last) objects → AllByRecursion IsServed objects
+all_served last [] h = tt
+all_served last (x ∷ objects) h = (h.0.served, all_served last objects h.1)
+
+-- what it marks
+pub hierarchy_marks : (s t : State) (id : Id) (old new : Option Object) → is_hierarchy id.kind ≡ true → marks_by s t id old new ≡ (if bytes_eq id.name hierarchy then move_marks s t id.ns else [])
+hierarchy_marks s t id old new is =
+    ap (λ b. if b then namespace_marks s t id.name old else (if is_hierarchy id.kind then (if bytes_eq id.name hierarchy then move_marks s t id.ns else []) else (if is_modes id then mode_marks s old new else object_marks s id old new))) (hierarchy_no_namespace id is)
+    ∙ ap (λ b. if b then (if bytes_eq id.name hierarchy then move_marks s t id.ns else []) else (if is_modes id then mode_marks s old new else object_marks s id old new)) is
+
+same_names : (a b : Option (List ℕ)) → same_name a b ≡ true → a ≡ b
+same_names None None h = refl
+same_names None (Some b) h = absurd (true≢false (sym h))
+same_names (Some a) None h = absurd (true≢false (sym h))
+same_names (Some a) (Some b) h = ap (λ x. Some x) (is_same a b h)
+
+-- what the tree is then, where it names that parent
+abbrev pub MovesTree : State → Id → Option (List ℕ) → Objects → Type 0
+MovesTree s id named new =
+    forest_in s.config.excluded new ≡ (if bytes_eq id.name hierarchy then option_map_or (λ home. with_parent id.ns (or_else (subnamespace_parent home) named) (forest_of s)) (home_in s.objects id) (forest_of s) else forest_of s)
+
+module _ (s : State) (valid : IsValid s) (id : Id) (is : is_hierarchy id.kind ≡ true) (new : Objects) (last : ℕ) (keeps : KeepsOthers id s.objects new) where
+  abbrev after : State
+  after = record s { objects = new; last = last }
+
+  -- where the tree stays
+  stays : (k : Key) → forest_in s.config.excluded new ≡ forest_of s → IsSameFor s after k
+  stays k tree = same_for s id is new last keeps (forest_of s) k tree refl
+
+  -- where its namespace is there
+  moves : (k : Key) (home : Object) (parent : Option (List ℕ)) → object_at s.objects (namespace_id id.ns) ≡ Some home → forest_in s.config.excluded new ≡ with_parent id.ns parent (forest_of s)
+      → is_among k (move_marks s after id.ns) ≡ false → IsSameFor s after k
+  moves k home parent here tree unmarked = by (same_name (parent_of (forest_of s) id.ns) parent) refl unmarked_then
+    where
+      there : is_there (forest_of s) id.ns ≡ true
+      there = there-objects s.config.excluded s.objects id.ns (all_served s.last s.objects valid.stored) ∙ ap is_some here
+
+      moved : Forest
+      moved = with_parent id.ns parent (forest_of s)
+
+      unmarked_then : is_among k (if same_name (parent_of (forest_of s) id.ns) parent then [] else moved_by s id.ns (parent_of (forest_of s) id.ns) parent (is_open (forest_of s) id.ns) (is_open moved id.ns)) ≡ false
+      unmarked_then =
+          subst (λ (p : Option (List ℕ)). is_among k (if same_name (parent_of (forest_of s) id.ns) p then [] else moved_by s id.ns (parent_of (forest_of s) id.ns) p (is_open (forest_of s) id.ns) (is_open moved id.ns)) ≡ false) (moved_parent (forest_of s) id.ns parent there)
+          (subst (λ (g : Forest). is_among k (if same_name (parent_of (forest_of s) id.ns) (parent_of g id.ns) then [] else moved_by s id.ns (parent_of (forest_of s) id.ns) (parent_of g id.ns) (is_open (forest_of s) id.ns) (is_open g id.ns)) ≡ false) tree unmarked)
+
+      by : (b : Bool) → same_name (parent_of (forest_of s) id.ns) parent ≡ b
+          → is_among k (if b then [] else moved_by s id.ns (parent_of (forest_of s) id.ns) parent (is_open (forest_of s) id.ns) (is_open moved id.ns)) ≡ false → IsSameFor s after k
+      by true same marks = stays k (tree ∙ ap (λ p. with_parent id.ns p (forest_of s)) (sym (same_names (parent_of (forest_of s) id.ns) parent same)) ∙ with_same_parent s valid id.ns home here)
+      by false differs marks = same_for s id is new last keeps moved k tree (moved_same s id.ns parent there (with_same_parent s valid id.ns home here) k marks)
+
+  by_home : (k : Key) (named : Option (List ℕ)) (o : Option Object) → object_at s.objects (namespace_id id.ns) ≡ o
+      → forest_in s.config.excluded new ≡ option_map_or (λ home. with_parent id.ns (or_else (subnamespace_parent home) named) (forest_of s)) o (forest_of s)
+      → is_among k (move_marks s after id.ns) ≡ false → IsSameFor s after k
+  by_home k named None here tree unmarked = stays k tree
+  by_home k named (Some home) here tree unmarked = moves k home (or_else (subnamespace_parent home) named) here tree unmarked
+
+  -- a key that isn't marked wants the same
+  pub move_same : (k : Key) (named : Option (List ℕ)) → MovesTree s id named new → is_among k (if bytes_eq id.name hierarchy then move_marks s after id.ns else []) ≡ false → IsSameFor s after k
+  move_same k named tree unmarked = by_name (bytes_eq id.name hierarchy) tree unmarked
+    where
+      by_name : (b : Bool) → forest_in s.config.excluded new ≡ (if b then option_map_or (λ home. with_parent id.ns (or_else (subnamespace_parent home) named) (forest_of s)) (home_in s.objects id) (forest_of s) else forest_of s)
+          → is_among k (if b then move_marks s after id.ns else []) ≡ false → IsSameFor s after k
+      by_name true tree unmarked =
+          by_home k named (object_at s.objects (namespace_id id.ns)) refl
+          (tree ∙ ap (λ o. option_map_or (λ home. with_parent id.ns (or_else (subnamespace_parent home) named) (forest_of s)) o (forest_of s)) (home_of_hierarchy s.objects id is)) unmarked
+      by_name false tree unmarked = stays k tree
+
+pub put_moves : (s : State) → IsValid s → (x : Object) → is_hierarchy x.id.kind ≡ true → MovesTree s x.id (named_parent x) (put x s.objects)
+put_moves s valid x is = forest-put_moves s.config.excluded s.objects x.id is valid.in_order (all_served s.last s.objects valid.stored) x (named_parent x) refl refl
+
+pub cut_moves : (s : State) → IsValid s → (id : Id) → is_hierarchy id.kind ≡ true → MovesTree s id None (cut id s.objects)
+cut_moves s valid id is = forest-cut_moves s.config.excluded s.objects id is valid.in_order (all_served s.last s.objects valid.stored)
+
+-- a key that isn't marked wants the same on the same guards
+pub move_law : (s : State) (write : Write) → IsValid s → MayWriteAll s (write ∷ []) → is_hierarchy (id_written write).kind ≡ true → (k : Key) → is_among k (marks_of s write) ≡ false → IsSameFor s (state_after s (write ∷ [])) k
+move_law s (Put x) valid may is k unmarked =
+    move_same s valid x.id is (put x s.objects) (s.last + 1) (put_keeps x x.id s.objects refl) k (named_parent x) (put_moves s valid x is)
+    (sym (ap (is_among k) (hierarchy_marks s (state_after s (Put x ∷ [])) x.id (object_at s.objects x.id) (Some x) is)) ∙ unmarked)
+move_law s (Cut id) valid may is k unmarked =
+    move_same s valid id is (cut id s.objects) (s.last + 1) (cut_keeps id s.objects) k None (cut_moves s valid id is)
+    (sym (ap (is_among k) (hierarchy_marks s (state_after s (Cut id ∷ [])) id (object_at s.objects id) None is)) ∙ unmarked)

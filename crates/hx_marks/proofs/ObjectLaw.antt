@@ -1,0 +1,181 @@
+-- A write of an object that isn't marked for a key leaves what the key wants.
+--     marked_below, marked_place      a namespace below the object's that takes part is marked where it is sent, and its own always is
+--     marks_by_object                 what such a write marks
+--     object_law                      a key that isn't marked wants the same before and after the write
+--     within_objects                  a key that is marked is one that the write may make wait
+use Rattle.std.proofs.Common.{◌≡◌, ℕ, ◌==◌, Bool, true, false, cond, not, ◌&&◌, ◌||◌, Option, Some, None, List, [], ◌∷◌, refl, sym, ap, ◌∙◌, inl, inr, true≢false, eq-eqb}
+use Rattle.std.specs.Option.{option_map_or}
+use Rattle.std.specs.Str.{bytes_eq}
+use Rattle.std.proofs.lemmas.Bool.{and_parts, and_from, or_parts, cases_Bool, not_from_false, false_from_ne_true}
+use Rattle.hx_object.specs.Kinds.{can_be_copied, is_namespace, is_hierarchy, is_plain, number_of}
+use Rattle.hx_object.specs.declared.kind.Kind.{Kind}
+use Rattle.hx_object.specs.declared.kind.Kind.TheVariants as of
+use Rattle.hx_object.specs.declared.object.Id.{Id}
+use Rattle.hx_object.specs.declared.object.Mode.{Mode}
+use Rattle.hx_object.specs.declared.object.Object.{Object}
+use Rattle.hx_model.specs.Covered.{IsSameFor}
+use Rattle.hx_model.specs.First.{so}
+use Rattle.hx_model.specs.Forest.{is_in, chain_of, in_chain, tail_of}
+use Rattle.hx_model.specs.Keys.{same_key, is_among, is_key, touches, may_mark}
+use Rattle.hx_model.specs.Modes.{config_id, mode_in, mode_of}
+use Rattle.hx_model.specs.Moves.{mode_at}
+use Rattle.hx_model.specs.Propagation.{id_in}
+use Rattle.hx_model.specs.State.{State, object_at, same_id, namespace_id, state_after}
+use Rattle.hx_model.specs.Tree.{forest_of}
+use Rattle.hx_model.specs.TreeLabels.{is_open}
+use Rattle.hx_model.specs.Valid.{IsValid}
+use Rattle.hx_model.specs.Wanted.{copied_in}
+use Rattle.hx_model.specs.Writes.{id_written, MayWriteAll}
+use Rattle.hx_model.specs.declared.key.Key.{Key}
+use Rattle.hx_model.specs.declared.key.Key.TheVariants as key
+use Rattle.hx_model.specs.declared.key.Write.{Write}
+use Rattle.hx_model.proofs.Climbing.{same_itself}
+use Rattle.hx_model.proofs.Conflicting.{tail_chain}
+use Rattle.hx_model.proofs.Objects.{is_same_id}
+use Rattle.hx_marks.specs.Law.{is_ignored, is_sent, open_below, is_any_sent, place_marks, mode_marks, object_marks, is_modes, object_written, marks_of}
+use Rattle.hx_marks.proofs.Among.{same_key_is, same_key_itself, among_map, among_here, among_cond, passing_name, found_name}
+use Rattle.hx_marks.proofs.OpenBelow.{open_is_there, in_own_chain, in_open_below, open_below_has}
+use Rattle.hx_marks.proofs.Frames.{none_in_both, ignored_wants, uncopied_wants, same_tree, same_closed, same_copied}
+use Rattle.hx_marks.proofs.Going.{unsent_stays, going, top_along}
+use Rattle.hx_marks.proofs.Leaving.{Leaves, leaves, namespaces_stay, marks_are}
+
+-- ---- what is marked
+
+-- of a kind that is copied and not ignored
+abbrev pub HasMarks : State → Kind → Type 0
+HasMarks s kind = (can_be_copied kind ≡ true) × (is_ignored (mode_at s.objects kind) ≡ false)
+
+object_marked : (s : State) (id : Id) (old new : Option Object) (k : Key) → HasMarks s id.kind → is_among k (place_marks (forest_of s) (is_any_sent (mode_at s.objects id.kind) old new) id) ≡ true → is_among k (object_marks s id old new) ≡ true
+object_marked s id old new k has h =
+    let acts = can_be_copied id.kind && not (is_ignored (mode_at s.objects id.kind)) in
+    among_cond k acts (place_marks (forest_of s) (is_any_sent (mode_at s.objects id.kind) old new) id)
+    ∙ and_from acts _ (and_from (can_be_copied id.kind) _ has.0 (not_from_false _ has.1)) h
+
+-- below an object that is sent, before or after the write
+pub marked_below : (s : State) (n a : List ℕ) (kind : Kind) (name : List ℕ) (old new : Option Object) → HasMarks s kind → is_open (forest_of s) n ≡ true → in_chain (forest_of s) n a ≡ true → is_any_sent (mode_at s.objects kind) old new ≡ true
+    → is_among (key.Copy n kind name) (object_marks s (id_in kind name a) old new) ≡ true
+marked_below s n a kind name old new has acts above sent =
+    object_marked s (id_in kind name a) old new (key.Copy n kind name) has
+    (ap (λ b. is_among (key.Copy n kind name) (place_marks (forest_of s) b (id_in kind name a))) sent
+    ∙ among_map (key.Copy n kind name) (λ m. key.Copy m kind name) (open_below (forest_of s) a)
+    ∙ passing_name (λ m. same_key (key.Copy n kind name) (key.Copy m kind name)) n (open_below (forest_of s) a) (in_open_below (forest_of s) a n acts above) (same_key_itself (key.Copy n kind name)))
+
+-- the place itself
+pub marked_place : (s : State) (n : List ℕ) (kind : Kind) (name : List ℕ) (old new : Option Object) → HasMarks s kind → is_open (forest_of s) n ≡ true → is_among (key.Copy n kind name) (object_marks s (id_in kind name n) old new) ≡ true
+marked_place s n kind name old new has acts = elim (cases_Bool (is_any_sent (mode_at s.objects kind) old new)) [
+  | inl sent ↦ marked_below s n n kind name old new has acts (in_own_chain (forest_of s) n (open_is_there (forest_of s) n acts)) sent
+  | inr out ↦ object_marked s (id_in kind name n) old new (key.Copy n kind name) has
+      (ap (λ b. is_among (key.Copy n kind name) (place_marks (forest_of s) b (id_in kind name n))) out
+      ∙ ap (λ b. is_among (key.Copy n kind name) (cond b (key.Copy n kind name ∷ []) [])) acts
+      ∙ among_here (key.Copy n kind name) [])
+]
+
+-- what isn't sent goes nowhere
+unsent_going : (mode : Mode) (labels : List (List ℕ × List ℕ)) (found : Option Object) → option_map_or (is_sent mode) found false ≡ false → going mode labels found ≡ None
+unsent_going mode labels None out = refl
+unsent_going mode labels (Some x) out = ap (λ b. so b x) (unsent_stays mode x labels out)
+
+-- ---- the law
+
+module _ (s t : State) (id : Id) (new : Option Object) (left : Leaves s t id new) (namespace : is_namespace id.kind ≡ false) (modes : is_modes id ≡ false) where
+  found : (m : List ℕ) → object_at t.objects (namespace_id m) ≡ object_at s.objects (namespace_id m)
+  found = namespaces_stay s t id left.others namespace
+
+  mode_stays : (kind : Kind) → mode_of t kind ≡ mode_of s kind
+  mode_stays kind = ap (λ o. mode_in o kind) (left.others config_id (false_from_ne_true (same_id config_id id) (λ h. true≢false (ap is_modes (is_same_id config_id id h) ∙ modes))))
+
+  module _ (n : List ℕ) (kind : Kind) (name : List ℕ) (out : is_among (key.Copy n kind name) (object_marks s id (object_at s.objects id) new) ≡ false) (has : HasMarks s kind) (acts : is_open (forest_of s) n ≡ true) where
+    unmarked : (a : List ℕ) → id_in kind name a ≡ id → is_among (key.Copy n kind name) (object_marks s (id_in kind name a) (object_at s.objects id) new) ≡ false
+    unmarked a is = ap (λ (q : Id). is_among (key.Copy n kind name) (object_marks s q (object_at s.objects id) new)) is ∙ out
+
+    place_stays : object_at t.objects (id_in kind name n) ≡ object_at s.objects (id_in kind name n)
+    place_stays = left.others (id_in kind name n) (false_from_ne_true (same_id (id_in kind name n) id) (λ h.
+        true≢false (sym (marked_place s n kind name (object_at s.objects id) new has acts) ∙ unmarked n (is_same_id (id_in kind name n) id h))))
+
+    -- the same goes from each later member of the chain
+    goes_alike : (labels : List (List ℕ × List ℕ)) (a : List ℕ) → is_in a (tail_of (chain_of (forest_of s) n)) ≡ true → going (mode_of s kind) labels (object_at s.objects (id_in kind name a)) ≡ going (mode_of t kind) labels (object_at t.objects (id_in kind name a))
+    goes_alike labels a mem = elim (cases_Bool (same_id (id_in kind name a) id)) [
+      | inr apart ↦ λ i. going (sym (mode_stays kind) i) labels (sym (left.others (id_in kind name a) apart) i)
+      | inl h ↦
+          let is = is_same_id (id_in kind name a) id h in
+          let unsent : is_any_sent (mode_of s kind) (object_at s.objects id) new ≡ false = false_from_ne_true _ (λ sent.
+          true≢false (sym (marked_below s n a kind name (object_at s.objects id) new has acts (tail_chain (forest_of s) n a mem) sent) ∙ unmarked a is)) in
+          let parts = or_parts (option_map_or (is_sent (mode_of s kind)) (object_at s.objects id) false) (option_map_or (is_sent (mode_of s kind)) new false) unsent in
+          ap (λ (q : Id). going (mode_of s kind) labels (object_at s.objects q)) is
+          ∙ unsent_going (mode_of s kind) labels (object_at s.objects id) parts.0
+          ∙ sym (unsent_going (mode_of s kind) labels new parts.1)
+          ∙ (λ i. going (sym (mode_stays kind) i) labels (sym left.here i))
+          ∙ ap (λ (q : Id). going (mode_of t kind) labels (object_at t.objects q)) (sym is)
+    ]
+
+    wants_alike : IsSameFor s t (key.Copy n kind name)
+    wants_alike = same_copied s t left.tree found n kind name place_stays (λ labels.
+        (λ i. copied_in (sym (mode_stays kind) i) (top_along (mode_of s kind) (mode_of t kind) labels s.objects t.objects kind name (tail_of (chain_of (forest_of s) n)) (goes_alike labels) i) n (object_at s.objects (id_in kind name n))))
+
+  copy_law : (n : List ℕ) (kind : Kind) (name : List ℕ) → is_among (key.Copy n kind name) (object_marks s id (object_at s.objects id) new) ≡ false → IsSameFor s t (key.Copy n kind name)
+  copy_law n kind name out = elim (cases_Bool (is_open (forest_of s) n)) [
+    | inr closed ↦ same_closed s t left.tree found n kind name closed
+    | inl acts ↦ elim (cases_Bool (can_be_copied kind)) [
+      | inr uncopied ↦ none_in_both s t (key.Copy n kind name) (uncopied_wants s n kind name uncopied) (uncopied_wants t n kind name uncopied)
+      | inl copied ↦ elim (cases_Bool (is_ignored (mode_of s kind))) [
+        | inl ignored ↦ none_in_both s t (key.Copy n kind name) (ignored_wants s n kind name ignored) (ignored_wants t n kind name (ap is_ignored (mode_stays kind) ∙ ignored))
+        | inr counts ↦ wants_alike n kind name out (copied, counts) acts
+      ]
+    ]
+  ]
+
+  key_law : (k : Key) → is_among k (object_marks s id (object_at s.objects id) new) ≡ false → IsSameFor s t k
+  key_law (key.Copy n kind name) out = copy_law n kind name out
+  key_law (key.Tree n) out = same_tree s t left.tree found n
+  key_law k out = none_in_both s t k refl refl
+
+pub marks_by_object : (s : State) (write : Write) → is_namespace (id_written write).kind ≡ false → is_hierarchy (id_written write).kind ≡ false → is_modes (id_written write) ≡ false → marks_of s write ≡ object_marks s (id_written write) (object_at s.objects (id_written write)) (object_written write)
+marks_by_object s write namespace hierarchical modes = marks_are s write namespace hierarchical ∙ ap (λ b. cond b (mode_marks s (object_at s.objects (id_written write)) (object_written write)) (object_marks s (id_written write) (object_at s.objects (id_written write)) (object_written write))) modes
+
+-- a key that isn't marked wants the same before and after the write
+pub object_law : (s : State) (write : Write) → IsValid s → MayWriteAll s (write ∷ []) → is_namespace (id_written write).kind ≡ false → is_hierarchy (id_written write).kind ≡ false → is_modes (id_written write) ≡ false
+    → (k : Key) → is_among k (marks_of s write) ≡ false → IsSameFor s (state_after s (write ∷ [])) k
+object_law s write valid may namespace hierarchical modes k out =
+    key_law s (state_after s (write ∷ [])) (id_written write) (object_written write) (leaves s write namespace hierarchical) namespace modes k
+    (ap (is_among k) (sym (marks_by_object s write namespace hierarchical modes)) ∙ out)
+
+-- ---- and nothing else is marked
+
+copied_plain : (kind : Kind) → can_be_copied kind ≡ true → is_plain kind ≡ true
+copied_plain of.Namespace is = absurd (true≢false (sym is))
+copied_plain of.HncConfiguration is = absurd (true≢false (sym is))
+copied_plain of.HierarchyConfiguration is = absurd (true≢false (sym is))
+copied_plain of.SubnamespaceAnchor is = absurd (true≢false (sym is))
+copied_plain of.HierarchicalResourceQuota is = absurd (true≢false (sym is))
+copied_plain _ is = refl
+
+touched : (s : State) (id : Id) (k : Key) (m : List ℕ) → same_key k (key.Copy m id.kind id.name) ≡ true → in_chain (forest_of s) m id.ns ≡ true → touches s id k ≡ true
+touched s id k m same has =
+    ap (touches s id) (same_key_is k (key.Copy m id.kind id.name) same)
+    ∙ and_from (number_of id.kind == number_of id.kind) _ (eq-eqb (number_of id.kind) (number_of id.kind) refl) (and_from (bytes_eq id.name id.name) (in_chain (forest_of s) m id.ns) (same_itself id.name) has)
+
+place_touched : (s : State) (id : Id) (k : Key) (b : Bool) → is_among k (place_marks (forest_of s) b id) ≡ true → touches s id k ≡ true
+place_touched s id k true h =
+    let at = found_name (λ m. same_key k (key.Copy m id.kind id.name)) (open_below (forest_of s) id.ns) (sym (among_map k (λ m. key.Copy m id.kind id.name) (open_below (forest_of s) id.ns)) ∙ h) in
+    touched s id k at.0 at.2 (open_below_has (forest_of s) id.ns at.0 at.1).1
+place_touched s id k false h =
+    let parts = and_parts (is_open (forest_of s) id.ns) (is_among k (key.Copy id.ns id.kind id.name ∷ [])) (sym (among_cond k (is_open (forest_of s) id.ns) (key.Copy id.ns id.kind id.name ∷ [])) ∙ h) in
+    touched s id k id.ns (only (same_key k (key.Copy id.ns id.kind id.name)) parts.1) (in_own_chain (forest_of s) id.ns (open_is_there (forest_of s) id.ns parts.0))
+  where
+    only : (b : Bool) → (b || false) ≡ true → b ≡ true
+    only true e = refl
+    only false e = absurd (true≢false (sym e))
+
+object_within : (s : State) (id : Id) (old new : Option Object) (k : Key) → is_among k (object_marks s id old new) ≡ true → (is_plain id.kind ≡ true) × (touches s id k ≡ true)
+object_within s id old new k h =
+    let acts = can_be_copied id.kind && not (is_ignored (mode_at s.objects id.kind)) in
+    let sent = is_any_sent (mode_at s.objects id.kind) old new in
+    let parts = and_parts acts (is_among k (place_marks (forest_of s) sent id)) (sym (among_cond k acts (place_marks (forest_of s) sent id)) ∙ h) in
+    (copied_plain id.kind (and_parts (can_be_copied id.kind) _ parts.0).0, place_touched s id k sent parts.1)
+
+-- a key that is marked is one that the write may make wait
+pub within_objects : (s : State) (write : Write) → IsValid s → MayWriteAll s (write ∷ []) → is_namespace (id_written write).kind ≡ false → is_hierarchy (id_written write).kind ≡ false → is_modes (id_written write) ≡ false
+    → (k : Key) → is_among k (marks_of s write) ≡ true → may_mark s (write ∷ []) k ≡ true
+within_objects s write valid may namespace hierarchical modes k h =
+    let within = object_within s (id_written write) (object_at s.objects (id_written write)) (object_written write) k (ap (is_among k) (sym (marks_by_object s write namespace hierarchical modes)) ∙ h) in
+    ap (λ b. cond b (touches s (id_written write) k) (is_key s k || is_key (state_after s (write ∷ [])) k)) within.0 ∙ within.1

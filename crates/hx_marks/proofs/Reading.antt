@@ -1,0 +1,125 @@
+-- That what is read off the state before a write is what it marks.
+--     marks_read     a write that may be made of a valid state
+--     all_read       the writes of one commit
+use Rattle.std.specs.Prelude.{is_some, option_and_then, flat_map}
+use Rattle.std.proofs.Common.{◌≡◌, ℕ, Bool, true, false, cond, Option, Some, None, option_map, List, [], ◌∷◌, ◌++◌, refl, sym, ap, ◌∙◌, true≢false, if◌then◌else◌}
+use Rattle.std.specs.List.{AllByRecursion}
+use Rattle.std.specs.Option.{option_map_or}
+use Rattle.std.specs.Str.{bytes_eq}
+use Rattle.std.proofs.lemmas.Bool.{false_from_ne_true}
+use Rattle.hx_object.specs.declared.object.Id.{Id}
+use Rattle.hx_object.specs.declared.object.Object.{Object}
+use Rattle.hx_model.specs.Cases.{same_name}
+use Rattle.hx_model.specs.Forest.{Forest, is_there, parent_of, with_parent}
+use Rattle.hx_model.specs.Limits.{is_namespace, is_hierarchy}
+use Rattle.hx_model.specs.Serving.{IsServed}
+use Rattle.hx_model.specs.State.{State, Objects, home_in, namespace_id, object_at, put, same_id, state_after}
+use Rattle.hx_model.specs.Tree.{hierarchy, hierarchy_id, forest_of, node_in, parent_with}
+use Rattle.hx_model.specs.TreeLabels.{is_open}
+use Rattle.hx_model.specs.Valid.{IsStored, IsValid}
+use Rattle.hx_model.specs.Writes.{MayWrite, id_written}
+use Rattle.hx_model.specs.declared.node.Node.{Node}
+use Rattle.hx_model.specs.declared.key.Key.{Key}
+use Rattle.hx_model.specs.declared.key.Write.{Write}
+use Rattle.hx_model.specs.declared.key.Write.TheVariants.{Put, Cut}
+use Rattle.hx_model.proofs.Moving.{moved_parent}
+use Rattle.hx_model.proofs.Objects.{is_same_id, object_at-put, object_at-put_itself}
+use Rattle.hx_model.proofs.Planting.{namespace_is_homed, node_of-objects, there-objects, home_of_hierarchy, forest-put_moves, forest-cut_moves}
+use Rattle.hx_model.proofs.Storing.{All-put}
+use Rattle.hx_model.proofs.Walking.{no_parent}
+use Rattle.hx_marks.specs.Before.{hierarchy_marks, marks_before, move_marks_to, namespace_marks_by, opens_under}
+use Rattle.hx_marks.specs.Law.{created_marks, is_modes, mode_marks, marks_of, move_marks, moved_by, namespace_marks, object_marks, object_written}
+use Rattle.hx_marks.proofs.TakingPart.{opens_after}
+
+all_served : (last : ℕ) (objects : Objects) → AllByRecursion (IsStored last) objects → AllByRecursion IsServed objects
+all_served last [] h = tt
+all_served last (x ∷ objects) h = (h.0.served, all_served last objects h.1)
+
+module _ (s : State) (valid : IsValid s) where
+  served : AllByRecursion IsServed s.objects
+  served = all_served s.last s.objects valid.stored
+
+  -- ---- HierarchyConfigurations
+
+  -- the namespace is there, and gets that parent
+  to_parent : (t : State) (n : List ℕ) (parent : Option (List ℕ)) → is_there (forest_of s) n ≡ true → forest_of t ≡ with_parent n parent (forest_of s) → move_marks s t n ≡ move_marks_to s n parent
+  to_parent t n parent there tree =
+      let named : parent_of (forest_of t) n ≡ parent = ap (λ (f : Forest). parent_of f n) tree ∙ moved_parent (forest_of s) n parent there in
+      let opens : is_open (forest_of t) n ≡ opens_under (forest_of s) n parent = ap (λ (f : Forest). is_open f n) tree ∙ opens_after (forest_of s) n parent there in
+      λ i. if same_name (parent_of (forest_of s) n) (named i) then [] else moved_by s n (parent_of (forest_of s) n) (named i) (is_open (forest_of s) n) (opens i)
+
+  -- it isn't there
+  to_none : (t : State) (n : List ℕ) → is_there (forest_of s) n ≡ false → forest_of t ≡ forest_of s → move_marks s t n ≡ move_marks_to s n None
+  to_none t n out tree =
+      let none = no_parent (forest_of s) n out in
+      ap (λ (f : Forest). if same_name (parent_of (forest_of s) n) (parent_of f n) then [] else moved_by s n (parent_of (forest_of s) n) (parent_of f n) (is_open (forest_of s) n) (is_open f n)) tree
+      ∙ (λ i. if same_name (none i) (none i) then [] else moved_by s n (none i) (none i) (is_open (forest_of s) n) (is_open (forest_of s) n))
+      ∙ sym (λ i. if same_name (none i) None then [] else moved_by s n (none i) None (is_open (forest_of s) n) (opens_under (forest_of s) n None))
+
+  -- the tree after a HierarchyConfiguration is `new`, or is gone
+  abbrev tree_by : Id → Option Object → Option Object → Forest
+  tree_by id new home = option_map_or (λ x. with_parent id.ns (parent_with new x) (forest_of s)) home (forest_of s)
+
+  by_home : (t : State) (id : Id) (new home : Option Object) → object_at s.objects (namespace_id id.ns) ≡ home → forest_of t ≡ tree_by id new home → move_marks s t id.ns ≡ move_marks_to s id.ns (option_and_then (parent_with new) home)
+  by_home t id new None at tree = to_none t id.ns (there-objects s.config.excluded s.objects id.ns served ∙ ap is_some at) tree
+  by_home t id new (Some x) at tree = to_parent t id.ns (parent_with new x) (there-objects s.config.excluded s.objects id.ns served ∙ ap is_some at) tree
+
+  hierarchy_read : (t : State) (id : Id) (new : Option Object) → is_hierarchy id.kind ≡ true → forest_of t ≡ (if bytes_eq id.name hierarchy then tree_by id new (home_in s.objects id) else forest_of s)
+      → (if bytes_eq id.name hierarchy then move_marks s t id.ns else []) ≡ hierarchy_marks s id new
+  hierarchy_read t id new is = by_name (bytes_eq id.name hierarchy)
+    where
+      by_name : (b : Bool) → forest_of t ≡ (if b then tree_by id new (home_in s.objects id) else forest_of s)
+          → (if b then move_marks s t id.ns else []) ≡ (if b then move_marks_to s id.ns (option_and_then (parent_with new) (object_at s.objects (namespace_id id.ns))) else [])
+      by_name true tree = by_home t id new (object_at s.objects (namespace_id id.ns)) refl (tree ∙ ap (tree_by id new) (home_of_hierarchy s.objects id is))
+      by_name false tree = refl
+
+  -- ---- namespaces
+
+  -- the parent of one that is made
+  made : (x : Object) → IsServed x → is_namespace x.id.kind ≡ true → parent_of (forest_of (state_after s (Put x ∷ []))) x.id.name ≡ parent_with (object_at s.objects (hierarchy_id x.id.name)) x
+  made x fits is =
+      let homed = namespace_is_homed x fits is in
+      let found : object_at (put x s.objects) (namespace_id x.id.name) ≡ Some x = ap (object_at (put x s.objects)) (sym homed) ∙ object_at-put_itself x s.objects in
+      let other : same_id (hierarchy_id x.id.name) x.id ≡ false = false_from_ne_true (same_id (hierarchy_id x.id.name) x.id) (λ h. true≢false (ap (λ (q : Id). is_hierarchy q.kind) (is_same_id (hierarchy_id x.id.name) x.id h) ∙ ap (λ (q : Id). is_hierarchy q.kind) homed)) in
+      ap (option_and_then (λ (node : Node). node.parent)) (node_of-objects s.config.excluded (put x s.objects) x.id.name (All-put IsServed x s.objects fits served))
+      ∙ ap (λ o. option_and_then (λ (node : Node). node.parent) (option_map (node_in s.config.excluded (put x s.objects)) o)) found
+      ∙ ap (λ o. parent_with o x) (object_at-put x s.objects (hierarchy_id x.id.name) ∙ ap (λ b. cond b (Some x) (object_at s.objects (hierarchy_id x.id.name))) other)
+
+  namespace_read : (write : Write) (old : Option Object) → MayWrite s write → is_namespace (id_written write).kind ≡ true
+      → namespace_marks s (state_after s (write ∷ [])) (id_written write).name old ≡ namespace_marks_by s (id_written write).name old (object_written write)
+  namespace_read (Put x) (Some old) may is = refl
+  namespace_read (Put x) None may is = ap (created_marks s x.id.name) (made x may.served is)
+  namespace_read (Cut id) old may is = absurd (true≢false (sym is ∙ may.leaf))
+
+  -- ---- writes
+
+  moved_read : (write : Write) → is_hierarchy (id_written write).kind ≡ true
+      → (if bytes_eq (id_written write).name hierarchy then move_marks s (state_after s (write ∷ [])) (id_written write).ns else []) ≡ hierarchy_marks s (id_written write) (object_written write)
+  moved_read (Put x) is = hierarchy_read (state_after s (Put x ∷ [])) x.id (Some x) is (forest-put_moves s.config.excluded s.objects x.id is valid.in_order served x _ refl refl)
+  moved_read (Cut id) is = hierarchy_read (state_after s (Cut id ∷ [])) id None is (forest-cut_moves s.config.excluded s.objects id is valid.in_order served)
+
+  abbrev old_at : Write → Option Object
+  old_at write = object_at s.objects (id_written write)
+
+  abbrev others : Write → List Key
+  others write = if is_modes (id_written write) then mode_marks s (old_at write) (object_written write) else object_marks s (id_written write) (old_at write) (object_written write)
+
+  abbrev moves : Write → List Key
+  moves write = if bytes_eq (id_written write).name hierarchy then move_marks s (state_after s (write ∷ [])) (id_written write).ns else []
+
+  pub marks_read : (write : Write) → MayWrite s write → marks_of s write ≡ marks_before s write
+  marks_read write may =
+      elim (is_namespace (id_written write).kind) as (λ b. is_namespace (id_written write).kind ≡ b
+      → (if b then namespace_marks s (state_after s (write ∷ [])) (id_written write).name (old_at write) else (if is_hierarchy (id_written write).kind then moves write else others write))
+      ≡ (if b then namespace_marks_by s (id_written write).name (old_at write) (object_written write) else (if is_hierarchy (id_written write).kind then hierarchy_marks s (id_written write) (object_written write) else others write))) [
+        | true ↦ λ is. namespace_read write (old_at write) may is
+        | false ↦ λ _. elim (is_hierarchy (id_written write).kind) as (λ b. is_hierarchy (id_written write).kind ≡ b
+            → (if b then moves write else others write) ≡ (if b then hierarchy_marks s (id_written write) (object_written write) else others write)) [
+              | true ↦ λ is. moved_read write is
+              | false ↦ λ _. refl
+            ] refl
+      ] refl
+
+  pub all_read : (writes : List Write) → AllByRecursion (MayWrite s) writes → flat_map (marks_of s) writes ≡ flat_map (marks_before s) writes
+  all_read [] may = refl
+  all_read (write ∷ writes) may = λ i. marks_read write may.0 i ++ all_read writes may.1 i

@@ -1,0 +1,141 @@
+-- A state is settled exactly if no key wants a write.
+--     same_object-Decides           the test of two objects tells whether they are equal
+--     placed_stands, stands_placed  nothing is put where the object stands;  and only there
+--     settled_exactly, nothing_wanted
+use Rattle.std.proofs.Common.{◌≡◌, ℕ, Bool, true, false, not, Option, Some, None, List, refl, sym, ap, ◌∙◌, true≢false}
+use Rattle.std.specs.Prelude.{is_some}
+use Rattle.std.specs.Bool.{Decides}
+use Rattle.hx_object.specs.Kinds.{can_be_copied}
+use Rattle.hx_object.specs.declared.kind.Kind.{Kind}
+use Rattle.hx_object.specs.declared.object.Mode.{Mode}
+use Rattle.hx_object.specs.declared.object.Mode.TheVariants.{Propagate, AllowPropagate, Remove, Ignore}
+use Rattle.hx_object.specs.declared.object.Object.{Object}
+use Rattle.hx_object.proofs.Sameness.{same_object_from}
+use Rattle.hx_model.specs.Answers.{same_object}
+use Rattle.hx_model.specs.First.{so}
+use Rattle.hx_model.specs.Forest.{chain_of}
+use Rattle.hx_model.specs.Limits.{is_copy}
+use Rattle.hx_model.specs.Modes.{mode_of}
+use Rattle.hx_model.specs.Propagation.{copy_of, id_in, sources_above, top_source}
+use Rattle.hx_model.specs.Settled.{HasNoCopy, HasCopyOf, IsKeptIn, IsSettled}
+use Rattle.hx_model.specs.State.{State, object_at, namespace_id, with_version}
+use Rattle.hx_model.specs.Tree.{forest_of}
+use Rattle.hx_model.specs.TreeLabels.{is_open}
+use Rattle.hx_model.specs.Wanted.{placed, without_copy, copied, copied_in, copy_write, wanted_copy, labelled, tree_write, wanted_tree, wanted_write}
+use Rattle.hx_model.specs.declared.key.Key.{Key}
+use Rattle.hx_model.specs.declared.key.Key.TheVariants as key
+use Rattle.hx_model.specs.declared.key.Write.{Write}
+use Rattle.hx_model.specs.declared.key.Write.TheVariants.{Put, Cut}
+use Rattle.hx_marks.proofs.Wanting.{wants_copied}
+
+pub same_object-Decides : (a b : Object) → Decides (same_object a b) (a ≡ b)
+unfolding same_object
+same_object-Decides a b = same_object_from a b (same_object a b) refl
+
+none_some : {A : Type 0} (a : A) → Some a ≡ None → ⊥
+none_some a e = true≢false (ap is_some e)
+
+-- ---- what is put
+
+-- where nothing is put the object stands, but for its version
+pub placed_stands : (x : Object) (place : Option Object) → placed x place ≡ None → (old : Object) × (place ≡ Some old) × (with_version old 0 ≡ x)
+placed_stands x None e = absurd (none_some (Put x) e)
+placed_stands x (Some old) e = by (same_object (with_version old 0) x) refl e
+  where
+    by : (b : Bool) → same_object (with_version old 0) x ≡ b → so (not b) (Put x) ≡ None → (z : Object) × (Some old ≡ Some z) × (with_version z 0 ≡ x)
+    by true is h = (old, refl, (same_object-Decides (with_version old 0) x).0 is)
+    by false is h = absurd (none_some (Put x) h)
+
+-- where it stands nothing is put
+pub stands_placed : (x old : Object) → with_version old 0 ≡ x → placed x (Some old) ≡ None
+stands_placed x old e = ap (λ b. so (not b) (Put x)) ((same_object-Decides (with_version old 0) x).1 e)
+
+-- ---- places of copies
+
+gone_stands : (place : Option Object) → without_copy place ≡ None → HasNoCopy place
+gone_stands None e = tt
+gone_stands (Some x) e = by (is_copy x) e
+  where
+    by : (b : Bool) → so b (Cut x.id) ≡ None → b ≡ false
+    by true h = absurd (none_some (Cut x.id) h)
+    by false h = refl
+
+stands_gone : (place : Option Object) → HasNoCopy place → without_copy place ≡ None
+stands_gone None kept = refl
+stands_gone (Some x) kept = ap (λ b. so b (Cut x.id)) kept
+
+copied_stands : (top : Option Object) (n : List ℕ) (place : Option Object) → copied top n place ≡ None → HasCopyOf top n place
+copied_stands (Some top) n place e = placed_stands (copy_of top n) place e
+copied_stands None n place e = gone_stands place e
+
+stands_copied : (top : Option Object) (n : List ℕ) (place : Option Object) → HasCopyOf top n place → copied top n place ≡ None
+stands_copied (Some top) n place kept = ap (placed (copy_of top n)) kept.1 ∙ stands_placed (copy_of top n) kept.0 kept.2
+stands_copied None n place kept = stands_gone place kept
+
+-- what a place prescribes stands exactly if it wants nothing
+pub kept_from : (mode : Mode) (top : Option Object) (n : List ℕ) (place : Option Object) → copied_in mode top n place ≡ None → IsKeptIn mode top n place
+kept_from Propagate top n place e = copied_stands top n place e
+kept_from AllowPropagate top n place e = copied_stands top n place e
+kept_from Remove top n place e = gone_stands place e
+kept_from Ignore top n place e = tt
+
+pub from_kept : (mode : Mode) (top : Option Object) (n : List ℕ) (place : Option Object) → IsKeptIn mode top n place → copied_in mode top n place ≡ None
+from_kept Propagate top n place kept = stands_copied top n place kept
+from_kept AllowPropagate top n place kept = stands_copied top n place kept
+from_kept Remove top n place kept = stands_gone place kept
+from_kept Ignore top n place kept = refl
+
+-- ---- states
+
+-- what a namespace that takes part wants
+copy_wanted : (s : State) (n : List ℕ) (x : Object) (kind : Kind) (name : List ℕ) → object_at s.objects (namespace_id n) ≡ Some x → is_open (forest_of s) n ≡ true
+    → wanted_copy s n kind name ≡ copied_in (mode_of s kind) (top_source s n kind name x.labels) n (object_at s.objects (id_in kind name n))
+copy_wanted s n x kind name at acts i = copy_write (acts i) (at i) (mode_of s kind) (sources_above s n kind name) n (object_at s.objects (id_in kind name n))
+
+tree_wanted : (s : State) (n : List ℕ) (x : Object) → object_at s.objects (namespace_id n) ≡ Some x → is_open (forest_of s) n ≡ true → wanted_tree s n ≡ placed (labelled (chain_of (forest_of s) n) x) (Some x)
+tree_wanted s n x at acts i = tree_write (acts i) (chain_of (forest_of s) n) (at i)
+
+-- where no key wants a write, the state is settled
+pub settled_exactly : (s : State) → ((k : Key) → wanted_write s k ≡ None) → IsSettled s
+settled_exactly s none n x at acts = record {
+  labels =
+      let stands = placed_stands (labelled (chain_of (forest_of s) n) x) (Some x) (sym (tree_wanted s n x at acts) ∙ none (key.Tree n)) in
+      let same : x ≡ stands.0 = let e = stands.1 in cc in
+      ap (λ (o : Object). o.labels) same ∙ ap (λ (o : Object). o.labels) stands.2;
+  copies = λ kind name can. kept_from (mode_of s kind) (top_source s n kind name x.labels) n (object_at s.objects (id_in kind name n)) (sym (copy_wanted s n x kind name at acts) ∙ none (key.Copy n kind name));
+}
+
+-- in a settled state no key wants one
+pub nothing_wanted : (s : State) → IsSettled s → (k : Key) → wanted_write s k ≡ None
+nothing_wanted s settled (key.Copy n kind name) = by (is_open (forest_of s) n) (object_at s.objects (namespace_id n)) refl refl
+  where
+    -- a kind that can't be copied wants nothing
+    uncopied : (acts : Bool) (found : Option Object) → can_be_copied kind ≡ false → copy_write acts found (mode_of s kind) (sources_above s n kind name) n (object_at s.objects (id_in kind name n)) ≡ None
+    uncopied acts found out = nothing (copy_write acts found (mode_of s kind) (sources_above s n kind name) n (object_at s.objects (id_in kind name n))) refl
+      where
+        nothing : (o : Option Write) → copy_write acts found (mode_of s kind) (sources_above s n kind name) n (object_at s.objects (id_in kind name n)) ≡ o → o ≡ None
+        nothing None is = refl
+        nothing (Some write) is = absurd (true≢false (sym (wants_copied s.objects (chain_of (forest_of s) n) n kind name acts found (λ none. none_some write (sym is ∙ none))) ∙ out))
+
+    kinds : (acts : Bool) (x : Object) (b : Bool) → can_be_copied kind ≡ b → is_open (forest_of s) n ≡ true → object_at s.objects (namespace_id n) ≡ Some x
+        → copied_in (mode_of s kind) (top_source s n kind name x.labels) n (object_at s.objects (id_in kind name n)) ≡ None
+    kinds acts x true can is at = from_kept (mode_of s kind) (top_source s n kind name x.labels) n (object_at s.objects (id_in kind name n)) ((settled n x at is).copies kind name can)
+    kinds acts x false out is at = uncopied true (Some x) out
+
+    by : (acts : Bool) (found : Option Object) → is_open (forest_of s) n ≡ acts → object_at s.objects (namespace_id n) ≡ found → wanted_copy s n kind name ≡ None
+    by acts None is at = ap (λ o. copy_write (is_open (forest_of s) n) o (mode_of s kind) (sources_above s n kind name) n (object_at s.objects (id_in kind name n))) at
+    by true (Some x) is at = copy_wanted s n x kind name at is ∙ kinds true x (can_be_copied kind) refl is at
+    by false (Some x) is at = λ i. copy_write (is i) (at i) (mode_of s kind) (sources_above s n kind name) n (object_at s.objects (id_in kind name n))
+nothing_wanted s settled (key.Tree n) = by (is_open (forest_of s) n) (object_at s.objects (namespace_id n)) refl refl
+  where
+    by : (acts : Bool) (found : Option Object) → is_open (forest_of s) n ≡ acts → object_at s.objects (namespace_id n) ≡ found → wanted_tree s n ≡ None
+    by acts None is at = ap (tree_write (is_open (forest_of s) n) (chain_of (forest_of s) n)) at
+    by true (Some x) is at =
+        let labels = (settled n x at is).labels in
+        tree_wanted s n x at is ∙ stands_placed (labelled (chain_of (forest_of s) n) x) x (λ i. record x { labels = labels i; version = 0 })
+    by false (Some x) is at = λ i. tree_write (is i) (chain_of (forest_of s) n) (at i)
+nothing_wanted s settled (key.Report n) = refl
+nothing_wanted s settled (key.Child n name) = refl
+nothing_wanted s settled (key.Anchor n name) = refl
+nothing_wanted s settled (key.Used n name) = refl
+nothing_wanted s settled (key.Purge n) = refl

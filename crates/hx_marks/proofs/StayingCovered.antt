@@ -1,0 +1,201 @@
+-- That no work is forgotten, from one state to the next.
+--     guard_ids_same      the identities that a key's guards are of are the same in every state
+--     met_then            guards of a key's identities that are met stay so, where the key rests on the same versions
+--     covered_next        each key that wants something waits, was marked again, or wants the same as before
+--     let_go_covered      a hand whose key wants nothing is let go
+--     taken_covered       a worker takes a key
+--     guards_then, guards_taken, guards_let_go     that hands rest on the identities of their keys is kept
+use Rattle.std.proofs.Common.{◌≡◌, ◌≢◌, ℕ, true, false, cond, not, ◌==◌, Option, Some, None, List, [], ◌∷◌, map, option_map, ◌⊎◌, inl, inr, refl, sym, ap, ◌∙◌, subst, true≢false, eqb, eq-eqb, eqb-true}
+use Rattle.std.specs.Prelude.{is_some}
+use Rattle.std.specs.List.{AllByRecursion}
+use Rattle.std.specs.Option.{option_eq}
+use Rattle.std.proofs.lemmas.Bool.{and_parts, and_from, cases_Bool}
+use Rattle.hx_object.specs.declared.object.Id.{Id}
+use Rattle.hx_object.specs.declared.object.Object.{Object}
+use Rattle.hx_model.specs.Covered.{IsHeldWell, IsCovered, IsSameFor}
+use Rattle.hx_model.specs.Hands.{Hand, hand_at, hand_of, without_hand, is_met, are_met}
+use Rattle.hx_model.specs.Keys.{same_key, is_among}
+use Rattle.hx_model.specs.Propagation.{id_in}
+use Rattle.hx_model.specs.State.{State, object_at, namespace_id}
+use Rattle.hx_model.specs.Wanted.{wanted_write, guards_of}
+use Rattle.hx_model.specs.declared.key.Guard.{Guard}
+use Rattle.hx_model.specs.declared.key.Key.{Key}
+use Rattle.hx_model.specs.declared.key.Key.TheVariants as key
+use Rattle.hx_marks.proofs.Among.{same_key_is}
+
+-- ---- guards
+
+abbrev pub ids_of : List Guard → List Id
+ids_of guards = map (λ (g : Guard). g.id) guards
+
+-- a hand rests on the identities that its key rests on
+abbrev pub HasItsGuards : State → Hand → Type 0
+HasItsGuards s hand = ids_of hand.guards ≡ ids_of (guards_of s hand.key)
+
+-- so do all hands that are found
+abbrev pub HaveTheirGuards : State → List Hand → Type 0
+HaveTheirGuards s hands = (hand : Hand) → hand_of hand.worker hands ≡ Some hand → HasItsGuards s hand
+
+-- they don't change
+pub guard_ids_same : (s t : State) (k : Key) → ids_of (guards_of s k) ≡ ids_of (guards_of t k)
+guard_ids_same s t (key.Copy n kind name) = refl
+guard_ids_same s t (key.Tree n) = refl
+guard_ids_same s t (key.Report n) = refl
+guard_ids_same s t (key.Child n name) = refl
+guard_ids_same s t (key.Anchor n name) = refl
+guard_ids_same s t (key.Used n name) = refl
+guard_ids_same s t (key.Purge n) = refl
+
+pub guards_then : (s t : State) (hands : List Hand) → HaveTheirGuards s hands → HaveTheirGuards t hands
+guards_then s t hands all hand at = all hand at ∙ guard_ids_same s t hand.key
+
+abbrev version_in : State → Id → Option ℕ
+version_in s id = option_map (λ (x : Object). x.version) (object_at s.objects id)
+
+abbrev first_version : List Guard → Option ℕ
+first_version [] = None
+first_version (g ∷ guards) = g.version
+
+abbrev second_version : List Guard → Option ℕ
+second_version [] = None
+second_version (g ∷ guards) = first_version guards
+
+-- the same guards are of the same versions
+same_versions : (s t : State) (k : Key) → guards_of s k ≡ guards_of t k → AllByRecursion (λ id. version_in s id ≡ version_in t id) (ids_of (guards_of s k))
+same_versions s t (key.Copy n kind name) e = (ap first_version e, (ap second_version e, tt))
+same_versions s t (key.Tree n) e = (ap first_version e, tt)
+same_versions s t (key.Report n) e = tt
+same_versions s t (key.Child n name) e = tt
+same_versions s t (key.Anchor n name) e = tt
+same_versions s t (key.Used n name) e = tt
+same_versions s t (key.Purge n) e = tt
+
+carried : (s t : State) (guards : List Guard) → AllByRecursion (λ id. version_in s id ≡ version_in t id) (ids_of guards) → are_met s guards ≡ true → are_met t guards ≡ true
+carried s t [] same met = refl
+carried s t (g ∷ guards) same met =
+    let parts = and_parts (is_met s g) (are_met s guards) met in
+    and_from (is_met t g) (are_met t guards) (ap (λ o. option_eq (λ a b. a == b) o g.version) (sym same.0) ∙ parts.0) (carried s t guards same.1 parts.1)
+
+-- guards of a key's identities that are met stay so
+pub met_then : (s t : State) (hand : Hand) → HasItsGuards s hand → guards_of s hand.key ≡ guards_of t hand.key → are_met s hand.guards ≡ true → are_met t hand.guards ≡ true
+met_then s t hand its same met = carried s t hand.guards (subst (AllByRecursion (λ id. version_in s id ≡ version_in t id)) (sym its) (same_versions s t hand.key same)) met
+
+-- ---- hands
+
+-- a key that wants the same is held as well as before
+pub held_then : (s t : State) (hands : List Hand) (k : Key) → HaveTheirGuards s hands → IsSameFor s t k → wanted_write s k ≢ None → IsHeldWell s hands k → IsHeldWell t hands k
+held_then s t hands k all same wants (hand, at, is, fresh) =
+    let here : IsSameFor s t hand.key = subst (IsSameFor s t) (sym is) same in
+    let wants_here : wanted_write s hand.key ≢ None = subst (λ (q : Key). wanted_write s q ≢ None) (sym is) wants in
+    (hand, at, is, record { wanted = fresh.wanted ∙ here.0; met = met_then s t hand (all hand at) (here.1 wants_here) fresh.met })
+
+-- each key that wants something then waits, was marked again, or wants the same as before
+pub covered_next : (s t : State) (hands : List Hand) (waiting again new_waiting new_again : List Key) → HaveTheirGuards s hands
+    → ((k : Key) → is_among k waiting ≡ true → is_among k new_waiting ≡ true) → ((k : Key) → is_among k again ≡ true → is_among k new_again ≡ true)
+    → ((k : Key) → wanted_write t k ≢ None → IsSameFor s t k ⊎ (is_among k new_waiting ≡ true) ⊎ (is_among k new_again ≡ true))
+    → IsCovered s hands waiting again → IsCovered t hands new_waiting new_again
+covered_next s t hands waiting again new_waiting new_again all wait_on mark_on each covered k wants = elim (each k wants) [
+  | inr (inl waits) ↦ inl waits
+  | inr (inr marked) ↦ inr (inl marked)
+  | inl same ↦
+      let wanted : wanted_write s k ≢ None = λ none. wants (sym same.0 ∙ none) in
+      elim (covered k wanted) [
+        | inl waits ↦ inl (wait_on k waits)
+        | inr (inl marked) ↦ inr (inl (mark_on k marked))
+        | inr (inr held) ↦ inr (inr (held_then s t hands k all same wanted held))
+      ]
+]
+
+-- ---- a hand that is let go
+
+-- another worker's hand stays
+other_hand : (worker : ℕ) (gone : ℕ) (hands : List Hand) → eqb worker gone ≡ false → hand_of worker (without_hand gone hands) ≡ hand_of worker hands
+other_hand worker gone [] off = refl
+other_hand worker gone (h ∷ hands) off =
+    elim (eqb h.worker gone) as (λ b. eqb h.worker gone ≡ b → hand_of worker (cond (not b) (h ∷ without_hand gone hands) (without_hand gone hands)) ≡ cond (eqb h.worker worker) (Some h) (hand_of worker hands)) [
+      | true ↦ λ is. other_hand worker gone hands off ∙ ap (λ b. cond b (Some h) (hand_of worker hands)) (sym (apart is))
+      | false ↦ λ _. ap (λ o. cond (eqb h.worker worker) (Some h) o) (other_hand worker gone hands off)
+    ] refl
+  where
+    apart : eqb h.worker gone ≡ true → eqb h.worker worker ≡ false
+    apart is = elim (cases_Bool (eqb h.worker worker)) [
+      | inr off ↦ off
+      | inl is_one ↦ absurd (true≢false (sym (eq-eqb worker gone (sym (eqb-true _ _ is_one) ∙ eqb-true _ _ is)) ∙ off))
+    ]
+
+-- a hand whose key wants nothing is let go
+pub let_go_covered : (s : State) (hands : List Hand) (waiting again : List Key) (worker : ℕ) (hand : Hand) → hand_of worker hands ≡ Some hand → wanted_write s hand.key ≡ None
+    → IsCovered s hands waiting again → IsCovered s (without_hand worker hands) waiting again
+let_go_covered s hands waiting again worker hand at none covered k wants = elim (covered k wants) [
+  | inl waits ↦ inl waits
+  | inr (inl marked) ↦ inr (inl marked)
+  | inr (inr (other, there, is, fresh)) ↦
+      let off : eqb other.worker worker ≡ false = apart other there is in
+      inr (inr (other, other_hand other.worker worker hands off ∙ there, is, fresh))
+]
+  where
+    apart : (other : Hand) → hand_of other.worker hands ≡ Some other → other.key ≡ k → eqb other.worker worker ≡ false
+    apart other there is = elim (cases_Bool (eqb other.worker worker)) [
+      | inr off ↦ off
+      | inl is_one ↦
+          let same : Some other ≡ Some hand = sym there ∙ ap (λ w. hand_of w hands) (eqb-true _ _ is_one) ∙ at in
+          let one : other ≡ hand = cc in
+          absurd (wants (ap (wanted_write s) (sym is ∙ ap (λ (h : Hand). h.key) one) ∙ none))
+    ]
+
+-- ---- a key that is taken
+
+met_itself : (o : Option ℕ) → option_eq (λ a b. a == b) o o ≡ true
+met_itself None = refl
+met_itself (Some version) = eq-eqb version version refl
+
+-- the guards of a key are met in the state that they are of
+pub fresh_met : (s : State) (k : Key) → are_met s (guards_of s k) ≡ true
+fresh_met s (key.Copy n kind name) = and_from _ _ (met_itself (version_in s (id_in kind name n))) (and_from _ true (met_itself (version_in s (namespace_id n))) refl)
+fresh_met s (key.Tree n) = and_from _ true (met_itself (version_in s (namespace_id n))) refl
+fresh_met s (key.Report n) = refl
+fresh_met s (key.Child n name) = refl
+fresh_met s (key.Anchor n name) = refl
+fresh_met s (key.Used n name) = refl
+fresh_met s (key.Purge n) = refl
+
+-- a worker that holds nothing takes a key, which needn't wait any more
+pub taken_covered : (s : State) (hands : List Hand) (waiting again new_waiting : List Key) (worker : ℕ) (k : Key) → hand_of worker hands ≡ None
+    → ((q : Key) → is_among q waiting ≡ true → same_key q k ≡ false → is_among q new_waiting ≡ true) → IsCovered s hands waiting again → IsCovered s (hand_at s worker k ∷ hands) new_waiting again
+taken_covered s hands waiting again new_waiting worker k free wait_on covered q wants = elim (cases_Bool (same_key q k)) [
+  | inl is ↦ inr (inr (hand_at s worker k, ap (λ b. cond b (Some (hand_at s worker k)) (hand_of worker hands)) (eq-eqb worker worker refl), sym (same_key_is q k is), record { wanted = refl; met = fresh_met s k }))
+  | inr other ↦ elim (covered q wants) [
+    | inl waits ↦ inl (wait_on q waits other)
+    | inr (inl marked) ↦ inr (inl marked)
+    | inr (inr (hand, there, is, fresh)) ↦ inr (inr (hand, ap (λ b. cond b (Some (hand_at s worker k)) (hand_of hand.worker hands)) (apart hand there) ∙ there, is, fresh))
+  ]
+]
+  where
+    apart : (hand : Hand) → hand_of hand.worker hands ≡ Some hand → eqb worker hand.worker ≡ false
+    apart hand there = elim (cases_Bool (eqb worker hand.worker)) [
+      | inr off ↦ off
+      | inl is_one ↦ absurd (true≢false (ap is_some (sym there ∙ ap (λ w. hand_of w hands) (sym (eqb-true _ _ is_one)) ∙ free)))
+    ]
+
+-- ---- that hands rest on the identities of their keys
+
+pub guards_taken : (s : State) (hands : List Hand) (worker : ℕ) (k : Key) → HaveTheirGuards s hands → HaveTheirGuards s (hand_at s worker k ∷ hands)
+guards_taken s hands worker k all hand at =
+    elim (eqb worker hand.worker) as (λ b. cond b (Some (hand_at s worker k)) (hand_of hand.worker hands) ≡ Some hand → HasItsGuards s hand) [
+      | true ↦ λ e. subst (HasItsGuards s) (let same : hand_at s worker k ≡ hand = cc in same) refl
+      | false ↦ λ e. all hand e
+    ] at
+
+none_left : (worker : ℕ) (hands : List Hand) → hand_of worker (without_hand worker hands) ≡ None
+none_left worker [] = refl
+none_left worker (h ∷ hands) =
+    elim (eqb h.worker worker) as (λ b. eqb h.worker worker ≡ b → hand_of worker (cond (not b) (h ∷ without_hand worker hands) (without_hand worker hands)) ≡ None) [
+      | true ↦ λ _. none_left worker hands
+      | false ↦ λ off. ap (λ b. cond b (Some h) (hand_of worker (without_hand worker hands))) off ∙ none_left worker hands
+    ] refl
+
+pub guards_let_go : (s : State) (hands : List Hand) (worker : ℕ) → HaveTheirGuards s hands → HaveTheirGuards s (without_hand worker hands)
+guards_let_go s hands worker all hand at = elim (cases_Bool (eqb hand.worker worker)) [
+  | inr off ↦ all hand (sym (other_hand hand.worker worker hands off) ∙ at)
+  | inl is_one ↦ absurd (true≢false (ap is_some (sym at ∙ ap (λ w. hand_of w (without_hand worker hands)) (eqb-true _ _ is_one) ∙ none_left worker hands)))
+]

@@ -1,0 +1,119 @@
+-- The keys that may want a write are keys of the state.
+--     any_witness        what passes a test of a list
+--     wants_named        a copy key that may want a write is of a kind and a name that some object has
+--     all_keys           each key of a namespace that is there is one of the state
+use Rattle.std.proofs.Common.{◌≡◌, ℕ, Bool, true, false, ◌&&◌, ◌==◌, List, [], ◌∷◌, ◌++◌, map, filter, inl, inr, sym, ap, ◌∙◌, subst, true≢false, eqb-true, Some}
+use Rattle.std.specs.Prelude.{if◌then◌else◌}
+use Rattle.std.specs.List.{list_any}
+use Rattle.std.specs.Str.{bytes_eq}
+use Rattle.std.proofs.lemmas.Bool.{and_parts, and_from, or_cases, or_left, or_right}
+use Rattle.std.proofs.lemmas.List.Folds.{list_any-append}
+use Rattle.hx_object.specs.Kinds.{number_of, can_be_copied}
+use Rattle.hx_object.specs.declared.kind.Kind.{Kind}
+use Rattle.hx_object.specs.declared.object.Object.{Object}
+use Rattle.hx_object.proofs.Identities.{number_of-one}
+use Rattle.hx_model.specs.Answers.{is_listed}
+use Rattle.hx_model.specs.Forest.{tail_of}
+use Rattle.hx_model.specs.Keys.{same_key, is_among, has_named, is_name, is_key}
+use Rattle.hx_model.specs.Limits.{is_copy}
+use Rattle.hx_model.specs.Moves.{mode_at, copied_kinds}
+use Rattle.hx_model.specs.State.{State, Objects}
+use Rattle.hx_model.specs.declared.key.Key.{Key}
+use Rattle.hx_model.specs.declared.key.Key.TheVariants as key
+use Rattle.hx_model.proofs.Climbing.{same_itself}
+use Rattle.hx_marks.proofs.Among.{same_key_is, among_map, among_flat_map, any_filter, found_name, found_kind}
+use Rattle.hx_marks.proofs.Wanting.{any_flat_map}
+use Rattle.hx_marks.specs.Law.{is_ignored, is_sent, listed_in, sent_from, key_for, wants_of_kind, wants_of, all_of}
+
+-- ---- tests of lists
+
+pub any_witness : {A : Type 0} (p : A → Bool) (xs : List A) → list_any p xs ≡ true → (x : A) × (p x ≡ true)
+any_witness p [] h = absurd (true≢false (sym h))
+any_witness p (x ∷ xs) h = elim (or_cases (p x) (list_any p xs) h) [
+  | inl here ↦ (x, here)
+  | inr later ↦ any_witness p xs later
+]
+
+-- a test that holds where another one does
+pub any_more : {A : Type 0} (p q : A → Bool) (xs : List A) → ((x : A) → p x ≡ true → q x ≡ true) → list_any p xs ≡ true → list_any q xs ≡ true
+any_more p q [] more h = h
+any_more p q (x ∷ xs) more h = elim (or_cases (p x) (list_any p xs) h) [
+  | inl here ↦ or_left (q x) (list_any q xs) (more x here)
+  | inr later ↦ or_right (q x) (list_any q xs) (any_more p q xs more later)
+]
+
+-- ---- copy keys
+
+abbrev name_of_key : Key → List ℕ
+name_of_key (key.Copy m kind name) = name
+name_of_key _ = []
+
+module _ (objects : Objects) (m : List ℕ) (kind : Kind) (k : Key) where
+  -- an object of the kind, in some namespace, has the key
+  abbrev IsOf : Object → Bool
+  IsOf x = (number_of kind == number_of x.id.kind) && same_key k (key_for m x)
+
+  -- of such objects a list has one
+  from_listed : (a : List ℕ) (p : Object → Bool) → list_any (λ x. same_key k (key_for m x)) (filter p (listed_in objects kind a)) ≡ true → list_any IsOf objects ≡ true
+  from_listed a p h =
+      let all : list_any (λ x. is_listed kind (Some a) x && (p x && same_key k (key_for m x))) objects ≡ true =
+      sym (any_filter (λ x. same_key k (key_for m x)) p (listed_in objects kind a) ∙ any_filter (λ x. p x && same_key k (key_for m x)) (is_listed kind (Some a)) objects) ∙ h in
+      any_more (λ x. is_listed kind (Some a) x && (p x && same_key k (key_for m x))) IsOf objects
+      (λ x passes.
+      let parts = and_parts (is_listed kind (Some a) x) (p x && same_key k (key_for m x)) passes in
+      and_from (number_of kind == number_of x.id.kind) (same_key k (key_for m x)) (and_parts (number_of kind == number_of x.id.kind) (bytes_eq x.id.ns a) parts.0).0 (and_parts (p x) (same_key k (key_for m x)) parts.1).1) all
+
+  key_is : (x : Object) → IsOf x ≡ true → k ≡ key.Copy m kind x.id.name
+  key_is x h =
+      let parts = and_parts (number_of kind == number_of x.id.kind) (same_key k (key_for m x)) h in
+      same_key_is k (key_for m x) parts.1 ∙ ap (λ (other : Kind). key.Copy m other x.id.name) (sym (number_of-one kind x.id.kind (eqb-true _ _ parts.0)))
+
+  -- then some object has the kind and the name of the key
+  named : list_any IsOf objects ≡ true → (name : List ℕ) × (k ≡ key.Copy m kind name) × (has_named objects kind name ≡ true)
+  named h =
+      let found = any_witness IsOf objects h in
+      let is = key_is found.0 found.1 in (
+        found.0.id.name,
+        is,
+        any_more IsOf (λ (x : Object). (number_of kind == number_of x.id.kind) && bytes_eq found.0.id.name x.id.name) objects
+            (λ x passes.
+            let same : found.0.id.name ≡ x.id.name = ap name_of_key (sym is ∙ key_is x passes) in
+            and_from (number_of kind == number_of x.id.kind) (bytes_eq found.0.id.name x.id.name) (and_parts (number_of kind == number_of x.id.kind) (same_key k (key_for m x)) passes).0
+            (subst (λ (n : List ℕ). bytes_eq found.0.id.name n ≡ true) same (same_itself found.0.id.name))) h,
+      )
+
+  -- the objects that a kind's keys are of
+  of_kind : (names : List (List ℕ)) → list_any (λ x. same_key k (key_for m x)) (sent_from objects kind names ++ filter is_copy (listed_in objects kind m)) ≡ true → list_any IsOf objects ≡ true
+  of_kind names h =
+      let P : Object → Bool = λ x. same_key k (key_for m x) in
+      elim (or_cases (list_any P (sent_from objects kind names)) (list_any P (filter is_copy (listed_in objects kind m))) (sym (list_any-append P (sent_from objects kind names) (filter is_copy (listed_in objects kind m))) ∙ h)) [
+        | inl above ↦
+            let sends : List ℕ → Objects = λ a. filter (is_sent (mode_at objects kind)) (listed_in objects kind a) in
+            let found = found_name (λ a. list_any P (sends a)) names (sym (any_flat_map P sends names) ∙ above) in
+            from_listed found.0 (is_sent (mode_at objects kind)) found.2
+        | inr here ↦ from_listed m is_copy here
+      ]
+
+-- a copy key that may want a write
+pub wants_named : (objects : Objects) (chain : List (List ℕ)) (m : List ℕ) (k : Key) → is_among k (wants_of objects chain m) ≡ true
+    → (kind : Kind) × (name : List ℕ) × (k ≡ key.Copy m kind name) × (can_be_copied kind ≡ true) × (has_named objects kind name ≡ true)
+wants_named objects chain m k mem =
+    let found = found_kind (λ kind. is_among k (wants_of_kind objects chain m kind)) (sym (among_flat_map k (wants_of_kind objects chain m) copied_kinds) ∙ mem) in
+    let all = named objects m found.0 k (of_kind objects m found.0 k (tail_of chain) (sym (among_map k (key_for m) (sent_from objects found.0 (tail_of chain) ++ filter is_copy (listed_in objects found.0 m))) ∙ counted found.0 (is_ignored (mode_at objects found.0)) found.2)) in
+    (found.0, all.0, all.1, found.1, all.2)
+  where
+    counted : (kind : Kind) (b : Bool) → is_among k (if b then [] else map (key_for m) (sent_from objects kind (tail_of chain) ++ filter is_copy (listed_in objects kind m))) ≡ true
+        → is_among k (map (key_for m) (sent_from objects kind (tail_of chain) ++ filter is_copy (listed_in objects kind m))) ≡ true
+    counted kind true h = absurd (true≢false (sym h))
+    counted kind false h = h
+
+-- ---- keys of a state
+
+-- the keys of a name of the state
+pub all_keys : (s : State) (chain : List (List ℕ)) (m : List ℕ) (k : Key) → is_name s m ≡ true → is_among k (all_of s.objects chain m) ≡ true → is_key s k ≡ true
+all_keys s chain m k name mem = elim (or_cases (same_key k (key.Tree m)) (is_among k (wants_of s.objects chain m)) mem) [
+  | inl tree ↦ ap (is_key s) (same_key_is k (key.Tree m) tree) ∙ name
+  | inr copy ↦
+      let found = wants_named s.objects chain m k copy in
+      ap (is_key s) found.2 ∙ and_from (is_name s m) (can_be_copied found.0 && has_named s.objects found.0 found.1) name (and_from (can_be_copied found.0) (has_named s.objects found.0 found.1) found.3 found.4)
+]

@@ -1,0 +1,65 @@
+-- What a write marks, read off the state before it.
+--     state_of store config     the state of a store and a run's settings
+--     opens_under f n parent    a namespace takes part once it has that parent
+--     move_marks_to s n parent  it gets that parent
+--     marks_before s write      all that a write marks
+use Rattle.std.specs.Prelude.{ℕ, Bool, false, not, ◌&&◌, List, [], Option, Some, None, option_and_then, if◌then◌else◌}
+use Rattle.std.specs.Option.{option_map_or}
+use Rattle.std.specs.Str.{bytes_eq}
+use Rattle.hx_object.specs.Kinds.{is_namespace, is_hierarchy}
+use Rattle.hx_object.specs.declared.object.Id.{Id}
+use Rattle.hx_object.specs.declared.object.Object.{Object}
+use Rattle.hx_model.specs.Cases.{same_name}
+use Rattle.hx_model.specs.Forest.{Forest, in_chain, parent_of}
+use Rattle.hx_model.specs.Moves.{is_calm, is_open_above}
+use Rattle.hx_model.specs.State.{State, object_at, namespace_id}
+use Rattle.hx_model.specs.Tree.{hierarchy, hierarchy_id, forest_of, parent_with}
+use Rattle.hx_model.specs.TreeLabels.{is_open}
+use Rattle.hx_model.specs.Writes.{id_written}
+use Rattle.hx_model.specs.declared.config.RunConfig.{RunConfig}
+use Rattle.hx_model.specs.declared.key.Key.{Key}
+use Rattle.hx_model.specs.declared.key.Write.{Write}
+use Rattle.hx_store.specs.Kept.{StoreView}
+use Rattle.hx_marks.specs.Law.{label_marks, created_marks, moved_by, mode_marks, object_marks, is_modes, object_written}
+
+abbrev pub state_of : StoreView → RunConfig → State
+state_of store config = record { objects = store.objects; last = store.version; config = config }
+
+-- ---- moves
+
+-- the parent's chain has the namespace, and so would come back to it
+abbrev pub comes_back_by : Forest → List ℕ → Option (List ℕ) → Bool
+comes_back_by f n parent = option_map_or (λ p. in_chain f p n) parent false
+
+-- it takes part once it has that parent
+abbrev pub opens_under : Forest → List ℕ → Option (List ℕ) → Bool
+opens_under f n parent = is_calm f n && (is_open_above f parent && not (comes_back_by f n parent))
+
+abbrev pub move_marks_to : State → List ℕ → Option (List ℕ) → List Key
+move_marks_to s n parent =
+    if same_name (parent_of (forest_of s) n) parent
+    then []
+    else moved_by s n (parent_of (forest_of s) n) parent (is_open (forest_of s) n) (opens_under (forest_of s) n parent)
+
+-- a HierarchyConfiguration is written, or is removed
+abbrev pub hierarchy_marks : State → Id → Option Object → List Key
+hierarchy_marks s id new = if bytes_eq id.name hierarchy then move_marks_to s id.ns (option_and_then (parent_with new) (object_at s.objects (namespace_id id.ns))) else []
+
+-- ---- namespaces
+
+-- one is replaced, or is made
+abbrev pub namespace_marks_by : State → List ℕ → Option Object → Option Object → List Key
+namespace_marks_by s n (Some old) new = label_marks s n
+namespace_marks_by s n None (Some x) = created_marks s n (parent_with (object_at s.objects (hierarchy_id n)) x)
+namespace_marks_by s n None None = []
+
+-- ---- writes
+
+abbrev pub marks_by_kind : State → Id → Option Object → Option Object → List Key
+marks_by_kind s id old new =
+    if is_namespace id.kind then namespace_marks_by s id.name old new else (
+    if is_hierarchy id.kind then hierarchy_marks s id new else (
+    if is_modes id then mode_marks s old new else object_marks s id old new))
+
+abbrev pub marks_before : State → Write → List Key
+marks_before s write = marks_by_kind s (id_written write) (object_at s.objects (id_written write)) (object_written write)

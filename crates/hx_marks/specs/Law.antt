@@ -1,0 +1,203 @@
+-- Which keys a write marks: in proportion to what it can change.
+--     is_sent mode x         a source goes to some labels or other, where its kind is in this mode
+--     key_for m x            the key of the copies of an object's kind and name, in a namespace
+--     wants_of objects chain m   the copy keys of a namespace that may want a write: of what is sent from above, along its chain, and of the copies that lie in it
+--     open_below f n         the namespaces of a subtree that take part
+--     label_marks            a namespace is replaced
+--     created_marks          a namespace is made
+--     move_marks             a namespace gets another parent
+--     mode_marks             the modes of kinds change
+--     object_marks           an object of a kind that can be copied is written or removed
+--     marks_of s write       by what is written
+--     all_marks s writes     of the writes of a commit, each by the state before it
+-- All is read off the state before the write. A key may stand in a list more than once.
+use Rattle.std.specs.Prelude.{ℕ, Bool, true, false, not, ◌&&◌, ◌||◌, List, [], ◌∷◌, ◌++◌, flat_map, map, filter, Option, Some, None, if◌then◌else◌}
+use Rattle.std.specs.List.{list_all}
+use Rattle.std.specs.Option.{option_map_or}
+use Rattle.std.specs.Str.{bytes_eq}
+use Rattle.hx_object.specs.Kinds.{can_be_copied, is_namespace, is_hierarchy}
+use Rattle.hx_object.specs.WellKnown.{config}
+use Rattle.hx_object.specs.declared.kind.Kind.{Kind}
+use Rattle.hx_object.specs.declared.kind.Kind.TheVariants.{HncConfiguration}
+use Rattle.hx_object.specs.declared.object.Id.{Id}
+use Rattle.hx_object.specs.declared.object.Mode.{Mode}
+use Rattle.hx_object.specs.declared.object.Mode.TheVariants.{Ignore}
+use Rattle.hx_object.specs.declared.object.Object.{Object}
+use Rattle.hx_model.specs.Answers.{is_listed}
+use Rattle.hx_model.specs.Cases.{same_name}
+use Rattle.hx_model.specs.Exceptions.{none_of, passes, is_false}
+use Rattle.hx_model.specs.Forest.{Forest, is_in, names_of, parent_of, chain_of, tail_of, subtree_of}
+use Rattle.hx_model.specs.Limits.{is_copy}
+use Rattle.hx_model.specs.Modes.{mode_in}
+use Rattle.hx_model.specs.Moves.{up_to, chain_from, is_calm, moved_chain_of, mode_at, copied_kinds}
+use Rattle.hx_model.specs.Propagation.{is_source, stays_home, is_propagated}
+use Rattle.hx_model.specs.State.{State, Objects, object_at, state_after}
+use Rattle.hx_model.specs.Tree.{hierarchy, forest_of}
+use Rattle.hx_model.specs.TreeLabels.{is_open}
+use Rattle.hx_model.specs.Writes.{id_written}
+use Rattle.hx_model.specs.declared.key.Key.{Key}
+use Rattle.hx_model.specs.declared.key.Key.TheVariants as key
+use Rattle.hx_model.specs.declared.key.Write.{Write}
+use Rattle.hx_model.specs.declared.key.Write.TheVariants.{Put, Cut}
+
+-- ---- what may want a write
+
+abbrev pub is_ignored : Mode → Bool
+is_ignored Ignore = true
+is_ignored _ = false
+
+-- it goes to some labels or other: what it says of labels counts for nothing
+abbrev pub is_sent : Mode → Object → Bool
+is_sent mode x = is_propagated mode && (is_source x && (not (stays_home x) && passes is_false (none_of x)))
+
+-- the objects of a kind in a namespace
+abbrev pub listed_in : Objects → Kind → List ℕ → Objects
+listed_in objects kind n = filter (is_listed kind (Some n)) objects
+
+-- the sources of a kind that some namespaces send
+abbrev pub sent_from : Objects → Kind → List (List ℕ) → Objects
+sent_from objects kind names = flat_map (λ a. filter (is_sent (mode_at objects kind)) (listed_in objects kind a)) names
+
+abbrev pub key_for : List ℕ → Object → Key
+key_for m x = key.Copy m x.id.kind x.id.name
+
+-- of one kind
+abbrev pub wants_of_kind : Objects → List (List ℕ) → List ℕ → Kind → List Key
+wants_of_kind objects chain m kind =
+    if is_ignored (mode_at objects kind) then [] else map (key_for m) (sent_from objects kind (tail_of chain) ++ filter is_copy (listed_in objects kind m))
+
+-- the copy keys of a namespace of this chain that may want a write: of what is sent from above, and of the copies that lie in it
+abbrev pub wants_of : Objects → List (List ℕ) → List ℕ → List Key
+wants_of objects chain m = flat_map (wants_of_kind objects chain m) copied_kinds
+
+-- with its tree labels
+abbrev pub all_of : Objects → List (List ℕ) → List ℕ → List Key
+all_of objects chain m = key.Tree m ∷ wants_of objects chain m
+
+-- ---- what lies below
+
+-- the namespaces of a subtree that take part
+abbrev pub open_below : Forest → List ℕ → List (List ℕ)
+open_below f n = filter (is_open f) (subtree_of f n)
+
+-- those that take part whenever n does: all up to n are there, not on their way out, and included
+abbrev pub live_below : Forest → List ℕ → List (List ℕ)
+live_below f n = filter (λ m. list_all (is_calm f) (up_to n (chain_of f m))) (subtree_of f n)
+
+-- the namespaces that name n as their parent, whether it is there or not
+abbrev pub is_child : Forest → List ℕ → List ℕ → Bool
+is_child f n m = option_map_or (bytes_eq n) (parent_of f m) false
+
+-- n, and what lies below those that name it
+abbrev pub below_created : Forest → List ℕ → List (List ℕ)
+below_created f n = n ∷ flat_map (subtree_of f) (filter (is_child f n) (names_of f))
+
+-- ---- namespaces
+
+-- A namespace is replaced: its labels may count, and all its keys rest on its version
+abbrev pub label_marks : State → List ℕ → List Key
+label_marks s n = if is_open (forest_of s) n then all_of s.objects (chain_of (forest_of s) n) n else []
+
+-- A namespace is made, under this parent: what waited for it below may begin to take part
+abbrev pub created_marks : State → List ℕ → Option (List ℕ) → List Key
+created_marks s n parent = flat_map (λ m. all_of s.objects (chain_of (forest_of s) m ++ n ∷ chain_from (forest_of s) parent) m) (below_created (forest_of s) n)
+
+-- the names that aren't among others
+abbrev pub apart : List (List ℕ) → List (List ℕ) → List (List ℕ)
+apart names others = filter (λ a. not (is_in a others)) names
+
+-- the names of exactly one of two chains
+abbrev pub in_one : List (List ℕ) → List (List ℕ) → List (List ℕ)
+in_one a b = apart a b ++ apart b a
+
+-- what is sent by some namespaces, of all kinds
+abbrev pub all_sent : Objects → List (List ℕ) → Objects
+all_sent objects names = flat_map (λ kind. sent_from objects kind names) copied_kinds
+
+-- the tree labels of a namespace, and the copies that what is sent may have there
+abbrev pub sent_marks : Objects → List ℕ → List Key
+sent_marks sent m = key.Tree m ∷ map (key_for m) sent
+
+-- A namespace moves, from one parent to another, and takes part before and after it, or in one of the two. Where it always does, what the two chains share goes on being sent; where it begins or ends to take part, all counts that its subtree may want
+abbrev pub moved_by : State → List ℕ → Option (List ℕ) → Option (List ℕ) → Bool → Bool → List Key
+moved_by s n old new true true = flat_map (sent_marks (all_sent s.objects (in_one (chain_from (forest_of s) old) (chain_from (forest_of s) new)))) (live_below (forest_of s) n)
+moved_by s n old new true false = flat_map (λ m. all_of s.objects (chain_of (forest_of s) m) m) (live_below (forest_of s) n)
+moved_by s n old new false true = flat_map (λ m. all_of s.objects (moved_chain_of (forest_of s) n new m) m) (live_below (forest_of s) n)
+moved_by s n old new false false = []
+
+-- where the parent stays, nothing
+abbrev pub move_marks : State → State → List ℕ → List Key
+move_marks s t n =
+    if same_name (parent_of (forest_of s) n) (parent_of (forest_of t) n)
+    then []
+    else moved_by s n (parent_of (forest_of s) n) (parent_of (forest_of t) n) (is_open (forest_of s) n) (is_open (forest_of t) n)
+
+-- ---- modes
+
+-- one of two tests holds, and not the other
+abbrev pub differ : Bool → Bool → Bool
+differ true b = not b
+differ false b = b
+
+-- the place of a copy, where its kind begins or ends to be ignored
+abbrev pub copy_marks : Forest → Mode → Mode → Object → List Key
+copy_marks f a b x = if differ (is_ignored a) (is_ignored b) && (is_copy x && is_open f x.id.ns) then key_for x.id.ns x ∷ [] else []
+
+-- the places below a source that begins or ends to be sent
+abbrev pub source_marks : Forest → Mode → Mode → Object → List Key
+source_marks f a b x = if differ (is_sent a x) (is_sent b x) then map (λ m. key_for m x) (apart (open_below f x.id.ns) (x.id.ns ∷ [])) else []
+
+-- a kind comes from one mode to another
+abbrev pub kind_marks : State → Mode → Mode → Kind → List Key
+kind_marks s a b kind = flat_map (λ x. copy_marks (forest_of s) a b x ++ source_marks (forest_of s) a b x) (filter (is_listed kind None) s.objects)
+
+-- the HNCConfiguration that counts is written or removed
+abbrev pub mode_marks : State → Option Object → Option Object → List Key
+mode_marks s old new = flat_map (λ kind. kind_marks s (mode_in old kind) (mode_in new kind) kind) copied_kinds
+
+-- ---- objects
+
+abbrev pub is_any_sent : Mode → Option Object → Option Object → Bool
+is_any_sent mode old new = option_map_or (is_sent mode) old false || option_map_or (is_sent mode) new false
+
+-- the place itself, and those below where the object is sent, before or after the write
+abbrev pub place_marks : Forest → Bool → Id → List Key
+place_marks f true id = map (λ m. key.Copy m id.kind id.name) (open_below f id.ns)
+place_marks f false id = if is_open f id.ns then key.Copy id.ns id.kind id.name ∷ [] else []
+
+abbrev pub object_marks : State → Id → Option Object → Option Object → List Key
+object_marks s id old new =
+    if can_be_copied id.kind && not (is_ignored (mode_at s.objects id.kind))
+    then place_marks (forest_of s) (is_any_sent (mode_at s.objects id.kind) old new) id
+    else []
+
+-- ---- writes
+
+abbrev pub is_config_kind : Kind → Bool
+is_config_kind HncConfiguration = true
+is_config_kind _ = false
+
+abbrev pub is_modes : Id → Bool
+is_modes id = is_config_kind id.kind && bytes_eq id.name config
+
+abbrev pub object_written : Write → Option Object
+object_written (Put x) = Some x
+object_written (Cut id) = None
+
+-- a namespace that was there, or wasn't
+abbrev pub namespace_marks : State → State → List ℕ → Option Object → List Key
+namespace_marks s t n (Some old) = label_marks s n
+namespace_marks s t n None = created_marks s n (parent_of (forest_of t) n)
+
+-- by what is written, and the state after it
+abbrev pub marks_by : State → State → Id → Option Object → Option Object → List Key
+marks_by s t id old new =
+    if is_namespace id.kind then namespace_marks s t id.name old else (
+    if is_hierarchy id.kind then (if bytes_eq id.name hierarchy then move_marks s t id.ns else []) else (
+    if is_modes id then mode_marks s old new else object_marks s id old new))
+
+abbrev pub marks_of : State → Write → List Key
+marks_of s write = marks_by s (state_after s (write ∷ [])) (id_written write) (object_at s.objects (id_written write)) (object_written write)
+
+abbrev pub all_marks : State → List Write → List Key
+all_marks s writes = flat_map (marks_of s) writes

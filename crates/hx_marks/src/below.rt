@@ -1,0 +1,75 @@
+// Which namespaces take part, and what lies below them.
+ghost use Rattle.std.specs.Prelude.{◌≡◌, ◌++◌, IfOk, OnOk, option_copied};
+ghost use Rattle.std.specs.List.{list_all};
+ghost use Rattle.hx_model.specs.Forest.{chain_of};
+ghost use Rattle.hx_model.specs.Moves.{up_to, chain_from, is_calm};
+ghost use Rattle.hx_model.specs.TreeLabels.{is_open};
+ghost use Rattle.hx_marks.specs.Law.{live_below, open_below};
+
+use hx_forest::{Ancestors, Forest};
+use hx_object::{NoMemory, Text};
+use std::alloc::Global;
+
+/// The namespaces of a subtree that take part. Below one that doesn't, none does.
+pub(crate) fn open_below(alloc: Global, forest: &Forest, name: &Text) -> Result<Vec<Text>, NoMemory>
+    ensures { IfOk result (λ names. names.items ≡ open_below forest.now.nodes name.now) }
+{
+    if !forest.is_open(name) {
+        return Ok(Vec::new(alloc));
+    }
+    live_below(forest, name)
+}
+
+/// The namespaces of a subtree that take part whenever its top does.
+pub(crate) fn live_below(forest: &Forest, name: &Text) -> Result<Vec<Text>, NoMemory>
+    ensures { IfOk result (λ names. names.items ≡ live_below forest.now.nodes name.now) }
+{
+    let mut names = forest.below(name)?;
+    names.retain(|member| is_live_under(forest, name, member));
+    Ok(names)
+}
+
+/// Whether a namespace takes part whenever the one above it does: all from it up to that one are there, not on their way out, and included.
+fn is_live_under(forest: &Forest, name: &Text, member: &Text) -> bool
+    ensures { result ≡ list_all (is_calm forest.now.nodes) (up_to name.now (chain_of forest.now.nodes member.now)) }
+{
+    are_calm_up_to(forest, name, forest.ancestors(member))
+}
+
+/// Whether all before a namespace are calm.
+fn are_calm_up_to(forest: &Forest, name: &Text, members: Ancestors) -> bool
+    ensures { result ≡ list_all (is_calm forest.now.nodes) (up_to name.now members.entry) }
+{
+    for member in members {
+        if name.as_str() == member.as_str() {
+            return true;
+        }
+        if !forest.is_calm(member) {
+            return false;
+        }
+    }
+    true
+}
+
+/// The chain of a parent, and none where there is no parent.
+pub(crate) fn chain_from(
+    alloc: Global,
+    forest: &Forest,
+    parent: Option<&Text>,
+) -> Result<Vec<Text>, NoMemory>
+    ensures { IfOk result (λ names. names.items ≡ chain_from forest.now.nodes (option_copied parent.entry)) }
+{
+    match parent {
+        Some(parent) => forest.chain(parent),
+        None => Ok(Vec::new(alloc)),
+    }
+}
+
+pub(crate) fn push_names(list: &mut Vec<Text>, names: &[Text]) -> Result<(), NoMemory>
+    ensures { OnOk result (list.new.items ≡ list.old.items ++ names.now) }
+{
+    for name in names {
+        list.push(name.clone()?)?;
+    }
+    Ok(())
+}

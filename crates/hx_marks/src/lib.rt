@@ -1,0 +1,16 @@
+//! Which keys of reconcilers' work a write marks, in proportion to what it can change.
+//!
+//! The law of marks stands in `specs/Law.antt`: a list of keys for each sort of write. The call gives that list, and looks at nothing that it doesn't need.
+#![tactic(auto)]
+
+mod below;
+mod lookups;
+mod modes;
+mod moves;
+mod namespaces;
+mod objects;
+mod wants;
+mod writes;
+
+pub use wants::keys_of;
+pub use writes::marks;

@@ -1,0 +1,228 @@
+// Namespaces get other parents.
+ghost use Rattle.std.specs.Prelude.{◌≡◌, ◌++◌, ◌∷◌, true, false, not, IfOk, OnOk, filter, flat_map, option_copied};
+ghost use Rattle.hx_model.specs.Cases.{same_name};
+ghost use Rattle.hx_model.specs.Forest.{chain_of, is_in};
+ghost use Rattle.hx_model.specs.Moves.{chain_from, is_open_above, up_to};
+ghost use Rattle.hx_model.specs.Tree.{forest_of};
+ghost use Rattle.hx_marks.specs.Before.{comes_back_by, move_marks_to, opens_under, state_of};
+ghost use Rattle.hx_marks.specs.Law.{all_of, apart, in_one, moved_by, sent_marks};
+
+use crate::below::{chain_from, live_below, push_names};
+use crate::wants::{all_of, all_sent, keys_for};
+use hx_forest::Forest;
+use hx_model::{Key, RunConfig};
+use hx_object::{NoMemory, Shared, Text};
+use hx_store::Store;
+use std::alloc::Global;
+
+/// Marks what a namespace and those below it may want which gets a parent. Where it has that parent already, nothing.
+pub(crate) fn move_marks(
+    store: &Store,
+    forest: &Forest,
+    config: &RunConfig,
+    name: &Text,
+    parent: Option<&Text>,
+    keys: &mut Vec<Key>,
+) -> Result<(), NoMemory>
+    requires tree { forest.now.nodes ≡ forest_of (state_of store.now config.now) }
+    ensures { OnOk result (keys.new.items ≡ keys.old.items ++ move_marks_to (state_of store.now config.now) name.now (option_copied parent.entry)) }
+{
+    let old = forest.parent(name);
+    if is_same_name(old, parent) {
+        return Ok(());
+    }
+    match (forest.is_open(name), opens_under(forest, name, parent)) {
+        (true, true) => goes_on_marks(store, forest, config, name, old, parent, keys),
+        (true, false) => closing_marks(store, forest, config, name, old, parent, keys),
+        (false, true) => opening_marks(store, forest, config, name, old, parent, keys),
+        (false, false) => Ok(()),
+    }
+}
+
+/// Marks what a subtree may want that takes part before and after a move: what is sent from one chain goes, and what is sent from the other comes.
+fn goes_on_marks(
+    store: &Store,
+    forest: &Forest,
+    config: &RunConfig,
+    name: &Text,
+    old: Option<&Text>,
+    new: Option<&Text>,
+    keys: &mut Vec<Key>,
+) -> Result<(), NoMemory>
+    requires tree { forest.now.nodes ≡ forest_of (state_of store.now config.now) }
+    ensures { OnOk result (keys.new.items ≡ keys.old.items ++ moved_by (state_of store.now config.now) name.now (option_copied old.entry) (option_copied new.entry) true true) }
+{
+    let alloc = store.allocator();
+    let before = chain_from(alloc, forest, old)?;
+    let after = chain_from(alloc, forest, new)?;
+    let names = in_one(alloc, &before, &after)?;
+    let mut sent = Vec::new(alloc);
+    all_sent(store, &names, &mut sent)?;
+    let members = live_below(forest, name)?;
+    sent_marks(&sent, &members, keys)
+}
+
+/// Marks all that a subtree may want which ends to take part.
+fn closing_marks(
+    store: &Store,
+    forest: &Forest,
+    config: &RunConfig,
+    name: &Text,
+    old: Option<&Text>,
+    new: Option<&Text>,
+    keys: &mut Vec<Key>,
+) -> Result<(), NoMemory>
+    requires tree { forest.now.nodes ≡ forest_of (state_of store.now config.now) }
+    ensures { OnOk result (keys.new.items ≡ keys.old.items ++ moved_by (state_of store.now config.now) name.now (option_copied old.entry) (option_copied new.entry) true false) }
+{
+    let members = live_below(forest, name)?;
+    all_by_chains(store, forest, &members, keys)
+}
+
+/// Marks all that a subtree may want which begins to take part.
+fn opening_marks(
+    store: &Store,
+    forest: &Forest,
+    config: &RunConfig,
+    name: &Text,
+    old: Option<&Text>,
+    new: Option<&Text>,
+    keys: &mut Vec<Key>,
+) -> Result<(), NoMemory>
+    requires tree { forest.now.nodes ≡ forest_of (state_of store.now config.now) }
+    ensures { OnOk result (keys.new.items ≡ keys.old.items ++ moved_by (state_of store.now config.now) name.now (option_copied old.entry) (option_copied new.entry) false true) }
+{
+    let above = chain_from(store.allocator(), forest, new)?;
+    let members = live_below(forest, name)?;
+    all_by_ways(store, forest, name, &above, &members, keys)
+}
+
+/// Marks what is sent in some namespaces, and their tree labels.
+fn sent_marks(sent: &[Shared], members: &[Text], keys: &mut Vec<Key>) -> Result<(), NoMemory>
+    ensures { OnOk result (keys.new.items ≡ keys.old.items ++ flat_map (sent_marks sent.now) members.now) }
+{
+    for member in members {
+        keys.push(Key::Tree {
+            ns: member.clone()?,
+        })?;
+        keys_for(member, sent, keys)?;
+    }
+    Ok(())
+}
+
+/// Marks all that some namespaces may want, by their chains.
+fn all_by_chains(
+    store: &Store,
+    forest: &Forest,
+    members: &[Text],
+    keys: &mut Vec<Key>,
+) -> Result<(), NoMemory>
+    ensures { OnOk result (keys.new.items ≡ keys.old.items ++ flat_map (λ m. all_of store.now.objects (chain_of forest.now.nodes m) m) members.now) }
+{
+    for member in members {
+        let chain = forest.chain(member)?;
+        all_of(store, &chain, member, keys)?;
+    }
+    Ok(())
+}
+
+/// Marks all that some namespaces may want below one whose chain goes on with `above`.
+fn all_by_ways(
+    store: &Store,
+    forest: &Forest,
+    name: &Text,
+    above: &[Text],
+    members: &[Text],
+    keys: &mut Vec<Key>,
+) -> Result<(), NoMemory>
+    ensures { OnOk result (keys.new.items ≡ keys.old.items ++ flat_map (λ m. all_of store.now.objects (up_to name.now (chain_of forest.now.nodes m) ++ name.now ∷ above.now) m) members.now) }
+{
+    for member in members {
+        let mut way = Vec::new(store.allocator());
+        let chain = forest.chain(member)?;
+        push_up_to(&mut way, name, &chain)?;
+        way.push(name.clone()?)?;
+        push_names(&mut way, above)?;
+        all_of(store, &way, member, keys)?;
+    }
+    Ok(())
+}
+
+/// Adds the names before that of a namespace.
+fn push_up_to(list: &mut Vec<Text>, name: &Text, names: &[Text]) -> Result<(), NoMemory>
+    ensures { OnOk result (list.new.items ≡ list.old.items ++ up_to name.now names.now) }
+{
+    for other in names {
+        if name.as_str() == other.as_str() {
+            return Ok(());
+        }
+        list.push(other.clone()?)?;
+    }
+    Ok(())
+}
+
+/// The names of exactly one of two chains.
+fn in_one(alloc: Global, a: &[Text], b: &[Text]) -> Result<Vec<Text>, NoMemory>
+    ensures { IfOk result (λ names. names.items ≡ in_one a.now b.now) }
+{
+    let mut names = Vec::new(alloc);
+    push_apart(&mut names, a, b)?;
+    push_apart(&mut names, b, a)?;
+    Ok(names)
+}
+
+/// Adds the names that aren't among others.
+fn push_apart(list: &mut Vec<Text>, names: &[Text], others: &[Text]) -> Result<(), NoMemory>
+    ensures { OnOk result (list.new.items ≡ list.old.items ++ apart names.now others.now) }
+{
+    for name in names {
+        if !is_in(name, others) {
+            list.push(name.clone()?)?;
+        }
+    }
+    Ok(())
+}
+
+/// Whether the name is among them.
+fn is_in(name: &Text, names: &[Text]) -> bool
+    ensures { result ≡ is_in name.now names.now }
+{
+    names.iter().any(|other| name.as_str() == other.as_str())
+}
+
+/// Whether a namespace takes part once it has a parent: not below itself.
+fn opens_under(forest: &Forest, name: &Text, parent: Option<&Text>) -> bool
+    ensures { result ≡ opens_under forest.now.nodes name.now (option_copied parent.entry) }
+{
+    forest.is_calm(name) && is_open_above(forest, parent) && !comes_back_by(forest, name, parent)
+}
+
+/// Whether the chain of a parent has the namespace.
+fn comes_back_by(forest: &Forest, name: &Text, parent: Option<&Text>) -> bool
+    ensures { result ≡ comes_back_by forest.now.nodes name.now (option_copied parent.entry) }
+{
+    match parent {
+        Some(parent) => forest.in_chain(parent, name),
+        None => false,
+    }
+}
+
+fn is_open_above(forest: &Forest, parent: Option<&Text>) -> bool
+    ensures { result ≡ is_open_above forest.now.nodes (option_copied parent.entry) }
+{
+    match parent {
+        Some(parent) => forest.is_open(parent),
+        None => true,
+    }
+}
+
+/// Whether both are there and alike, or neither is there.
+fn is_same_name(a: Option<&Text>, b: Option<&Text>) -> bool
+    ensures { result ≡ same_name (option_copied a.entry) (option_copied b.entry) }
+{
+    match (a, b) {
+        (Some(a), Some(b)) => a.as_str() == b.as_str(),
+        (None, None) => true,
+        _ => false,
+    }
+}

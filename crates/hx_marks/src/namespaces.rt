@@ -1,0 +1,90 @@
+// Namespaces are replaced or made.
+ghost use Rattle.std.specs.Prelude.{◌≡◌, ◌++◌, ◌∷◌, IfOk, OnOk, flat_map, option_copied};
+ghost use Rattle.hx_model.specs.Forest.{chain_of, subtree_of};
+ghost use Rattle.hx_model.specs.Moves.{chain_from};
+ghost use Rattle.hx_model.specs.Tree.{forest_of};
+ghost use Rattle.hx_marks.specs.Before.{state_of};
+ghost use Rattle.hx_marks.specs.Law.{all_of, below_created, created_marks, label_marks};
+
+use crate::below::{chain_from, push_names};
+use crate::wants::all_of;
+use hx_forest::Forest;
+use hx_model::{Key, RunConfig};
+use hx_object::{NoMemory, Text};
+use hx_store::Store;
+use std::alloc::Global;
+
+/// Marks all that a namespace wants which takes part: its labels may count, and all its keys rest on its version.
+pub(crate) fn label_marks(
+    store: &Store,
+    forest: &Forest,
+    config: &RunConfig,
+    name: &Text,
+    keys: &mut Vec<Key>,
+) -> Result<(), NoMemory>
+    requires tree { forest.now.nodes ≡ forest_of (state_of store.now config.now) }
+    ensures { OnOk result (keys.new.items ≡ keys.old.items ++ label_marks (state_of store.now config.now) name.now) }
+{
+    if !forest.is_open(name) {
+        return Ok(());
+    }
+    let chain = forest.chain(name)?;
+    all_of(store, &chain, name, keys)
+}
+
+/// Marks all that a namespace wants which is made under a parent, and those below it, which have waited for it.
+pub(crate) fn created_marks(
+    store: &Store,
+    forest: &Forest,
+    config: &RunConfig,
+    name: &Text,
+    parent: Option<&Text>,
+    keys: &mut Vec<Key>,
+) -> Result<(), NoMemory>
+    requires tree { forest.now.nodes ≡ forest_of (state_of store.now config.now) }
+    ensures { OnOk result (keys.new.items ≡ keys.old.items ++ created_marks (state_of store.now config.now) name.now (option_copied parent.entry)) }
+{
+    let above = chain_from(store.allocator(), forest, parent)?;
+    let members = below_created(store.allocator(), forest, name)?;
+    marks_under(store, forest, name, &above, &members, keys)
+}
+
+/// Marks all that some namespaces want, whose chains go on with a namespace and what is above it.
+fn marks_under(
+    store: &Store,
+    forest: &Forest,
+    name: &Text,
+    above: &[Text],
+    members: &[Text],
+    keys: &mut Vec<Key>,
+) -> Result<(), NoMemory>
+    ensures { OnOk result (keys.new.items ≡ keys.old.items ++ flat_map (λ m. all_of store.now.objects (chain_of forest.now.nodes m ++ name.now ∷ above.now) m) members.now) }
+{
+    for member in members {
+        let mut chain = forest.chain(member)?;
+        chain.push(name.clone()?)?;
+        push_names(&mut chain, above)?;
+        all_of(store, &chain, member, keys)?;
+    }
+    Ok(())
+}
+
+/// A namespace, and what lies below those that name it as their parent.
+fn below_created(alloc: Global, forest: &Forest, name: &Text) -> Result<Vec<Text>, NoMemory>
+    ensures { IfOk result (λ names. names.items ≡ below_created forest.now.nodes name.now) }
+{
+    let mut names = Vec::new(alloc);
+    names.push(name.clone()?)?;
+    push_below(&mut names, forest, forest.children(name))?;
+    Ok(names)
+}
+
+fn push_below(list: &mut Vec<Text>, forest: &Forest, names: &[Text]) -> Result<(), NoMemory>
+    ensures { OnOk result (list.new.items ≡ list.old.items ++ flat_map (subtree_of forest.now.nodes) names.now) }
+{
+    for name in names {
+        let below = forest.below(name)?;
+        push_names(list, &below)?;
+    }
+    Ok(())
+}

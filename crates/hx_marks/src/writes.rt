@@ -1,0 +1,160 @@
+// Writes are marked.
+ghost use Rattle.std.specs.Prelude.{◌≡◌, ◌++◌, IfOk, OnOk, flat_map, option_and_then, option_copied};
+ghost use Rattle.hx_model.specs.Tree.{forest_of, named_parent, parent_with};
+ghost use Rattle.hx_model.specs.Valid.{IsValid};
+ghost use Rattle.hx_model.specs.Writes.{MayWriteAll};
+ghost use Rattle.hx_marks.specs.Before.{hierarchy_marks, marks_before, namespace_marks_by, state_of};
+ghost use Rattle.hx_marks.specs.Halves.{Covers, IsWithin};
+ghost use Rattle.hx_marks.specs.Law.{all_marks, is_modes};
+
+use crate::lookups::object_in;
+use crate::modes::mode_marks;
+use crate::moves::move_marks;
+use crate::namespaces::{created_marks, label_marks};
+use crate::objects::object_marks;
+use hx_forest::Forest;
+use hx_model::{Key, RunConfig};
+use hx_object::well_known::{CONFIG, HIERARCHY, SUBNAMESPACE_OF};
+use hx_object::{Id, Kind, NoMemory, Object, Payload, Text};
+use hx_store::{Change, Store};
+
+/// The keys that writes mark, each by the state before them: those whose wanted write or guards a write can change. A key may come more than once.
+pub fn marks(
+    store: &Store,
+    forest: &Forest,
+    config: &RunConfig,
+    writes: &[Change],
+) -> Result<Vec<Key>, NoMemory>
+    requires tree { forest.now.nodes ≡ forest_of (state_of store.now config.now) }
+    requires valid { IsValid (state_of store.now config.now) }
+    requires may { MayWriteAll (state_of store.now config.now) writes.now }
+    ensures named { IfOk result (λ keys. keys.items ≡ all_marks (state_of store.now config.now) writes.now) }
+
+    // Of one write: no other key wants something else, or on other guards, and the machine lets these wait.
+    ensures covers { IfOk result (λ keys. Covers (state_of store.now config.now) writes.now keys.items) }
+    ensures within { IfOk result (λ keys. IsWithin (state_of store.now config.now) writes.now keys.items) }
+{
+    let mut keys = Vec::new(store.allocator());
+    marks_of_all(store, forest, config, writes, &mut keys)?;
+    Ok(keys)
+}
+
+fn marks_of_all(
+    store: &Store,
+    forest: &Forest,
+    config: &RunConfig,
+    writes: &[Change],
+    keys: &mut Vec<Key>,
+) -> Result<(), NoMemory>
+    requires tree { forest.now.nodes ≡ forest_of (state_of store.now config.now) }
+    ensures { OnOk result (keys.new.items ≡ keys.old.items ++ flat_map (marks_before (state_of store.now config.now)) writes.now) }
+{
+    for write in writes {
+        marks_of(store, forest, config, write, keys)?;
+    }
+    Ok(())
+}
+
+/// Marks what a write can change.
+fn marks_of(
+    store: &Store,
+    forest: &Forest,
+    config: &RunConfig,
+    write: &Change,
+    keys: &mut Vec<Key>,
+) -> Result<(), NoMemory>
+    requires tree { forest.now.nodes ≡ forest_of (state_of store.now config.now) }
+    ensures { OnOk result (keys.new.items ≡ keys.old.items ++ marks_before (state_of store.now config.now) write.now) }
+{
+    let id = write.id();
+    let old = object_in(store.get(id));
+    let new = object_in(write.object());
+    if id.kind.is_namespace() {
+        return namespace_marks(store, forest, config, &id.name, old, new, keys);
+    }
+    if id.kind.is_hierarchy() {
+        return hierarchy_marks(store, forest, config, id, new, keys);
+    }
+    if is_modes(id) {
+        return mode_marks(store, forest, config, old, new, keys);
+    }
+    object_marks(store, forest, config, id, old, new, keys)
+}
+
+/// Marks what a namespace touches that is replaced, or is made.
+fn namespace_marks(
+    store: &Store,
+    forest: &Forest,
+    config: &RunConfig,
+    name: &Text,
+    old: Option<&Object>,
+    new: Option<&Object>,
+    keys: &mut Vec<Key>,
+) -> Result<(), NoMemory>
+    requires tree { forest.now.nodes ≡ forest_of (state_of store.now config.now) }
+    ensures { OnOk result (keys.new.items ≡ keys.old.items ++ namespace_marks_by (state_of store.now config.now) name.now (option_copied old.entry) (option_copied new.entry)) }
+{
+    match (old, new) {
+        (Some(_), _) => label_marks(store, forest, config, name, keys),
+        (None, Some(new)) => {
+            let found = store.find(Kind::HierarchyConfiguration, name.as_str(), HIERARCHY);
+            let parent = parent_by(new, object_in(found));
+            created_marks(store, forest, config, name, parent, keys)
+        }
+        (None, None) => Ok(()),
+    }
+}
+
+/// Marks what a HierarchyConfiguration touches that is written or removed.
+fn hierarchy_marks(
+    store: &Store,
+    forest: &Forest,
+    config: &RunConfig,
+    id: &Id,
+    new: Option<&Object>,
+    keys: &mut Vec<Key>,
+) -> Result<(), NoMemory>
+    requires tree { forest.now.nodes ≡ forest_of (state_of store.now config.now) }
+    ensures { OnOk result (keys.new.items ≡ keys.old.items ++ hierarchy_marks (state_of store.now config.now) id.now (option_copied new.entry)) }
+{
+    if id.name.as_str() != HIERARCHY {
+        return Ok(());
+    }
+    let home = object_in(store.find(Kind::Namespace, "", id.ns.as_str()));
+    move_marks(store, forest, config, &id.ns, parent_under(home, new), keys)
+}
+
+/// Whether the identity is that of an HNCConfiguration that counts.
+fn is_modes(id: &Id) -> bool
+    ensures { result ≡ is_modes id.now }
+{
+    matches!(id.kind, Kind::HncConfiguration) && id.name.as_str() == CONFIG
+}
+
+/// The parent of a namespace once its HierarchyConfiguration is `new`, or is gone. None where there is no namespace.
+fn parent_under<'a>(home: Option<&'a Object>, new: Option<&'a Object>) -> Option<&'a Text>
+    ensures { option_copied result ≡ option_and_then (parent_with (option_copied new.entry)) (option_copied home.entry) }
+{
+    parent_by(home?, new)
+}
+
+/// The parent of a namespace whose HierarchyConfiguration is `new`, or isn't there.
+fn parent_by<'a>(home: &'a Object, new: Option<&'a Object>) -> Option<&'a Text>
+    ensures { option_copied result ≡ parent_with (option_copied new.entry) home.now }
+{
+    match (home.annotations.get(SUBNAMESPACE_OF), new) {
+        (Some(parent), _) => Some(parent),
+        (None, Some(new)) => named_parent(new),
+        (None, None) => None,
+    }
+}
+
+/// The parent that a HierarchyConfiguration names.
+fn named_parent(object: &Object) -> Option<&Text>
+    ensures { option_copied result ≡ named_parent object.now }
+{
+    match &object.payload {
+        Payload::Hierarchy { parent, .. } => parent.as_ref(),
+        _ => None,
+    }
+}
