@@ -1,0 +1,129 @@
+-- Which keys want a write: by objects and their tree, as in a state.
+--     facts_same, guards_same   what is copied out of objects and their tree is copied out of a state
+--     stands_for                a brief of them stands for the state
+--     planned_for               what is planned for a brief of a key
+--     wanted_in, wants_in       the write of a key is the wanted one of the state
+--     wants_told                whether there is one
+--     known_listed              a key that wants a write is known of a namespace that is listed
+use Rattle.std.proofs.Common.{◌≡◌, ◌≢◌, ℕ, Bool, true, false, cond, ◌&&◌, ◌||◌, ◌==◌, Option, Some, None, List, [], ◌∷◌, map, filter, refl, sym, ap, ◌∙◌, subst, true≢false}
+use Rattle.std.specs.Prelude.{is_some, is_none, not, if◌then◌else◌}
+use Rattle.std.specs.List.{list_any}
+use Rattle.std.specs.Option.{option_map_or}
+use Rattle.std.specs.Str.{bytes_eq}
+use Rattle.std.proofs.lemmas.Bool.{and_parts, or_left, or_right}
+use Rattle.hx_object.specs.Kinds.{number_of, is_namespace}
+use Rattle.hx_object.specs.declared.kind.Kind.{Kind}
+use Rattle.hx_object.specs.declared.kind.Kind.TheVariants.{Namespace}
+use Rattle.hx_object.specs.declared.object.Object.{Object}
+use Rattle.hx_model.specs.Forest.{Forest, node_of, is_live, is_excluded, halt_of, chain_of}
+use Rattle.hx_model.specs.Keys.{is_among}
+use Rattle.hx_model.specs.State.{State, Objects}
+use Rattle.hx_model.specs.Tree.{forest_of, namespaces_in, node_in}
+use Rattle.hx_model.specs.TreeLabels.{is_open}
+use Rattle.hx_model.specs.Wanted.{wanted_write, guards_of}
+use Rattle.hx_model.specs.declared.key.Key.{Key}
+use Rattle.hx_model.specs.declared.key.Key.TheVariants as key
+use Rattle.hx_model.specs.declared.key.Write.{Write}
+use Rattle.hx_model.specs.declared.node.Node.{Node}
+use Rattle.hx_model.proofs.Climbing.{is_same}
+use Rattle.hx_marks.proofs.Wanting.{all_known}
+use Rattle.hx_marks.specs.Law.{all_of}
+use Rattle.hx_rules.specs.Briefs.{StandsFor, facts_of, planned, planned_by}
+use Rattle.hx_rules.specs.declared.brief.Brief.{Brief}
+use Rattle.hx_rules.specs.declared.brief.Facts.{Facts}
+use Rattle.hx_briefs.specs.Briefing.{facts_by, guards_by}
+use Rattle.hx_briefs.specs.Wants.{HasTree, known_of, namespaces, wants_by}
+
+-- ---- what is copied out
+
+facts_here : (s : State) (k : Key) → facts_by s.objects (forest_of s) k ≡ facts_of s k
+facts_here s (key.Copy n kind name) = refl
+facts_here s (key.Tree n) = refl
+facts_here s (key.Report n) = refl
+facts_here s (key.Child n name) = refl
+facts_here s (key.Anchor n name) = refl
+facts_here s (key.Used n name) = refl
+facts_here s (key.Purge n) = refl
+
+guards_here : (s : State) (k : Key) → guards_by s.objects k ≡ guards_of s k
+guards_here s (key.Copy n kind name) = refl
+guards_here s (key.Tree n) = refl
+guards_here s (key.Report n) = refl
+guards_here s (key.Child n name) = refl
+guards_here s (key.Anchor n name) = refl
+guards_here s (key.Used n name) = refl
+guards_here s (key.Purge n) = refl
+
+pub facts_same : (objects : Objects) (f : Forest) (s : State) (k : Key) → HasTree objects f s → facts_by objects f k ≡ facts_of s k
+facts_same objects f s k has = sym (λ i. facts_by (has.objects i) (has.tree i) k) ∙ facts_here s k
+
+pub guards_same : (objects : Objects) (s : State) (k : Key) → s.objects ≡ objects → guards_by objects k ≡ guards_of s k
+guards_same objects s k same = sym (ap (λ (o : Objects). guards_by o k) same) ∙ guards_here s k
+
+pub stands_for : (objects : Objects) (version : ℕ) (f : Forest) (s : State) (k : Key) (b : Brief) → HasTree objects f s → s.last ≡ version
+    → b.key ≡ k → b.seen ≡ version → b.guards ≡ guards_by objects k → b.facts ≡ facts_by objects f k → StandsFor b s
+stands_for objects version f s k b has last key seen guards facts = record {
+  seen = seen ∙ sym last;
+  guards = guards ∙ guards_same objects s k has.objects ∙ ap (guards_of s) (sym key);
+  facts = facts ∙ facts_same objects f s k has ∙ ap (facts_of s) (sym key);
+}
+
+-- ---- what is wanted
+
+wanted_here : (s : State) (k : Key) → planned k (facts_of s k) ≡ wanted_write s k
+wanted_here s (key.Copy n kind name) = refl
+wanted_here s (key.Tree n) = refl
+wanted_here s (key.Report n) = refl
+wanted_here s (key.Child n name) = refl
+wanted_here s (key.Anchor n name) = refl
+wanted_here s (key.Used n name) = refl
+wanted_here s (key.Purge n) = refl
+
+-- what is planned for a brief of a key
+pub planned_for : (bare given : Brief) (k : Key) (facts : Facts) (write : Option Write) → write ≡ planned_by given → given ≡ bare → bare.key ≡ k → bare.facts ≡ facts → write ≡ planned k facts
+planned_for bare given k facts write planned_so same key found = planned_so ∙ ap planned_by same ∙ (λ i. planned (key i) (found i))
+
+pub wanted_in : (objects : Objects) (f : Forest) (s : State) (k : Key) → HasTree objects f s → planned k (facts_by objects f k) ≡ wanted_write s k
+wanted_in objects f s k has = ap (planned k) (facts_same objects f s k has) ∙ wanted_here s k
+
+pub wants_in : (objects : Objects) (f : Forest) (s : State) (k : Key) → HasTree objects f s → wants_by objects f k ≡ is_some (wanted_write s k)
+unfolding wants_by
+wants_in objects f s k has = ap is_some (wanted_in objects f s k has)
+
+pub wants_told : (objects : Objects) (f : Forest) (k : Key) (r : Bool) (write : Option Write) → r ≡ is_some write → write ≡ planned k (facts_by objects f k) → r ≡ wants_by objects f k
+unfolding wants_by
+wants_told objects f k r write told is = told ∙ ap is_some is
+
+-- ---- namespaces that are listed
+
+kind_listed : (kind : Kind) → ((number_of Namespace == number_of kind) && true) ≡ is_namespace kind
+kind_listed Namespace = refl
+kind_listed _ = refl
+
+namespaces_are : (objects : Objects) → namespaces objects ≡ namespaces_in objects
+namespaces_are objects = ap (λ (p : Object → Bool). filter p objects) (λ i x. kind_listed x.id.kind i)
+
+-- a name passes, and so does the first namespace, or another one
+step : (t : List ℕ → Bool) (m n : List ℕ) (node : Node) (rest : Option Node) (others b : Bool) → bytes_eq m n ≡ b → is_some (cond b (Some node) rest) ≡ true → t m ≡ true → (is_some rest ≡ true → others ≡ true) → (t n || others) ≡ true
+step t m n node rest others true is there passes later = or_left (t n) others (subst (λ (a : List ℕ). t a ≡ true) (is_same m n is) passes)
+step t m n node rest others false is there passes later = or_right (t n) others (later there)
+
+listed_passes : (g : Object → Node) (t : List ℕ → Bool) (m : List ℕ) (xs : List Object) → is_some (node_of (map (λ (x : Object). (x.id.name, g x)) xs) m) ≡ true → t m ≡ true → list_any (λ (x : Object). t x.id.name) xs ≡ true
+listed_passes g t m [] there passes = absurd (true≢false (sym there))
+listed_passes g t m (x ∷ xs) there passes =
+    step t m x.id.name (g x) (node_of (map (λ (y : Object). (y.id.name, g y)) xs) m) (list_any (λ (y : Object). t y.id.name) xs) (bytes_eq m x.id.name) refl there passes (λ later. listed_passes g t m xs later passes)
+
+live_there : (o : Option Node) → option_map_or (λ (node : Node). not node.terminating) o false ≡ true → is_some o ≡ true
+live_there None h = h
+live_there (Some node) h = refl
+
+open_there : (f : Forest) (m : List ℕ) → is_open f m ≡ true → is_some (node_of f m) ≡ true
+open_there f m acts = live_there (node_of f m) (and_parts (is_live f m) (not (is_excluded f m) && is_none (halt_of f m)) acts).0
+
+pub known_listed : (s : State) (k : Key) → wanted_write s k ≢ None → list_any (λ (x : Object). is_among k (known_of s.objects (forest_of s) x.id.name)) (namespaces s.objects) ≡ true
+known_listed s k wants =
+    let known = all_known s k wants in
+    let m = known.0 in
+    let t : List ℕ → Bool = λ n. is_among k (known_of s.objects (forest_of s) n) in
+    let passes : t m ≡ true = ap (λ b. is_among k (if b then all_of s.objects (chain_of (forest_of s) m) m else [])) known.1 ∙ known.2 in
+    ap (λ (xs : List Object). list_any (λ (x : Object). t x.id.name) xs) (namespaces_are s.objects) ∙ listed_passes (node_in s.config.excluded s.objects) t m (namespaces_in s.objects) (open_there (forest_of s) m known.1) passes

@@ -1,0 +1,2 @@
+pub mod Briefing
+pub mod Wants
