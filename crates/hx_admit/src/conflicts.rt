@@ -20,10 +20,10 @@ use crate::case::is_same_name;
 use crate::indexed_state::IndexedState;
 use crate::plan::object_in;
 use hx_forest::{Ancestors, Forest};
-use hx_model::mode_in;
+use hx_model::{COPIED_KINDS, is_source, mode_in};
 use hx_object::well_known::{CONFIG, NONE_EXCEPTION, SELECT_EXCEPTION, TREE_SELECT_EXCEPTION};
 use hx_object::{Id, Kind, Mode, NoMemory, Object, Pairs, Shared, Text};
-use hx_rules::{exception, goes_to, is_source, prescribed_labels, stays_home};
+use hx_rules::{exception, goes_to, prescribed_labels, stays_home};
 use std::alloc::Global;
 
 impl IndexedState {
@@ -284,7 +284,7 @@ impl IndexedState {
         ensures open { result ≡ is_open (forest_of self.now.state) ns.now }
         ensures order { ascends self.now.state.objects ≡ true }
     {
-        is_open(&self.forest, ns)
+        self.forest.is_open(ns)
     }
 
     /// Whether a namespace is below another, or that one itself.
@@ -295,31 +295,11 @@ impl IndexedState {
     }
 }
 
-/// The kinds whose objects can be copied.
-static COPIED_KINDS: [Kind; 6] = [
-    Kind::Role,
-    Kind::RoleBinding,
-    Kind::ConfigMap,
-    Kind::Secret,
-    Kind::NetworkPolicy,
-    Kind::LimitRange,
-];
-
 /// Whether the identity is that of the HNCConfiguration that counts, where it is one.
 fn is_config(id: &Id) -> bool
     ensures { result ≡ (bytes_eq id.now.name config && bytes_eq id.now.ns []) }
 {
     id.name.as_str() == CONFIG && id.ns.as_str() == ""
-}
-
-/// Whether a namespace takes part: it is there and not on its way out, and neither excluded nor halted.
-pub(crate) fn is_open(forest: &Forest, ns: &Text) -> bool
-    ensures { result ≡ is_open forest.now.nodes ns.now }
-{
-    match forest.node(ns) {
-        Some(node) => !node.terminating && !node.excluded && forest.halt(ns).is_none(),
-        None => false,
-    }
 }
 
 /// Whether sources of a kind in this mode go to the namespaces below.

@@ -2,6 +2,7 @@
 ghost use Rattle.std.specs.Prelude.{◌≡◌, ◌≤◌, [], OnOk, OnErr, IfOk};
 ghost use Rattle.hx_model.specs.Limits.{greatest_version};
 ghost use Rattle.hx_model.specs.State.{opening_state, state_after};
+ghost use Rattle.hx_model.specs.Tree.{forest_of};
 ghost use Rattle.hx_model.specs.Writes.{MayWriteAll};
 
 use crate::limits::LimitCounts;
@@ -60,6 +61,28 @@ impl IndexedState {
         ensures { result ≡ self.now.state.last }
     {
         self.store.version()
+    }
+
+    /// The objects.
+    pub fn store(&self) -> &Store
+        ensures objects { result.now.objects ≡ self.now.state.objects }
+        ensures version { result.now.version ≡ self.now.state.last }
+    {
+        &self.store
+    }
+
+    /// The tree.
+    pub fn forest(&self) -> &Forest
+        ensures { result.now.nodes ≡ forest_of self.now.state }
+    {
+        &self.forest
+    }
+
+    /// What is fixed for the run.
+    pub fn config(&self) -> &RunConfig
+        ensures { result.now ≡ self.now.state.config }
+    {
+        &self.config
     }
 
     /// What the state takes its memory from.

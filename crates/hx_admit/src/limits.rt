@@ -2,14 +2,13 @@
 ghost use Rattle.std.specs.Prelude.{◌≡◌, ◌≤◌, ◌+◌, ◌-◌, ◌^◌, [], None, IfSome, option_copied};
 ghost use Rattle.hx_object.specs.Sizes.{size_of, greatest_size};
 ghost use Rattle.hx_model.specs.First.{first};
-ghost use Rattle.hx_model.specs.Limits.{part_of, namespace_one, counted_one, counted_size, counts, is_copy};
+ghost use Rattle.hx_model.specs.Limits.{part_of, namespace_one, counted_one, counted_size, counts};
 ghost use Rattle.hx_admit.specs.Counting.{Counts, IsPart, IsTooWide, counts_of};
 ghost use Rattle.hx_admit.specs.Limiting.{count_denials, growth_denials, rises_over};
 ghost use Rattle.hx_admit.specs.Refusing.{fault_in};
 
-use hx_model::{Denial, Rule};
+use hx_model::{Denial, Rule, is_copy};
 use hx_object::Object;
-use hx_object::well_known::INHERITED_FROM;
 
 const MOST_NAMES: u64 = 4_096;
 
@@ -150,12 +149,4 @@ pub fn counts(object: &Object) -> bool
     ensures { result ≡ counts object.now }
 {
     !object.id.kind.is_namespace() && !object.id.kind.is_hierarchy() && !is_copy(object)
-}
-
-/// Whether an object is a copy, as reconcilers write them.
-#[tactic(auto, unfolding(hx_model::specs::Limits::is_copy))]
-pub(crate) fn is_copy(object: &Object) -> bool
-    ensures { result ≡ is_copy object.now }
-{
-    object.id.kind.can_be_copied() && object.labels.get(INHERITED_FROM).is_some()
 }

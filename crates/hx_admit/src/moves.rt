@@ -13,26 +13,16 @@ ghost use Rattle.hx_model.specs.TreeLabels.{prescribed_labels};
 ghost use Rattle.hx_admit.specs.Moves.{open_way, is_gone_to, CanMove, IsMovedBy};
 
 use crate::case::is_same_name;
-use crate::conflicts::{is_open, is_propagated, looks_at_labels};
+use crate::conflicts::{is_propagated, looks_at_labels};
 use crate::indexed_state::IndexedState;
 use crate::plan::object_in;
 use hx_forest::Forest;
-use hx_model::mode_in;
+use hx_model::{COPIED_KINDS, is_source, mode_in};
 use hx_object::well_known::CONFIG;
 use hx_object::{Kind, Mode, NoMemory, Object, Pairs, Shared, Text};
-use hx_rules::{goes_to, is_source, prescribed_labels};
+use hx_rules::{goes_to, prescribed_labels};
 use hx_store::Store;
 use std::alloc::Global;
-
-/// The kinds that can be copied.
-const COPIED: [Kind; 6] = [
-    Kind::Role,
-    Kind::RoleBinding,
-    Kind::ConfigMap,
-    Kind::Secret,
-    Kind::NetworkPolicy,
-    Kind::LimitRange,
-];
 
 impl IndexedState {
     /// Whether a namespace that gets another parent makes a conflict: some source of its subtree lies where a source from above is copied to then, and wasn't before (HNC user guide, "Propagating policies").
@@ -62,7 +52,7 @@ fn overwrites_below(
 ) -> Result<bool, NoMemory>
     ensures { IfOk result (λ found. found ≡ list_any (λ m. overwrites_in store.now.objects m (open_moved forest.now.nodes namespace.now (option_copied parent.entry) m) (open_chain forest.now.nodes m)) (subtree_of forest.now.nodes namespace.now)) }
 {
-    if !is_calm(forest, namespace) || !is_open_above(forest, parent) {
+    if !forest.is_calm(namespace) || !is_open_above(forest, parent) {
         return Ok(false);
     }
     let above = chain_from(store.allocator(), forest, parent)?;
@@ -97,7 +87,7 @@ fn overwrites_at(
 ) -> Result<bool, NoMemory>
     ensures { IfOk result (λ found. found ≡ overwrites_in store.now.objects member.now (open_way forest.now.nodes namespace.now above.now member.now) (open_chain forest.now.nodes member.now)) }
 {
-    any_kind(store, forest, namespace, above, member, &COPIED)
+    any_kind(store, forest, namespace, above, member, &COPIED_KINDS)
 }
 
 fn any_kind(
@@ -268,7 +258,7 @@ fn mode_at(store: &Store, kind: Kind) -> Mode
 fn open_chain(alloc: Global, forest: &Forest, name: &Text) -> Result<Vec<Text>, NoMemory>
     ensures { IfOk result (λ names. names.items ≡ open_chain forest.now.nodes name.now) }
 {
-    if is_open(forest, name) {
+    if forest.is_open(name) {
         forest.chain(name)
     } else {
         Ok(Vec::new(alloc))
@@ -303,7 +293,7 @@ fn are_calm_up_to(forest: &Forest, namespace: &Text, names: &[Text]) -> bool
         if namespace.as_str() == name.as_str() {
             return true;
         }
-        if !is_calm(forest, name) {
+        if !forest.is_calm(name) {
             return false;
         }
     }
@@ -346,17 +336,7 @@ fn is_open_above(forest: &Forest, parent: Option<&Text>) -> bool
     ensures { result ≡ is_open_above forest.now.nodes (option_copied parent.entry) }
 {
     match parent {
-        Some(parent) => is_open(forest, parent),
+        Some(parent) => forest.is_open(parent),
         None => true,
-    }
-}
-
-/// Whether a namespace is there and not on its way out, and isn't excluded.
-fn is_calm(forest: &Forest, name: &Text) -> bool
-    ensures { result ≡ is_calm forest.now.nodes name.now }
-{
-    match forest.node(name) {
-        Some(node) => !node.terminating && !node.excluded,
-        None => false,
     }
 }

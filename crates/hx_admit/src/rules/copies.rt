@@ -1,7 +1,7 @@
 // The rules on copies, and on the objects that are copied.
 ghost use Rattle.std.specs.Prelude.{◌≡◌, IfOk, option_copied};
 ghost use Rattle.hx_model.specs.Cases.{any_of};
-ghost use Rattle.hx_model.specs.Exceptions.{exception, is_ok, are_valid};
+ghost use Rattle.hx_model.specs.Exceptions.{is_ok, are_valid};
 ghost use Rattle.hx_model.specs.First.{first};
 ghost use Rattle.hx_model.specs.Limits.{is_copy};
 ghost use Rattle.hx_model.specs.RulesCopies.{has_invalid_exceptions, misuses_exceptions, makes_overwrite, source_rules, touches_copy, writes_copy, removes_copy, is_labelled, is_ignored};
@@ -12,12 +12,12 @@ ghost use Rattle.hx_admit.specs.Ruling.{case_of};
 
 use super::check_rule;
 use crate::case::Case;
-use crate::limits::is_copy;
-use hx_model::{Denial, Rule, mode_in};
+use hx_model::{Denial, Rule, is_copy, mode_in};
 use hx_object::well_known::{
     INHERITED_FROM, NONE_EXCEPTION, SELECT_EXCEPTION, TREE_SELECT_EXCEPTION,
 };
 use hx_object::{Mode, NoMemory, Object, Text};
+use hx_rules::exception;
 use hx_select::{SelectFault, Selector, TreeFault, TreeSelect};
 use std::alloc::Global;
 
@@ -116,16 +116,6 @@ fn are_valid(alloc: Global, object: &Object) -> Result<bool, NoMemory>
         (None, Some(text), None) => is_tree_select(alloc, text.as_str()),
         (None, None, Some(text)) => Ok(matches!(text.as_str(), "true" | "false")),
         _ => Ok(false),
-    }
-}
-
-/// The value of an exception. An empty one counts as absent.
-fn exception<'a>(object: &'a Object, key: &str) -> Option<&'a Text>
-    ensures { option_copied result ≡ exception object.now key.now }
-{
-    match object.annotations.get(key) {
-        Some(text) if !text.as_str().is_empty() => Some(text),
-        _ => None,
     }
 }
 
