@@ -1,4 +1,5 @@
 -- The entries of requests, by what was done for them.
+--     passes_one         an ask that makes writes makes one
 --     passes_entry       an answer of success is a request's own entry
 --     asks_refused       an ask that is refused, or for which no memory was left
 --     asks_passed        an answer without writes
@@ -6,23 +7,26 @@
 --     asks_lost          an ask whose writes were lost
 --     idle_written       an ask that makes a write would change something
 use Rattle.std.proofs.Common.{◌≡◌, ◌≢◌, Bool, true, false, List, [], ◌∷◌, None, Some, Option, refl, sym, ap, subst, ◌∙◌, inl, inr}
-use Rattle.std.specs.Prelude.{◌⊎◌}
+use Rattle.std.specs.Prelude.{◌⊎◌, ◌+◌, ◌||◌, if◌then◌else◌}
 use Rattle.hx_object.specs.declared.object.Id.{Id}
 use Rattle.hx_object.specs.declared.object.Object.{Object}
-use Rattle.hx_model.specs.Answers.{refusal_of, answer_to, writes_of, success, answer_found, Mutates}
-use Rattle.hx_model.specs.Machine.{Request, LostRequest, NoMemory, KeeperFault, broken_at}
+use Rattle.hx_model.specs.Answers.{refusal_of, answer_to, writes_of, success, answer_found, replaced_by, replacing, same_object, Mutates}
+use Rattle.hx_model.specs.Keys.{may_mark}
+use Rattle.hx_model.specs.Machine.{World, Request, LostRequest, NoMemory, KeeperFault, broken_at, writes_if, writes_made}
 use Rattle.hx_model.specs.Requests.{request_entry}
-use Rattle.hx_model.specs.State.{State, state_after, object_at}
+use Rattle.hx_model.specs.State.{State, state_after, object_at, with_version}
 use Rattle.hx_model.specs.declared.ask.Ask.{Ask}
 use Rattle.hx_model.specs.declared.ask.Ask.TheVariants.{Get, List as ListOf, Create, Replace, Delete}
 use Rattle.hx_model.specs.declared.ask.Answer.{Answer}
 use Rattle.hx_model.specs.declared.ask.Answer.TheVariants.{Refused as Refusing}
+use Rattle.hx_model.specs.declared.key.Key.{Key}
 use Rattle.hx_model.specs.declared.key.Write.{Write}
+use Rattle.hx_model.specs.declared.key.Write.TheVariants.{Put, Cut}
 use Rattle.hx_model.specs.declared.refusal.Refusal.{Refusal}
 use Rattle.hx_model.specs.declared.refusal.Refusal.TheVariants.{StoreFailed, NoMemory as NoRoom}
 use Rattle.hx_model.proofs.Replying.{answer-refused, answer-passed, changes-refused, changes-read}
 use Rattle.hx_admit.specs.Reviewing.{Passes}
-use Rattle.hx_core.specs.Committing.{HasLanded, HasFailed}
+use Rattle.hx_core.specs.Committing.{HasLanded, HasFailed, HasMarked, IsOne}
 use Rattle.hx_core.specs.Refinement.{ClusterView, HasWorld, Simulates}
 use Rattle.hx_core.specs.declared.commit.CommitFault.{CommitFault}
 use Rattle.hx_core.specs.declared.commit.CommitFault.TheVariants.{KeeperFault as CommitKeeperFault, NoMemory as CommitNoMemory}
@@ -45,6 +49,47 @@ success_entry s t (Delete id skip) = refl
 pub passes_entry : (s : State) (ask : Ask) (ws : List Write) (answer : Answer) → Passes s ask ws answer → request_entry ask answer ≡ Request ask answer
 passes_entry s ask ws answer passes = subst (λ a. request_entry ask a ≡ Request ask a) passes.says (success_entry s (state_after s ws) ask)
 
+-- ---- what is written
+
+-- an ask that would change nothing writes nothing
+quiet_made : (s : State) (ask : Ask) → (Mutates s ask → ⊥) → writes_made s ask ≡ []
+quiet_made s ask quiet = by (refusal_of s ask) (writes_of s ask) refl refl
+  where
+    by : (o : Option Refusal) (ws : List Write) → refusal_of s ask ≡ o → writes_of s ask ≡ ws → writes_if o ws ≡ []
+    by (Some refusal) ws e f = refl
+    by None [] e f = refl
+    by None (w ∷ ws) e f = absurd (quiet (e, λ none. let h : (w ∷ ws) ≡ [] = sym f ∙ none in cc))
+
+or_none : (b : Bool) → (b || false) ≡ b
+or_none true = refl
+or_none false = refl
+
+-- and marks nothing
+marks_none : (w : World) (ws : List Write) → ws ≡ [] → ◌≡◌ {A = Key → Bool} (λ k. w.marked k || may_mark w.state ws k) w.marked
+marks_none w ws none = λ i k. (ap (λ us. w.marked k || may_mark w.state us k) none ∙ or_none (w.marked k)) i
+
+-- one that passes makes its writes
+passes_made : (s : State) (ask : Ask) (ws : List Write) (answer : Answer) → Passes s ask ws answer → writes_made s ask ≡ ws
+passes_made s ask ws answer passes = ap (λ o. writes_if o (writes_of s ask)) passes.passes ∙ passes.changes
+
+-- an ask makes one write, or none
+one_or_none : (s : State) (ask : Ask) → writes_of s ask ≢ [] → IsOne (writes_of s ask)
+one_or_none s (Get id) some = absurd (some refl)
+one_or_none s (ListOf kind ns selector) some = absurd (some refl)
+one_or_none s (Create x skip) some = (Put (with_version x (s.last + 1)), refl)
+one_or_none s (Replace x expected skip) some = by (object_at s.objects x.id) some
+  where
+    by : (o : Option Object) → replacing o x (s.last + 1) ≢ [] → IsOne (replacing o x (s.last + 1))
+    by None never = absurd (never refl)
+    by (Some old) some = elim (same_object (replaced_by old x) old) as (λ b. (if b then [] else Put (with_version (replaced_by old x) (s.last + 1)) ∷ []) ≢ [] → IsOne (if b then [] else Put (with_version (replaced_by old x) (s.last + 1)) ∷ [])) [
+      | true ↦ λ none. absurd (none refl)
+      | false ↦ λ never. (Put (with_version (replaced_by old x) (s.last + 1)), refl)
+    ] some
+one_or_none s (Delete id skip) some = (Cut id, refl)
+
+pub passes_one : (s : State) (ask : Ask) (ws : List Write) (answer : Answer) → Passes s ask ws answer → ws ≢ [] → IsOne ws
+passes_one s ask ws answer passes some = subst IsOne passes.changes (one_or_none s ask (λ none. some (sym passes.changes ∙ none)))
+
 -- ---- entries
 
 -- an answer of the machine that leaves the state
@@ -52,7 +97,8 @@ answers_still : (c : ClusterView) (ask : Ask) (answer : Answer) → HasWorld c �
 answers_still c ask answer stood own says quiet =
     subst (λ e. Simulates c (e ∷ []) c) (sym own) (enters_still c c (Request ask answer) stood refl refl (λ w stands.
     let here : answer_to w.state ask ≡ (answer, w.state) = subst (λ s. answer_to s ask ≡ (answer, s)) (sym stands.state) says in
-    ((sym (ap (λ p. p.0) here), λ changes. absurd (quiet (subst (λ s. Mutates s ask) stands.state changes))), λ i. record w { state = (here i).1 })))
+    let none : writes_made w.state ask ≡ [] = quiet_made w.state ask (λ changes. quiet (subst (λ s. Mutates s ask) stands.state changes)) in
+    ((sym (ap (λ p. p.0) here), λ changes. absurd (quiet (subst (λ s. Mutates s ask) stands.state changes))), λ i. record w { state = (here i).1; marked = marks_none w (writes_made w.state ask) none i })))
 
 asks_nothing : (c : ClusterView) (ask : Ask) → HasWorld c → Simulates c (LostRequest ask NoMemory ∷ []) c
 asks_nothing c ask stood = enters_still c c (LostRequest ask NoMemory) stood refl refl (λ w stands. (tt, refl))
@@ -73,31 +119,32 @@ asks_passed c ask ws answer stood passes none =
     answers_still c ask answer stood (passes_entry c.state ask ws answer passes) (passes_says c.state ask ws answer passes ∙ ap (λ vs. (answer, state_after c.state vs)) none) (changes-read c.state ask (passes.changes ∙ none))
 
 -- an answer whose writes landed
-pub asks_landed : (old new : ClusterView) (ask : Ask) (ws : List Write) (answer : Answer) → HasWorld old → Passes old.state ask ws answer → HasLanded old ws new → Simulates old (request_entry ask answer ∷ []) new
-asks_landed old new ask ws answer stood passes landed =
-    subst (λ e. Simulates old (e ∷ []) new) (sym (passes_entry old.state ask ws answer passes)) (enters_landed old new ws (Request ask answer) stood landed refl (λ w stands.
+pub asks_landed : (old new : ClusterView) (ask : Ask) (ws : List Write) (answer : Answer) → HasWorld old → Passes old.state ask ws answer → HasLanded old.state old.keeper ws new.state new.keeper → HasMarked old.state ws old.workers new.workers → Simulates old (request_entry ask answer ∷ []) new
+asks_landed old new ask ws answer stood passes landed marked =
+    subst (λ e. Simulates old (e ∷ []) new) (sym (passes_entry old.state ask ws answer passes)) (enters_landed old new ws (Request ask answer) stood landed marked refl (λ w stands.
     let here : answer_to w.state ask ≡ (answer, state_after w.state ws) = subst (λ s. answer_to s ask ≡ (answer, state_after s ws)) (sym stands.state) (passes_says old.state ask ws answer passes) in
-    ((sym (ap (λ p. p.0) here), λ changes. stands.broken ∙ landed.whole), λ i. record w { state = (here i).1 })))
+    let made : writes_made w.state ask ≡ ws = subst (λ s. writes_made s ask ≡ ws) (sym stands.state) (passes_made old.state ask ws answer passes) in
+    ((sym (ap (λ p. p.0) here), λ changes. stands.broken ∙ landed.whole), λ i. record w { state = (here i).1; marked = λ k. w.marked k || may_mark w.state (made i) k })))
 
 -- an ask that makes writes would change something
 changing : (s : State) (ask : Ask) (ws : List Write) (answer : Answer) → Passes s ask ws answer → ws ≢ [] → Mutates s ask
 changing s ask ws answer passes some = (passes.passes, λ none. some (sym passes.changes ∙ none))
 
 -- an ask whose writes were lost to a fault of the keeper
-asks_failed : (old new : ClusterView) (ask : Ask) (ws : List Write) (answer : Answer) → HasWorld old → Passes old.state ask ws answer → ws ≢ [] → HasFailed old ws new → Simulates old (request_entry ask (Refusing StoreFailed) ∷ []) new
-asks_failed old new ask ws answer stood passes some failed =
-    enters_failed old new ws (LostRequest ask KeeperFault) stood failed refl (λ w stands. (
+asks_failed : (old new : ClusterView) (ask : Ask) (ws : List Write) (answer : Answer) → HasWorld old → Passes old.state ask ws answer → ws ≢ [] → HasFailed old.state old.keeper ws new.state new.keeper → new.workers ≡ old.workers → Simulates old (request_entry ask (Refusing StoreFailed) ∷ []) new
+asks_failed old new ask ws answer stood passes some failed same =
+    enters_failed old new ws (LostRequest ask KeeperFault) stood failed same refl (λ w stands. (
       subst (λ s. Mutates s ask) (sym stands.state) (changing old.state ask ws answer passes some),
       ap (λ vs. broken_at w (state_after w.state vs)) (subst (λ s. writes_of s ask ≡ ws) (sym stands.state) passes.changes),
     ))
 
 -- an ask whose writes were lost
 pub asks_lost : (old new : ClusterView) (ask : Ask) (ws : List Write) (answer : Answer) (fault : CommitFault) (refusal : Refusal) → HasWorld old → Passes old.state ask ws answer → ws ≢ []
-    → (fault ≡ CommitNoMemory → new ≡ old) → (fault ≡ CommitKeeperFault → HasFailed old ws new) → (fault ≡ CommitKeeperFault → refusal ≡ StoreFailed) → (fault ≡ CommitNoMemory → refusal ≡ NoRoom)
+    → (fault ≡ CommitNoMemory → new ≡ old) → (fault ≡ CommitKeeperFault → HasFailed old.state old.keeper ws new.state new.keeper) → new.workers ≡ old.workers → (fault ≡ CommitKeeperFault → refusal ≡ StoreFailed) → (fault ≡ CommitNoMemory → refusal ≡ NoRoom)
     → Simulates old (request_entry ask (Refusing refusal) ∷ []) new
-asks_lost old new ask ws answer CommitKeeperFault refusal stood passes some memory failed store room =
-    subst (λ r. Simulates old (request_entry ask (Refusing r) ∷ []) new) (sym (store refl)) (asks_failed old new ask ws answer stood passes some (failed refl))
-asks_lost old new ask ws answer CommitNoMemory refusal stood passes some memory failed store room =
+asks_lost old new ask ws answer CommitKeeperFault refusal stood passes some memory failed same store room =
+    subst (λ r. Simulates old (request_entry ask (Refusing r) ∷ []) new) (sym (store refl)) (asks_failed old new ask ws answer stood passes some (failed refl) same)
+asks_lost old new ask ws answer CommitNoMemory refusal stood passes some memory failed same store room =
     subst (λ r. Simulates old (request_entry ask (Refusing r) ∷ []) new) (sym (room refl)) (subst (λ c. Simulates old (LostRequest ask NoMemory ∷ []) c) (sym (memory refl)) (asks_nothing old ask stood))
 
 -- an ask that makes writes isn't idle

@@ -1,17 +1,24 @@
 -- The entries that calls make.
+--     makes_still, makes_kept, makes_failed     an entry by what it does to the keeper
+--     stands_landed, stands_failed    the worlds after a commit
 --     enters_still               an entry that leaves its world
 --     enters_landed              one whose writes landed
 --     enters_failed              one whose writes were lost to a fault of the keeper
 -- An entry is a request's, or any other whose worlds are told.
-use Rattle.std.proofs.Common.{◌≡◌, Bool, true, false, List, [], ◌∷◌, None, Some, is_some, IfSome, refl, sym, ap, subst, ◌∙◌, inl, inr, arith, true≢false}
+use Rattle.std.proofs.Common.{◌≡◌, ◌≤◌, Bool, true, false, List, [], ◌∷◌, None, Some, is_some, IfSome, refl, sym, ap, subst, ◌∙◌, inl, inr, arith, true≢false}
 use Rattle.std.specs.Prelude.{◌⊎◌, ◌||◌, if◌then◌else◌, IsSomeAnd, option_map}
+use Rattle.std.proofs.lemmas.Bool.{or_left, or_right}
 use Rattle.std.specs.declared.option.Option.{Option}
 use Rattle.hx_ports.specs.Keeping.{Kept}
 use Rattle.hx_ports.specs.Views.{KeeperView}
-use Rattle.hx_model.specs.Machine.{World, Entry, IsLegal, world_after, broken_at, is_lost_to_fault}
+use Rattle.hx_model.specs.Machine.{World, Entry, IsLegal, world_after, written_by, broken_at, is_lost_to_fault}
+use Rattle.hx_model.specs.Keys.{is_among, may_mark}
 use Rattle.hx_model.specs.State.{State, state_after}
+use Rattle.hx_model.specs.declared.key.Key.{Key}
 use Rattle.hx_model.specs.declared.key.Write.{Write}
-use Rattle.hx_core.specs.Committing.{HasLanded, HasFailed}
+use Rattle.hx_ports.specs.Causes.{Rose}
+use Rattle.hx_core.specs.Committing.{HasLanded, HasFailed, HasMarked, holding}
+use Rattle.hx_queue.specs.Workers.{WorkersView}
 use Rattle.hx_core.specs.Refinement.{ClusterView, Represents, HasWorld, Simulates, IsKeptOf, kept_of}
 
 -- ---- one entry
@@ -61,25 +68,34 @@ maybe_written : (kept : Option Kept) (w : World) (torn s : State) → w.broken �
 maybe_written None w torn s whole is = tt
 maybe_written (Some h) w torn s whole is = inr (refl, subst (λ b. IsSomeAnd (if b then w.torn else Some torn) (λ t. kept_of s ≡ kept_of t)) (sym whole) (ap kept_of (sym is)))
 
--- the cluster that made the writes stands for the world of the state after them
-pub stands_landed : (old new : ClusterView) (ws : List Write) (w v : World) → HasLanded old ws new → Represents old w → v ≡ record w { state = state_after w.state ws } → Represents new v
-stands_landed old new ws w v landed stands is =
-    let next : World = record w { state = state_after w.state ws } in
+-- what was marked before, or is marked by the writes
+marked_after : (s : State) (ws : List Write) (w : World) (k : Key) (b : Bool) → w.state ≡ s → (b ≡ true → w.marked k ≡ true) → (b ≡ true) ⊎ (may_mark s ws k ≡ true) → (w.marked k || may_mark w.state ws k) ≡ true
+marked_after s ws w k b is before (inl old) = or_left (w.marked k) (may_mark w.state ws k) (before old)
+marked_after s ws w k b is before (inr new) = or_right (w.marked k) (may_mark w.state ws k) (ap (λ t. may_mark t ws k) is ∙ new)
+
+-- the cluster that made the writes, and marked keys, stands for the world after them
+pub stands_landed : (old new : ClusterView) (ws : List Write) (w v : World) → HasLanded old.state old.keeper ws new.state new.keeper → HasMarked old.state ws old.workers new.workers → Represents old w → v ≡ written_by w ws → Represents new v
+stands_landed old new ws w v landed marked stands is =
+    let next : World = written_by w ws in
     let state : next.state ≡ new.state = ap (λ s. state_after s ws) stands.state ∙ sym landed.state in
     subst (Represents new) (sym is) (record {
       state = state;
-      hands = stands.hands;
+      hands = stands.hands ∙ sym marked.hands;
+      waiting = λ k e. marked_after old.state ws w k (is_among k old.workers.waiting) stands.state (stands.waiting k) (marked.waiting k e);
+      again = λ k e. marked_after old.state ws w k (is_among k old.workers.again) stands.state (stands.again k) (marked.again k e);
       broken = stands.broken ∙ sym (ap (λ (k : KeeperView). k.broken) landed.keeper);
       kept = subst (λ (k : KeeperView). IfSome k.kept (IsKeptOf next)) (sym landed.keeper) (holds_state new.state next old.keeper.kept state);
     })
 
 -- the cluster whose keeper failed stands for the world that broke at them
-pub stands_failed : (old new : ClusterView) (ws : List Write) (w v : World) → HasFailed old ws new → Represents old w → v ≡ broken_at w (state_after w.state ws) → Represents new v
-stands_failed old new ws w v failed stands is =
+pub stands_failed : (old new : ClusterView) (ws : List Write) (w v : World) → HasFailed old.state old.keeper ws new.state new.keeper → new.workers ≡ old.workers → Represents old w → v ≡ broken_at w (state_after w.state ws) → Represents new v
+stands_failed old new ws w v failed same stands is =
     let torn : State = state_after w.state ws in
     subst (Represents new) (sym is) (record {
       state = stands.state ∙ sym failed.state;
-      hands = stands.hands;
+      hands = stands.hands ∙ sym (ap (λ (x : WorkersView). x.hands) same);
+      waiting = λ k e. stands.waiting k (sym (ap (λ (x : WorkersView). is_among k x.waiting) same) ∙ e);
+      again = λ k e. stands.again k (sym (ap (λ (x : WorkersView). is_among k x.again) same) ∙ e);
       broken = sym failed.broken;
       kept = elim failed.kept [
         | inl same ↦ subst (λ k. IfSome k (IsKeptOf (broken_at w torn))) (sym same) (still_kept old.keeper.kept w torn stands.kept)
@@ -99,28 +115,43 @@ still_told : {A B : Type 0} (o : Option A) (f : A → B) → is_some (option_map
 still_told None f = refl
 still_told (Some a) f = refl
 
--- an entry whose writes landed
-pub enters_landed : (old new : ClusterView) (ws : List Write) (e : Entry) → HasWorld old → HasLanded old ws new → is_lost_to_fault e ≡ false
-    → ((w : World) → Represents old w → IsLegal w e × (world_after w e ≡ record w { state = state_after w.state ws })) → Simulates old (e ∷ []) new
-enters_landed old new ws e stood landed whole lands =
-    makes_whole old new e stood (λ w stands. let here = lands w stands in (here.0, stands_landed old new ws w (world_after w e) landed stands here.1)) whole
-    (ap (λ (k : KeeperView). k.faults) landed.keeper) (ap (λ (k : KeeperView). is_some k.kept) landed.keeper ∙ still_told old.keeper.kept (λ _. kept_of new.state)) (ap (λ (k : KeeperView). k.place) landed.keeper)
+-- one that leaves what the keeper shows once it holds a state
+pub makes_kept : (old new : ClusterView) (e : Entry) → HasWorld old → Enters old e new → is_lost_to_fault e ≡ false → new.keeper ≡ holding new.state old.keeper → Simulates old (e ∷ []) new
+makes_kept old new e stood steps whole kept =
+    makes_whole old new e stood steps whole
+    (ap (λ (k : KeeperView). k.faults) kept) (ap (λ (k : KeeperView). is_some k.kept) kept ∙ still_told old.keeper.kept (λ _. kept_of new.state)) (ap (λ (k : KeeperView). k.place) kept)
 
-failed_tells : (old new : ClusterView) (ws : List Write) → HasFailed old ws new → is_some new.keeper.kept ≡ is_some old.keeper.kept
-failed_tells old new ws failed = elim failed.kept [
+-- an entry whose writes landed
+pub enters_landed : (old new : ClusterView) (ws : List Write) (e : Entry) → HasWorld old → HasLanded old.state old.keeper ws new.state new.keeper → HasMarked old.state ws old.workers new.workers → is_lost_to_fault e ≡ false
+    → ((w : World) → Represents old w → IsLegal w e × (world_after w e ≡ written_by w ws)) → Simulates old (e ∷ []) new
+enters_landed old new ws e stood landed marked whole lands =
+    makes_kept old new e stood (λ w stands. let here = lands w stands in (here.0, stands_landed old new ws w (world_after w e) landed marked stands here.1)) whole landed.keeper
+
+-- one that leaves the keeper
+pub makes_still : (old new : ClusterView) (e : Entry) → HasWorld old → Enters old e new → is_lost_to_fault e ≡ false → new.keeper ≡ old.keeper → Simulates old (e ∷ []) new
+makes_still old new e stood steps whole kept =
+    makes_whole old new e stood steps whole (ap (λ (k : KeeperView). k.faults) kept) (ap (λ (k : KeeperView). is_some k.kept) kept) (ap (λ (k : KeeperView). k.place) kept)
+
+failed_tells : (s : State) (k : KeeperView) (ws : List Write) (t : State) (k' : KeeperView) → HasFailed s k ws t k' → is_some k'.kept ≡ is_some k.kept
+failed_tells s k ws t k' failed = elim failed.kept [
   | inl same ↦ ap is_some same
-  | inr (whole, held) ↦ ap is_some held ∙ still_told old.keeper.kept (λ _. kept_of (state_after old.state ws))
+  | inr (whole, held) ↦ ap is_some held ∙ still_told k.kept (λ _. kept_of (state_after s ws))
 ]
 
--- an entry whose writes were lost to a fault of the keeper
-pub enters_failed : (old new : ClusterView) (ws : List Write) (e : Entry) → HasWorld old → HasFailed old ws new → is_lost_to_fault e ≡ true
-    → ((w : World) → Represents old w → IsLegal w e × (world_after w e ≡ broken_at w (state_after w.state ws))) → Simulates old (e ∷ []) new
-enters_failed old new ws e stood failed lost fails = record {
+-- one at which the keeper failed
+pub makes_failed : (old new : ClusterView) (ws : List Write) (e : Entry) (k : KeeperView) (t : State) → HasWorld old → HasFailed old.state old.keeper ws t k → new.keeper ≡ k → is_lost_to_fault e ≡ true → Enters old e new → Simulates old (e ∷ []) new
+makes_failed old new ws e k t stood failed same lost steps = record {
   stood = stood;
-  steps = λ w stands. let here = fails w stands in ((here.0, tt), stands_failed old new ws w (world_after w e) failed stands here.1);
-  later = failed.later;
-  cause = λ _. failed.rose;
+  steps = λ w stands. let here = steps w stands in ((here.0, tt), here.1);
+  later = subst (λ (c : KeeperView). old.keeper.faults ≤ c.faults) (sym same) failed.later;
+  cause = λ _. subst (λ (c : KeeperView). Rose old.keeper.faults c.faults) (sym same) failed.rose;
   still = λ none. absurd (true≢false (sym lost ∙ (neither_lost (is_lost_to_fault e) false none).0));
-  tells = failed_tells old new ws failed;
-  place = failed.place;
+  tells = ap (λ (c : KeeperView). is_some c.kept) same ∙ failed_tells old.state old.keeper ws t k failed;
+  place = ap (λ (c : KeeperView). c.place) same ∙ failed.place;
 }
+
+-- an entry whose writes were lost to a fault of the keeper
+pub enters_failed : (old new : ClusterView) (ws : List Write) (e : Entry) → HasWorld old → HasFailed old.state old.keeper ws new.state new.keeper → new.workers ≡ old.workers → is_lost_to_fault e ≡ true
+    → ((w : World) → Represents old w → IsLegal w e × (world_after w e ≡ broken_at w (state_after w.state ws))) → Simulates old (e ∷ []) new
+enters_failed old new ws e stood failed same lost fails =
+    makes_failed old new ws e new.keeper new.state stood failed refl lost (λ w stands. let here = fails w stands in (here.0, stands_failed old new ws w (world_after w e) failed same stands here.1))

@@ -3,35 +3,41 @@
 --     Holds              a keeper that isn't broken holds the state
 --     HasLanded          the writes landed
 --     HasFailed          the keeper failed at them
+--     IsOne              there is one write
 --     IsPrepared         the state may make the writes, and the batch is theirs
-use Rattle.std.specs.Prelude.{◌≡◌, ◌≢◌, ◌≤◌, ◌+◌, ◌⊎◌, true, false, List, [], IfSome, option_map}
+--     marks_but          the keys that are marked, but for one
+--     HasMarked          keys were marked, of those that the writes may make wait
+use Rattle.std.specs.Prelude.{◌≡◌, ◌≢◌, ◌≤◌, ◌+◌, ◌⊎◌, true, false, not, List, [], ◌∷◌, filter, Option, Some, None, IfSome, option_map}
 use Rattle.hx_ports.specs.Causes.{Rose}
 use Rattle.hx_ports.specs.Views.{KeeperView}
 use Rattle.hx_ports.specs.declared.keeper.Batch.{Batch}
+use Rattle.hx_model.specs.Keys.{same_key, is_among, may_mark}
 use Rattle.hx_model.specs.State.{State, state_after}
 use Rattle.hx_model.specs.Writes.{MayWriteAll}
+use Rattle.hx_model.specs.declared.key.Key.{Key}
 use Rattle.hx_model.specs.declared.key.Write.{Write}
-use Rattle.hx_core.specs.Refinement.{ClusterView, kept_of}
+use Rattle.hx_core.specs.Refinement.{kept_of}
 use Rattle.hx_core.specs.Rows.{batch_of, IsOfTexts}
+use Rattle.hx_queue.specs.Workers.{WorkersView}
 
 -- what the keeper shows once it holds the state, where it tells what it holds
 abbrev pub holding : State → KeeperView → KeeperView
 holding s keeper = record keeper { kept = option_map (λ _. kept_of s) keeper.kept }
 
 -- the writes are made, and the keeper holds them
-pub record HasLanded (old : ClusterView) (writes : List Write) (new : ClusterView) : Type 0 where
-  pub state : new.state ≡ state_after old.state writes
-  pub keeper : new.keeper ≡ holding new.state old.keeper
-  pub whole : old.keeper.broken ≡ false
+pub record HasLanded (old : State) (before : KeeperView) (writes : List Write) (new : State) (after : KeeperView) : Type 0 where
+  pub state : new ≡ state_after old writes
+  pub keeper : after ≡ holding new before
+  pub whole : before.broken ≡ false
 
 -- the keeper failed and is broken. It holds what it held or, where it wasn't broken before, that with the writes
-pub record HasFailed (old : ClusterView) (writes : List Write) (new : ClusterView) : Type 0 where
-  pub state : new.state ≡ old.state
-  pub place : new.keeper.place ≡ old.keeper.place
-  pub broken : new.keeper.broken ≡ true
-  pub kept : (new.keeper.kept ≡ old.keeper.kept) ⊎ ((old.keeper.broken ≡ false) × (new.keeper.kept ≡ (holding (state_after old.state writes) old.keeper).kept))
-  pub later : old.keeper.faults ≤ new.keeper.faults
-  pub rose : Rose old.keeper.faults new.keeper.faults
+pub record HasFailed (old : State) (before : KeeperView) (writes : List Write) (new : State) (after : KeeperView) : Type 0 where
+  pub state : new ≡ old
+  pub place : after.place ≡ before.place
+  pub broken : after.broken ≡ true
+  pub kept : (after.kept ≡ before.kept) ⊎ ((before.broken ≡ false) × (after.kept ≡ (holding (state_after old writes) before).kept))
+  pub later : before.faults ≤ after.faults
+  pub rose : Rose before.faults after.faults
 
 -- a keeper that isn't broken holds the state, where it tells what it holds
 abbrev pub Holds : State → KeeperView → Type 0
@@ -43,3 +49,18 @@ pub record IsPrepared (s : State) (writes : List Write) (batch : Batch) : Type 0
   pub some : writes ≢ []
   pub is : batch ≡ batch_of writes (s.last + 1)
   pub texts : IsOfTexts batch
+
+-- there is one write
+abbrev pub IsOne : List Write → Type 0
+IsOne writes = (write : Write) × (writes ≡ write ∷ [])
+
+-- the keys that are marked, but for one
+abbrev pub marks_but : Option Key → List Key → List Key
+marks_but None keys = keys
+marks_but (Some own) keys = filter (λ k. not (same_key own k)) keys
+
+-- keys were marked, of those that the writes may make wait. What is held stays
+pub record HasMarked (s : State) (writes : List Write) (old new : WorkersView) : Type 0 where
+  pub hands : new.hands ≡ old.hands
+  pub waiting : (k : Key) → is_among k new.waiting ≡ true → (is_among k old.waiting ≡ true) ⊎ (may_mark s writes k ≡ true)
+  pub again : (k : Key) → is_among k new.again ≡ true → (is_among k old.again ≡ true) ⊎ (may_mark s writes k ≡ true)

@@ -1,21 +1,27 @@
 -- What a cluster keeps true of its fields.
 --     view_of          what a cluster is seen as
---     IsSound          the state is valid, the keeper holds it, there is a world for both, and nothing is staged
+--     IsSound          the state is valid, the keeper holds it, no work is forgotten, what is held was taken in an earlier state, there is a world for all, and nothing is staged
 use Rattle.std.specs.Prelude.{◌≡◌, List, []}
+use Rattle.std.specs.List.{AllByRecursion}
 use Rattle.hx_ports.specs.Views.{KeeperView}
+use Rattle.hx_model.specs.Covered.{IsCovered}
 use Rattle.hx_model.specs.State.{State}
 use Rattle.hx_model.specs.Valid.{IsValid}
 use Rattle.hx_model.specs.declared.key.Write.{Write}
 use Rattle.hx_core.specs.Committing.{Holds}
 use Rattle.hx_core.specs.Refinement.{ClusterView, HasWorld}
+use Rattle.hx_core.specs.Turns.{IsOf}
+use Rattle.hx_queue.specs.Workers.{WorkersView}
 
--- a state, and what the keeper shows
-abbrev pub view_of : State → KeeperView → ClusterView
-view_of s keeper = record { state = s; keeper = keeper }
+-- a state, what workers hold and which keys wait, and what the keeper shows
+abbrev pub view_of : State → WorkersView → KeeperView → ClusterView
+view_of s workers keeper = record { state = s; workers = workers; keeper = keeper }
 
--- the state is valid, a keeper that isn't broken holds it, the cluster stands for a world, and no write is staged
-pub record IsSound (s : State) (keeper : KeeperView) (staged : List Write) : Type 0 where
+-- The state is valid, and a keeper that isn't broken holds it. Each key that wants a write waits, or is held and marked again, or is held by a hand that is up to date. What is held was taken in this state or an earlier one. The cluster stands for a world, and no write is staged
+pub record IsSound (s : State) (workers : WorkersView) (keeper : KeeperView) (staged : List Write) : Type 0 where
   pub valid : IsValid s
   pub held : Holds s keeper
-  pub world : HasWorld (view_of s keeper)
+  pub covered : IsCovered s workers.hands workers.waiting workers.again
+  pub taken : AllByRecursion (IsOf s) workers.hands
+  pub world : HasWorld (view_of s workers keeper)
   pub none : staged ≡ []

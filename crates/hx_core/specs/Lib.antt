@@ -1,6 +1,10 @@
+pub mod Turns
 pub mod Rows
 pub mod Refinement
 pub mod Committing
 pub mod Starting
 pub mod Loading
 pub mod Inside
+pub mod Working
+pub mod Settling
+pub mod Listing

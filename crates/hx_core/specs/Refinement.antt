@@ -1,11 +1,11 @@
 -- What a cluster is seen as, the worlds that it stands for, and the entries that its calls make.
---     ClusterView            a cluster's state, and what its keeper shows
+--     ClusterView            a cluster's state, what workers hold and which keys wait, and what its keeper shows
 --     kept_of s              what a keeper holds of a state
 --     IsKeptOf w held        what the keeper may hold in a world: its state or, once it broke, that with the write at which it broke
 --     Represents c w         the cluster stands for the world
 --     HasWorld c             there is such a world
 --     Simulates old es new   the calls that led from one view to the other made these entries
-use Rattle.std.specs.Prelude.{◌≡◌, ◌≤◌, ◌⊎◌, ℕ, Bool, true, false, List, [], Option, IfSome, IsSomeAnd, is_some, refl}
+use Rattle.std.specs.Prelude.{◌≡◌, ◌≤◌, ◌⊎◌, ℕ, Bool, true, false, List, Option, IfSome, IsSomeAnd, is_some, refl}
 use Rattle.std.specs.Coded.{Coded, code_by, coded×, coded_list, coded_ℕ, coded_bool, coded_option}
 use Rattle.std.specs.FinMap as map
 use Rattle.hx_object.specs.declared.object.Object.{Object}
@@ -19,10 +19,14 @@ use Rattle.hx_model.specs.declared.config.RunConfig.{RunConfig}
 use Rattle.hx_model.specs.Texts.{rows_of}
 use Rattle.hx_model.specs.Machine.{World, History, IsHistory, replay, loses_to_fault}
 use Rattle.hx_core.specs.Rows.{current_schema}
+use Rattle.hx_queue.specs.Workers.{WorkersView, workers_code}
+use Rattle.hx_model.specs.Keys.{is_among}
+use Rattle.hx_model.specs.declared.key.Key.{Key}
 
--- the state, and what the keeper shows
+-- the state, what workers hold and which keys wait, and what the keeper shows
 pub record ClusterView : Type 0 where
   pub state : State
+  pub workers : WorkersView
   pub keeper : KeeperView
 
 -- what a keeper holds of a state
@@ -33,10 +37,12 @@ kept_of s = record { schema = current_schema; version = s.last; rows = rows_of s
 abbrev pub IsKeptOf : World → Kept → Type 0
 IsKeptOf w held = (held ≡ kept_of w.state) ⊎ ((w.broken ≡ true) × IsSomeAnd w.torn (λ s. held ≡ kept_of s))
 
--- the cluster stands for the world: it has its state, and its keeper holds what it may
+-- The cluster stands for the world: it has its state and its hands, and its keeper holds what it may. What waits in it, or was marked while it was held, may wait in the world
 pub record Represents (c : ClusterView) (w : World) : Type 0 where
   pub state : w.state ≡ c.state
-  pub hands : w.hands ≡ []
+  pub hands : w.hands ≡ c.workers.hands
+  pub waiting : (k : Key) → is_among k c.workers.waiting ≡ true → w.marked k ≡ true
+  pub again : (k : Key) → is_among k c.workers.again ≡ true → w.marked k ≡ true
   pub broken : w.broken ≡ c.keeper.broken
   pub kept : IfSome c.keeper.kept (IsKeptOf w)
 
@@ -74,4 +80,4 @@ state_code = code_by (List Object × (ℕ × RunConfig)) (coded× (coded_list ob
 
 -- what a cluster shows
 abbrev pub cluster_view_code : Coded ClusterView
-cluster_view_code = code_by (State × KeeperView) (coded× state_code keeper_view_code) (λ c. (c.state, c.keeper)) (λ p. record { state = p.0; keeper = p.1 }) (λ _. refl)
+cluster_view_code = code_by (State × (WorkersView × KeeperView)) (coded× state_code (coded× workers_code keeper_view_code)) (λ c. (c.state, (c.workers, c.keeper))) (λ p. record { state = p.0; workers = p.1.0; keeper = p.1.1 }) (λ _. refl)

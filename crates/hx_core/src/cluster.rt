@@ -1,33 +1,44 @@
 // The cluster.
-ghost use Rattle.std.specs.Prelude.{◌≡◌, ◌≢◌, [], ◌∷◌, Some, IfOk, IfErr, IfSome, IsSome, OnOk, IsErrOf};
+ghost use Rattle.std.specs.Prelude.{◌≡◌, ◌≢◌, [], ◌∷◌, None, Some, IfOk, IfErr, IfSome, IsSome, OnOk, OnErr, IsErrOf, option_copied};
 ghost use Rattle.hx_ports.specs.Causes.{Rose};
 ghost use Rattle.hx_model.specs.Answers.{Mutates};
-ghost use Rattle.hx_model.specs.Machine.{opening_world};
+ghost use Rattle.hx_model.specs.Keys.{is_among};
+ghost use Rattle.hx_model.specs.Machine.{opening_world, wants};
 ghost use Rattle.hx_model.specs.Requests.{request_entry};
 ghost use Rattle.hx_model.specs.Serving.{IsServedAsk, IsLegalAnswer};
-ghost use Rattle.hx_model.specs.State.{State};
+ghost use Rattle.hx_model.specs.Settled.{IsSettled};
+ghost use Rattle.hx_model.specs.State.{State, state_after};
 ghost use Rattle.hx_model.specs.Valid.{IsValid};
+ghost use Rattle.hx_model.specs.Wanted.{wanted_write};
 ghost use Rattle.hx_model.specs.Writes.{MayWriteAll};
-ghost use Rattle.hx_core.specs.Committing.{HasLanded, HasFailed};
+ghost use Rattle.hx_model.specs.declared.key.Key.{Key as key_of};
+ghost use Rattle.hx_core.specs.Committing.{HasLanded, HasFailed, HasMarked, IsOne};
+ghost use Rattle.hx_core.specs.Loading.{Asked};
 ghost use Rattle.hx_core.specs.Refinement.{Represents, HasWorld, Simulates, kept_of};
 ghost use Rattle.hx_core.specs.Starting.{AreTexts, IsDamagedAt, IfDamaged, IsUndamaged, IsUntouched};
 
-use crate::commit::{CommitFault, commit, prepare};
+use crate::commit::{CommitFault, write_marked};
+use crate::marking::mark_wanting;
 use crate::start::{StartFault, load_state};
 use hx_admit::{IndexedState, Reviewed};
-use hx_model::{Answer, Ask, Refusal, RunConfig};
+use hx_model::{Answer, Ask, Key, Refusal, RunConfig};
+use hx_object::NoMemory;
 use hx_ports::Keeper;
+use hx_queue::Workers;
 use hx_store::Change;
 use std::alloc::Global;
 use std::hash::RandomState;
 use std::marker::Model;
 
-/// Objects in memory over a keeper of their rows.
+/// Objects in memory over a keeper of their rows, and workers that keep them as their hierarchy prescribes.
+///
+/// Requests and starts are here, what workers take and drop in working.rt, how a turn ends in finish.rt, and runs of turns in settle.rt.
 ///
 /// The keeper holds the rows of the cluster's state until a commit fails. From then on every write is refused, and reads go on.
 pub struct Cluster<K: Keeper> {
-    keeper: K,
-    state: IndexedState,
+    pub(crate) keeper: K,
+    pub(crate) state: IndexedState,
+    pub(crate) workers: Workers,
 }
 
 impl<K: Keeper> Model for Cluster<K> {
@@ -38,9 +49,9 @@ impl<K: Keeper> Model for Cluster<K> {
 
     ghost coded = { cluster_view_code };
 
-    ghost view = { λ c. view_of c.state.state (K.shown c.keeper) };
+    ghost view = { λ c. view_of c.state.state c.workers.seen (K.shown c.keeper) };
 
-    ghost invariant = { λ c. IsSound c.state.state (K.shown c.keeper) c.state.staged };
+    ghost invariant = { λ c. IsSound c.state.state c.workers.seen (K.shown c.keeper) c.state.staged };
 }
 
 /// A keeper that no cluster was started on.
@@ -66,6 +77,10 @@ impl<K: Keeper> Cluster<K> {
         ensures holds { IfOk result (λ c. IfSome c.keeper.kept (λ held. held ≡ kept_of c.state)) }
         ensures keeper { IfOk result (λ c. c.keeper ≡ K.shown keeper) }
         ensures undamaged { IfOk result (λ c. IfSome c.keeper.kept IsUndamaged) }
+        ensures hands { IfOk result (λ c. c.workers.hands ≡ []) }
+
+        // Exactly the keys that want a write wait.
+        ensures waits { IfOk result (λ c. (k : key_of) → is_among k c.workers.waiting ≡ wants c.state k) }
 
         // The rows of a valid state are those of no other, and they are never damaged.
         ensures reopens { IfOk result (λ c. (s : State) → IsValid s → (K.shown keeper).kept ≡ Some (kept_of s) → c.state ≡ record s { config = config }) }
@@ -76,8 +91,12 @@ impl<K: Keeper> Cluster<K> {
         ensures still { IfErr result (λ u. u.fault ≢ StartFault.KeeperFault → K.shown u.keeper ≡ K.shown keeper) }
         ensures damaged { IfErr result (λ u. IfDamaged u.fault (λ row. IfSome (K.shown keeper).kept (λ held. IsDamagedAt held row))) }
     {
-        match load_state(alloc, &mut keeper, config, keys) {
-            Ok(state) => Ok(Cluster { keeper, state }),
+        match load_work(alloc, &mut keeper, config, keys) {
+            Ok((state, workers)) => Ok(Cluster {
+                keeper,
+                state,
+                workers,
+            }),
             Err(fault) => Err(Unstarted { fault, keeper }),
         }
     }
@@ -95,7 +114,7 @@ impl<K: Keeper> Cluster<K> {
                 if writes.is_empty() {
                     return answer;
                 }
-                match self.write(writes) {
+                match self.write(writes, None) {
                     Ok(()) => answer,
                     Err(fault) => {
                         drop(answer);
@@ -111,31 +130,74 @@ impl<K: Keeper> Cluster<K> {
         ensures keeper { K.shown result ≡ self.keeper }
         ensures valid { IsValid self.state }
     {
-        let Cluster { keeper, state } = self;
+        let Cluster {
+            keeper,
+            state,
+            workers,
+        } = self;
         drop(state);
+        drop(workers);
         keeper
     }
 
-    /// A theorem, not to be called for what it does: there is a world that the cluster stands for, and its state is valid.
+    /// A theorem, not to be called for what it does: there is a world that the cluster stands for, and its state is valid. Where no key waits and none is held, the state is settled.
     pub fn law_of_worlds(&self)
         ensures world { HasWorld self.now }
         ensures valid { IsValid self.now.state }
+        ensures settled { self.now.workers.waiting ≡ [] → self.now.workers.hands ≡ [] → IsSettled self.now.state }
     {
         let _ = &self.keeper;
+        self.workers.law_apart();
     }
 
-    /// Prepares writes, and commits them.
-    fn write(&mut self, writes: Vec<Change>) -> Result<(), CommitFault>
+    /// Makes one write, and marks the keys that it touches, but for one that wants nothing afterwards.
+    pub(crate) fn write(
+        &mut self,
+        writes: Vec<Change>,
+        own: Option<&Key>,
+    ) -> Result<(), CommitFault>
         requires may { MayWriteAll self.old.state writes.items }
-        requires some { writes.items ≢ [] }
-        ensures landed { OnOk result (HasLanded self.old writes.items self.new) }
+        requires one { IsOne writes.items }
+        requires own { IfSome (option_copied own) (λ k. wanted_write (state_after self.old.state writes.items) k ≡ None) }
+        ensures landed { OnOk result (HasLanded self.old.state self.old.keeper writes.items self.new.state self.new.keeper) }
+        ensures marked { OnOk result (HasMarked self.old.state writes.items self.old.workers self.new.workers) }
         ensures memory { IsErrOf result CommitFault.NoMemory → self.new ≡ self.old }
-        ensures fault { IsErrOf result CommitFault.KeeperFault → HasFailed self.old writes.items self.new }
+        ensures fault { IsErrOf result CommitFault.KeeperFault → HasFailed self.old.state self.old.keeper writes.items self.new.state self.new.keeper }
+        ensures workers { OnErr result (self.new.workers ≡ self.old.workers) }
     {
-        let Ok(prepared) = prepare(&mut self.state, writes) else {
-            return Err(CommitFault::NoMemory);
-        };
-        commit(&mut self.keeper, &mut self.state, prepared)
+        write_marked(
+            &mut self.keeper,
+            &mut self.state,
+            &mut self.workers,
+            writes,
+            own,
+        )
+    }
+}
+
+/// The state of the rows that a keeper has, and the work that it wants.
+fn load_work<K: Keeper>(
+    alloc: Global,
+    keeper: &mut K,
+    config: RunConfig,
+    keys: RandomState,
+) -> Result<(IndexedState, Workers), StartFault>
+    ensures config { IfOk result (λ p. p.0.state.config ≡ config) }
+    ensures staged { IfOk result (λ p. p.0.staged ≡ []) }
+    ensures valid { IfOk result (λ p. IsValid p.0.state) }
+    ensures holds { IfOk result (λ p. IfSome (K.shown keeper.old).kept (λ held. held ≡ kept_of p.0.state)) }
+    ensures undamaged { IfOk result (λ p. IfSome (K.shown keeper.old).kept IsUndamaged) }
+    ensures damaged { IfErr result (λ fault. IfDamaged fault (λ row. IfSome (K.shown keeper.old).kept (λ held. IsDamagedAt held row))) }
+    ensures asked { Asked (K.shown keeper.old) (K.shown keeper.new) result }
+    ensures waiting { IfOk result (λ p. (k : key_of) → is_among k p.1.seen.waiting ≡ wants p.0.state k) }
+    ensures hands { IfOk result (λ p. p.1.seen.hands ≡ []) }
+    ensures again { IfOk result (λ p. p.1.seen.again ≡ []) }
+{
+    let state = load_state(alloc, keeper, config, keys)?;
+    let mut workers = Workers::new(alloc, keys);
+    match mark_wanting(&state, &mut workers) {
+        Ok(()) => Ok((state, workers)),
+        Err(NoMemory) => Err(StartFault::NoMemory),
     }
 }
 

@@ -1,14 +1,19 @@
 // The one way of writes: they are prepared, put to the keeper, and then made.
-ghost use Rattle.std.specs.Prelude.{◌≡◌, ◌≢◌, [], OnOk, OnErr, IfOk, IsErrOf};
+ghost use Rattle.std.specs.Prelude.{◌≡◌, ◌≢◌, ◌≤◌, [], OnOk, OnErr, IfOk, IfSome, IfNone, IsErrOf, filter, length, not, option_copied};
+ghost use Rattle.hx_model.specs.Keys.{same_key};
 ghost use Rattle.hx_model.specs.Valid.{IsValid};
 ghost use Rattle.hx_model.specs.Writes.{MayWriteAll};
-ghost use Rattle.hx_core.specs.Committing.{HasLanded, HasFailed, Holds, IsPrepared};
-ghost use Rattle.hx_core.specs.Inside.{view_of};
+ghost use Rattle.hx_marks.specs.Law.{all_marks};
+ghost use Rattle.hx_core.specs.Committing.{HasLanded, HasFailed, Holds, IsPrepared, marks_but};
+ghost use Rattle.hx_queue.specs.Workers.{IsMarkedBy};
 
 use crate::rows::batch_of;
 use hx_admit::IndexedState;
+use hx_marks::marks;
+use hx_model::Key;
 use hx_object::NoMemory;
 use hx_ports::{Batch, KeepFault, Keeper};
+use hx_queue::Workers;
 use hx_store::Change;
 
 /// Writes that are ready: they are staged in the state, and this is what is made for others of them.
@@ -65,9 +70,10 @@ pub fn commit<K: Keeper>(
     requires valid { IsValid state.old.state }
     requires held { Holds state.old.state (K.shown keeper.old) }
     requires prepared { IsPrepared state.old.state state.old.staged prepared.batch }
-    ensures landed { OnOk result (HasLanded (view_of state.old.state (K.shown keeper.old)) state.old.staged (view_of state.new.state (K.shown keeper.new))) }
-    ensures memory { IsErrOf result CommitFault.NoMemory → view_of state.new.state (K.shown keeper.new) ≡ view_of state.old.state (K.shown keeper.old) }
-    ensures fault { IsErrOf result CommitFault.KeeperFault → HasFailed (view_of state.old.state (K.shown keeper.old)) state.old.staged (view_of state.new.state (K.shown keeper.new)) }
+    ensures landed { OnOk result (HasLanded state.old.state (K.shown keeper.old) state.old.staged state.new.state (K.shown keeper.new)) }
+    ensures state { IsErrOf result CommitFault.NoMemory → state.new.state ≡ state.old.state }
+    ensures keeper { IsErrOf result CommitFault.NoMemory → K.shown keeper.new ≡ K.shown keeper.old }
+    ensures fault { IsErrOf result CommitFault.KeeperFault → HasFailed state.old.state (K.shown keeper.old) state.old.staged state.new.state (K.shown keeper.new) }
     ensures staged { state.new.staged ≡ [] }
 {
     let Prepared { batch } = prepared;
@@ -81,4 +87,137 @@ pub fn commit<K: Keeper>(
             Err(CommitFault::from(fault))
         }
     }
+}
+
+/// Makes one write, and marks the keys that it touches, but for one that wants nothing afterwards. All the memory that it takes is there before the keeper is asked.
+pub fn write_marked<K: Keeper>(
+    keeper: &mut K,
+    state: &mut IndexedState,
+    workers: &mut Workers,
+    writes: Vec<Change>,
+    own: Option<&Key>,
+) -> Result<(), CommitFault>
+    requires valid { IsValid state.old.state }
+    requires held { Holds state.old.state (K.shown keeper.old) }
+    requires none { state.old.staged ≡ [] }
+    requires may { MayWriteAll state.old.state writes.items }
+    requires some { writes.items ≢ [] }
+    ensures landed { OnOk result (HasLanded state.old.state (K.shown keeper.old) writes.items state.new.state (K.shown keeper.new)) }
+    ensures marked { OnOk result (IsMarkedBy (marks_but (option_copied own.entry) (all_marks state.old.state writes.items)) workers.old.seen workers.new.seen) }
+    ensures seen { OnErr result (workers.new.seen ≡ workers.old.seen) }
+    ensures state { IsErrOf result CommitFault.NoMemory → state.new.state ≡ state.old.state }
+    ensures keeper { IsErrOf result CommitFault.NoMemory → K.shown keeper.new ≡ K.shown keeper.old }
+    ensures fault { IsErrOf result CommitFault.KeeperFault → HasFailed state.old.state (K.shown keeper.old) writes.items state.new.state (K.shown keeper.new) }
+    ensures staged { state.new.staged ≡ [] }
+{
+    match keys_of(state, workers, writes.as_slice(), own) {
+        Err(NoMemory) => Err(CommitFault::NoMemory),
+        Ok(keys) => write_keys(keeper, state, workers, writes, keys),
+    }
+}
+
+/// Makes one write, and marks keys. There is room for them.
+fn write_keys<K: Keeper>(
+    keeper: &mut K,
+    state: &mut IndexedState,
+    workers: &mut Workers,
+    writes: Vec<Change>,
+    keys: Vec<Key>,
+) -> Result<(), CommitFault>
+    requires valid { IsValid state.old.state }
+    requires held { Holds state.old.state (K.shown keeper.old) }
+    requires none { state.old.staged ≡ [] }
+    requires may { MayWriteAll state.old.state writes.items }
+    requires some { writes.items ≢ [] }
+    requires room { length keys.items ≤ workers.old.spare }
+    ensures landed { OnOk result (HasLanded state.old.state (K.shown keeper.old) writes.items state.new.state (K.shown keeper.new)) }
+    ensures marked { OnOk result (IsMarkedBy keys.items workers.old.seen workers.new.seen) }
+    ensures seen { OnErr result (workers.new.seen ≡ workers.old.seen) }
+    ensures state { IsErrOf result CommitFault.NoMemory → state.new.state ≡ state.old.state }
+    ensures keeper { IsErrOf result CommitFault.NoMemory → K.shown keeper.new ≡ K.shown keeper.old }
+    ensures fault { IsErrOf result CommitFault.KeeperFault → HasFailed state.old.state (K.shown keeper.old) writes.items state.new.state (K.shown keeper.new) }
+    ensures staged { state.new.staged ≡ [] }
+{
+    match write_all(keeper, state, writes) {
+        Ok(()) => {
+            workers.mark_all(keys);
+            Ok(())
+        }
+        Err(fault) => {
+            drop(keys);
+            Err(fault)
+        }
+    }
+}
+
+/// Prepares writes, and commits them.
+fn write_all<K: Keeper>(
+    keeper: &mut K,
+    state: &mut IndexedState,
+    writes: Vec<Change>,
+) -> Result<(), CommitFault>
+    requires valid { IsValid state.old.state }
+    requires held { Holds state.old.state (K.shown keeper.old) }
+    requires none { state.old.staged ≡ [] }
+    requires may { MayWriteAll state.old.state writes.items }
+    requires some { writes.items ≢ [] }
+    ensures landed { OnOk result (HasLanded state.old.state (K.shown keeper.old) writes.items state.new.state (K.shown keeper.new)) }
+    ensures state { IsErrOf result CommitFault.NoMemory → state.new.state ≡ state.old.state }
+    ensures keeper { IsErrOf result CommitFault.NoMemory → K.shown keeper.new ≡ K.shown keeper.old }
+    ensures fault { IsErrOf result CommitFault.KeeperFault → HasFailed state.old.state (K.shown keeper.old) writes.items state.new.state (K.shown keeper.new) }
+    ensures staged { state.new.staged ≡ [] }
+{
+    let Ok(prepared) = prepare(state, writes) else {
+        return Err(CommitFault::NoMemory);
+    };
+    commit(keeper, state, prepared)
+}
+
+/// The keys that writes mark, but for one, with room for them.
+fn keys_of(
+    state: &IndexedState,
+    workers: &mut Workers,
+    writes: &[Change],
+    own: Option<&Key>,
+) -> Result<Vec<Key>, NoMemory>
+    requires valid { IsValid state.now.state }
+    requires may { MayWriteAll state.now.state writes.now }
+    ensures keys { IfOk result (λ keys. keys.items ≡ marks_but (option_copied own.entry) (all_marks state.now.state writes.now)) }
+    ensures room { IfOk result (λ keys. length keys.items ≤ workers.new.spare) }
+    ensures seen { workers.new.seen ≡ workers.old.seen }
+{
+    let mut keys = marks(state.store(), state.forest(), state.config(), writes)?;
+    leave_out(&mut keys, own);
+    workers.reserve(keys.len())?;
+    Ok(keys)
+}
+
+/// Leaves a key out of others.
+fn leave_out(keys: &mut Vec<Key>, own: Option<&Key>)
+    ensures some { IfSome (option_copied own.entry) (λ key. keys.new.items ≡ filter (λ k. not (same_key key k)) keys.old.items) }
+    ensures none { IfNone (option_copied own.entry) (keys.new.items ≡ keys.old.items) }
+{
+    match own {
+        Some(key) => leave_out_key(keys, key),
+        None => {}
+    }
+}
+
+fn leave_out_key(keys: &mut Vec<Key>, key: &Key)
+    ensures { keys.new.items ≡ filter (λ k. not (same_key key.now k)) keys.old.items }
+{
+    keys.retain(|other| is_other(key, other));
+}
+
+fn is_other(key: &Key, other: &Key) -> bool
+    ensures { result ≡ not (same_key key.now other.now) }
+{
+    !is_same(key, other)
+}
+
+#[tactic(auto, unfolding(hx_model::specs::Keys::same_key))]
+fn is_same(key: &Key, other: &Key) -> bool
+    ensures { result ≡ same_key key.now other.now }
+{
+    key == other
 }

@@ -1,26 +1,33 @@
 use Rattle.std.proofs.Common.{◌≡◌, ◌≢◌, [], Err, ap, rules}
 use Rattle.hx_core.specs.Inside.{view_of}
-use Rattle.hx_core.proofs.Asking.{asks_refused, asks_passed, asks_landed, asks_lost}
+use Rattle.hx_core.proofs.Asking.{asks_refused, asks_passed, asks_landed, asks_lost, passes_one}
 use Rattle.hx_core.proofs.cluster.Cluster.request.Goals as goal
 
 pub returns-in-Err-clause-simulates : goal.returns-in-Err-clause-simulates
 returns-in-Err-clause-simulates g c =
-    rw (← c.self.view_is) (asks_refused (view_of c.self.inside.state.state (g.K.Keeper.shown c.self.inside.keeper)) c.args.ask c.in-Err.refusal c.self.invariant.world c.in-Err.ensures.refused)
+    rw (← c.self.view_is) (asks_refused (view_of c.self.inside.state.state c.self.inside.workers.seen (g.K.Keeper.shown c.self.inside.keeper)) c.args.ask c.in-Err.refusal c.self.invariant.world c.in-Err.ensures.refused)
 
 pub returns-then-is_empty-clause-simulates : goal.returns-then-is_empty-clause-simulates
 returns-then-is_empty-clause-simulates g c =
     let none : c.in-Ok.field-0.writes.items ≡ [] = search rules in
-    rw (← c.self.view_is) (asks_passed (view_of c.self.inside.state.state (g.K.Keeper.shown c.self.inside.keeper)) c.args.ask c.in-Ok.field-0.writes.items c.in-Ok.field-0.answer c.self.invariant.world c.in-Ok.ensures.passes none)
+    rw (← c.self.view_is) (asks_passed (view_of c.self.inside.state.state c.self.inside.workers.seen (g.K.Keeper.shown c.self.inside.keeper)) c.args.ask c.in-Ok.field-0.writes.items c.in-Ok.field-0.answer c.self.invariant.world c.in-Ok.ensures.passes none)
+
+pub write-requires-clause-one : goal.write-requires-clause-one
+write-requires-clause-one g c =
+    let some : c.in-Ok.field-0.writes.items ≢ [] = search rules in
+    passes_one c.self.inside.state.state c.args.ask c.in-Ok.field-0.writes.items c.in-Ok.field-0.answer c.in-Ok.ensures.passes some
 
 pub returns-in-Ok-write-clause-simulates : goal.returns-in-Ok-write-clause-simulates
 returns-in-Ok-write-clause-simulates g c =
     let landed = rw (← c.self.view_is) at c.in-Ok-write.ensures.landed in
-    rw (← c.self.view_is) (asks_landed (view_of c.self.inside.state.state (g.K.Keeper.shown c.self.inside.keeper)) c.write.new.self c.args.ask c.in-Ok.field-0.writes.items c.in-Ok.field-0.answer c.self.invariant.world c.in-Ok.ensures.passes landed)
+    let marked = rw (← c.self.view_is) at c.in-Ok-write.ensures.marked in
+    rw (← c.self.view_is) (asks_landed (view_of c.self.inside.state.state c.self.inside.workers.seen (g.K.Keeper.shown c.self.inside.keeper)) c.write.new.self c.args.ask c.in-Ok.field-0.writes.items c.in-Ok.field-0.answer c.self.invariant.world c.in-Ok.ensures.passes landed marked)
 
 pub returns-in-Err-write-clause-simulates : goal.returns-in-Err-write-clause-simulates
 returns-in-Err-write-clause-simulates g c =
     let some : c.in-Ok.field-0.writes.items ≢ [] = search rules in
     let memory = rw (← c.self.view_is) at c.in-Err-write.ensures.memory in
     let failed = rw (← c.self.view_is) at c.in-Err-write.ensures.fault in
-    rw (← c.self.view_is) (asks_lost (view_of c.self.inside.state.state (g.K.Keeper.shown c.self.inside.keeper)) c.write.new.self c.args.ask c.in-Ok.field-0.writes.items c.in-Ok.field-0.answer c.in-Err-write.fault c.lost.result
-    c.self.invariant.world c.in-Ok.ensures.passes some (λ e. memory (ap Err e)) (λ e. failed (ap Err e)) c.lost.ensures.keeper c.lost.ensures.memory)
+    let workers = rw (← c.self.view_is) at c.in-Err-write.ensures.workers in
+    rw (← c.self.view_is) (asks_lost (view_of c.self.inside.state.state c.self.inside.workers.seen (g.K.Keeper.shown c.self.inside.keeper)) c.write.new.self c.args.ask c.in-Ok.field-0.writes.items c.in-Ok.field-0.answer c.in-Err-write.fault c.lost.result
+    c.self.invariant.world c.in-Ok.ensures.passes some (λ e. memory (ap Err e)) (λ e. failed (ap Err e)) workers c.lost.ensures.keeper c.lost.ensures.memory)

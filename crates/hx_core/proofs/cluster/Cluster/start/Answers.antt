@@ -4,7 +4,8 @@ use Rattle.hx_core.proofs.cluster.Cluster.start.Goals as goal
 
 pub invariant_of-result : goal.invariant_of-result
 invariant_of-result g c =
-    sound_opening (g.K.Keeper.shown c.args.keeper) (g.K.Keeper.shown c.load_state.new.keeper) c.in-Ok.state.state c.in-Ok.state.staged c.in-Ok.ensures.valid c.in-Ok.ensures.staged c.in-Ok.ensures.asked.same.kept c.in-Ok.ensures.holds
+    sound_opening (g.K.Keeper.shown c.args.keeper) (g.K.Keeper.shown c.load_work.new.keeper) c.in-Ok.state.state c.in-Ok.workers.seen c.in-Ok.state.staged c.in-Ok.ensures.valid c.in-Ok.ensures.staged c.in-Ok.ensures.asked.same.kept c.in-Ok.ensures.holds
+    c.in-Ok.ensures.waiting c.in-Ok.ensures.hands c.in-Ok.ensures.again
 
 pub returns-in-Ok-clause-reopens : goal.returns-in-Ok-clause-reopens
 returns-in-Ok-clause-reopens g c = λ s valid is.

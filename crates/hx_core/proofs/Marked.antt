@@ -1,0 +1,130 @@
+-- What the marks of a write leave.
+--     state_is           the state of a store is that which the marks are of
+--     but_by             marks but for one
+--     marks_within       marks that are made may be made
+--     has_marked         the keys that wait then
+--     covered_marked     no work is forgotten
+use Rattle.std.proofs.Common.{◌≡◌, Bool, true, false, cond, not, ◌&&◌, ◌||◌, List, [], ◌∷◌, Option, Some, None, IfSome, IfNone, filter, refl, sym, ap, ◌∙◌, subst, inl, inr, true≢false}
+use Rattle.std.specs.Prelude.{◌⊎◌}
+use Rattle.std.specs.List.{AllByRecursion}
+use Rattle.std.proofs.lemmas.Bool.{or_cases, or_left, or_right, and_parts}
+use Rattle.std.proofs.lemmas.List.{append-nil}
+use Rattle.hx_model.specs.Covered.{IsCovered}
+use Rattle.hx_model.specs.Hands.{is_held}
+use Rattle.hx_model.specs.Keys.{same_key, is_among, may_mark}
+use Rattle.hx_model.specs.State.{State, state_after}
+use Rattle.hx_model.specs.Valid.{IsValid}
+use Rattle.hx_model.specs.Wanted.{wanted_write}
+use Rattle.hx_model.specs.Writes.{MayWriteAll}
+use Rattle.hx_model.specs.declared.key.Key.{Key}
+use Rattle.hx_model.specs.declared.key.Write.{Write}
+use Rattle.hx_marks.proofs.Among.{same_key_is}
+use Rattle.hx_marks.specs.Before.{state_of}
+use Rattle.hx_marks.specs.Law.{marks_of, all_marks}
+use Rattle.hx_model.specs.declared.config.RunConfig.{RunConfig}
+use Rattle.hx_store.specs.Kept.{StoreView}
+use Rattle.hx_core.specs.Committing.{HasMarked, IsOne, marks_but}
+use Rattle.hx_core.specs.Turns.{IsOf}
+use Rattle.hx_queue.specs.Workers.{WorkersView, IsMarkedBy}
+use Rattle.hx_core.proofs.Laws.{within, stays_covered}
+
+-- ---- the state that is marked by
+
+pub state_is : (s : State) (store : StoreView) (config : RunConfig) → store.objects ≡ s.objects → store.version ≡ s.last → config ≡ s.config → state_of store config ≡ s
+state_is s store config objects version same = λ i. record { objects = objects i; last = version i; config = same i }
+
+-- ---- marks but for one
+
+still_among : (own k : Key) (keys : List Key) → is_among k (filter (λ j. not (same_key own j)) keys) ≡ true → is_among k keys ≡ true
+still_among own k [] e = e
+still_among own k (x ∷ keys) e =
+    elim (same_key own x) as (λ b. is_among k (cond (not b) (x ∷ filter (λ j. not (same_key own j)) keys) (filter (λ j. not (same_key own j)) keys)) ≡ true → (same_key k x || is_among k keys) ≡ true) [
+      | true ↦ λ h. or_right (same_key k x) (is_among k keys) (still_among own k keys h)
+      | false ↦ λ h. elim (or_cases (same_key k x) (is_among k (filter (λ j. not (same_key own j)) keys)) h) [
+        | inl here ↦ or_left (same_key k x) (is_among k keys) here
+        | inr later ↦ or_right (same_key k x) (is_among k keys) (still_among own k keys later)
+      ]
+    ] e
+
+among_but : (own : Option Key) (k : Key) (keys : List Key) → is_among k (marks_but own keys) ≡ true → is_among k keys ≡ true
+among_but None k keys e = e
+among_but (Some own) k keys e = still_among own k keys e
+
+-- a key that is left out is the one
+out_by : (own k x : Key) (keys : List Key) (a b : Bool) → same_key own x ≡ a → same_key k x ≡ b → (is_among k keys ≡ true → (is_among k (filter (λ j. not (same_key own j)) keys) ≡ true) ⊎ (own ≡ k)) → (b || is_among k keys) ≡ true
+    → (is_among k (cond (not a) (x ∷ filter (λ j. not (same_key own j)) keys) (filter (λ j. not (same_key own j)) keys)) ≡ true) ⊎ (own ≡ k)
+out_by own k x keys true true p q later h = inr (same_key_is own x p ∙ sym (same_key_is k x q))
+out_by own k x keys true false p q later h = later h
+out_by own k x keys false true p q later h = inl (or_left (same_key k x) _ q)
+out_by own k x keys false false p q later h = elim (later h) [
+  | inl there ↦ inl (or_right (same_key k x) _ there)
+  | inr same ↦ inr same
+]
+
+left_out : (own k : Key) (keys : List Key) → is_among k keys ≡ true → (is_among k (filter (λ j. not (same_key own j)) keys) ≡ true) ⊎ (own ≡ k)
+left_out own k [] e = absurd (true≢false (sym e))
+left_out own k (x ∷ keys) e = out_by own k x keys (same_key own x) (same_key k x) refl refl (λ h. left_out own k keys h) e
+
+but_among : (own : Option Key) (k : Key) (keys : List Key) → is_among k keys ≡ true → (is_among k (marks_but own keys) ≡ true) ⊎ (own ≡ Some k)
+but_among None k keys e = inl e
+but_among (Some own) k keys e = elim (left_out own k keys e) [ inl is ↦ inl is | inr same ↦ inr (ap Some same) ]
+
+pub but_by : (own : Option Key) (new old : List Key) → IfSome own (λ key. new ≡ filter (λ k. not (same_key key k)) old) → IfNone own (new ≡ old) → new ≡ marks_but own old
+but_by None new old some none = none
+but_by (Some own) new old some none = some
+
+-- the marks of one write
+marks_one : (s : State) (write : Write) → all_marks s (write ∷ []) ≡ marks_of s write
+marks_one s write = append-nil (marks_of s write)
+
+-- ---- what may be marked
+
+pub marks_within : (s : State) (ws : List Write) (own : Option Key) → IsValid s → MayWriteAll s ws → IsOne ws → (k : Key) → is_among k (marks_but own (all_marks s ws)) ≡ true → may_mark s ws k ≡ true
+marks_within s ws own valid may one k e =
+    let is : ws ≡ one.0 ∷ [] = one.1 in
+    let inside : is_among k (all_marks s (one.0 ∷ [])) ≡ true = subst (λ us. is_among k (all_marks s us) ≡ true) is (among_but own k (all_marks s ws) e) in
+    subst (λ us. may_mark s us k ≡ true) (sym is) (within s one.0 valid (subst (MayWriteAll s) is may) k (subst (λ keys. is_among k keys ≡ true) (marks_one s one.0) inside))
+
+pub has_marked : (s : State) (ws : List Write) (keys : List Key) (old new : WorkersView) → IsMarkedBy keys old new → ((k : Key) → is_among k keys ≡ true → may_mark s ws k ≡ true) → HasMarked s ws old new
+has_marked s ws keys old new marked may = record { hands = marked.hands; waiting = waiting; again = again }
+  where
+    either : (k : Key) (a b : Bool) → (a || (is_among k keys && b)) ≡ true → (a ≡ true) ⊎ (may_mark s ws k ≡ true)
+    either k a b e = elim (or_cases a (is_among k keys && b) e) [
+      | inl here ↦ inl here
+      | inr there ↦ inr (may k (and_parts (is_among k keys) b there).0)
+    ]
+
+    waiting : (k : Key) → is_among k new.waiting ≡ true → (is_among k old.waiting ≡ true) ⊎ (may_mark s ws k ≡ true)
+    waiting k e = either k (is_among k old.waiting) (not (is_held k old.hands)) (sym (marked.waiting k) ∙ e)
+
+    again : (k : Key) → is_among k new.again ≡ true → (is_among k old.again ≡ true) ⊎ (may_mark s ws k ≡ true)
+    again k e = either k (is_among k old.again) (is_held k old.hands) (sym (marked.again k) ∙ e)
+
+-- ---- no work is forgotten
+
+-- a key that is marked waits, or is held and marked again
+marked_is : (keys : List Key) (old new : WorkersView) (k : Key) → IsMarkedBy keys old new → is_among k keys ≡ true → (is_among k new.waiting ≡ true) ⊎ (is_among k new.again ≡ true)
+marked_is keys old new k marked e = by (is_held k old.hands) refl
+  where
+    both : (b c : Bool) → c ≡ b → b ≡ true → (is_among k keys && c) ≡ true
+    both b c same is = ap (λ a. a && c) e ∙ (same ∙ is)
+
+    by : (b : Bool) → is_held k old.hands ≡ b → (is_among k new.waiting ≡ true) ⊎ (is_among k new.again ≡ true)
+    by true held = inr (marked.again k ∙ or_right (is_among k old.again) (is_among k keys && is_held k old.hands) (both true (is_held k old.hands) held refl))
+    by false free = inl (marked.waiting k ∙ or_right (is_among k old.waiting) (is_among k keys && not (is_held k old.hands)) (both true (not (is_held k old.hands)) (ap not free) refl))
+
+wants_none : (s : State) (own : Option Key) (k : Key) → IfSome own (λ j. wanted_write s j ≡ None) → own ≡ Some k → wanted_write s k ≡ None
+wants_none s own k nothing is = subst (λ o. IfSome o (λ j. wanted_write s j ≡ None)) is nothing
+
+pub covered_marked : (s : State) (ws : List Write) (own : Option Key) (old new : WorkersView) → IsValid s → MayWriteAll s ws → IsOne ws → IfSome own (λ j. wanted_write (state_after s ws) j ≡ None) → AllByRecursion (IsOf s) old.hands
+    → IsCovered s old.hands old.waiting old.again → IsMarkedBy (marks_but own (all_marks s ws)) old new → IsCovered (state_after s ws) new.hands new.waiting new.again
+covered_marked s ws own old new valid may one nothing taken covered marked =
+    let is : ws ≡ one.0 ∷ [] = one.1 in
+    let here : IsMarkedBy (marks_but own (all_marks s (one.0 ∷ []))) old new = subst (λ us. IsMarkedBy (marks_but own (all_marks s us)) old new) is marked in
+    let none : IfSome own (λ j. wanted_write (state_after s (one.0 ∷ [])) j ≡ None) = subst (λ us. IfSome own (λ j. wanted_write (state_after s us) j ≡ None)) is nothing in
+    subst (λ us. IsCovered (state_after s us) new.hands new.waiting new.again) (sym is) (stays_covered s one.0 old new valid (subst (MayWriteAll s) is may) taken covered marked.hands
+    (λ k e. marked.waiting k ∙ or_left (is_among k old.waiting) _ e) (λ k e. marked.again k ∙ or_left (is_among k old.again) _ e)
+    (λ k e. elim (but_among own k (all_marks s (one.0 ∷ [])) (subst (λ keys. is_among k keys ≡ true) (sym (marks_one s one.0)) e)) [
+      | inl among ↦ elim (marked_is (marks_but own (all_marks s (one.0 ∷ []))) old new k here among) [ inl waits ↦ inl waits | inr again ↦ inr (inl again) ]
+      | inr own_is ↦ inr (inr (wants_none (state_after s (one.0 ∷ [])) own k none own_is))
+    ]))

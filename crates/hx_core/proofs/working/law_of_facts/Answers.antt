@@ -1,0 +1,7 @@
+use Rattle.std.proofs.Common.{◌<◌, ◌^◌, length, subst}
+use Rattle.hx_rules.specs.Briefs.{planned_by}
+use Rattle.hx_core.proofs.Keeping.{short_by}
+use Rattle.hx_core.proofs.working.law_of_facts.Goals as goal
+
+pub returns : goal.returns
+returns c = short_by c.args.brief.now.facts (planned_by c.args.brief.now) (subst (λ xs. length xs < 2 ^ 64) c.chain_in.ensures c.law_of_chain.ensures)

@@ -1,0 +1,322 @@
+// How a worker's turn ends.
+ghost use Rattle.std.specs.Prelude.{◌≡◌, ◌<◌, ◌&&◌, ◌∷◌, [], true, None, Some, IfOk, IfSome, is_some, nat_le, option_copied, option_map};
+ghost use Rattle.std.specs.Option.{option_eq};
+ghost use Rattle.hx_model.specs.Limits.{greatest_version};
+ghost use Rattle.hx_model.specs.State.{object_at, same_id};
+ghost use Rattle.hx_model.specs.Writes.{id_written};
+ghost use Rattle.hx_model.specs.Answers.{same_object};
+ghost use Rattle.hx_model.specs.Hands.{are_met, hand_of, is_met, keeps_sources, may_write, same_write, versioned};
+ghost use Rattle.hx_model.specs.Machine.{Finished};
+ghost use Rattle.hx_model.specs.Propagation.{source_at};
+ghost use Rattle.hx_model.specs.Valid.{IsValid};
+ghost use Rattle.hx_model.specs.Wanted.{wanted_write};
+ghost use Rattle.hx_rules.specs.Briefs.{StandsFor, hand_by, planned_by};
+ghost use Rattle.hx_core.specs.Refinement.{Simulates};
+ghost use Rattle.hx_core.specs.Turns.{IsPlanOf};
+ghost use Rattle.hx_core.specs.Working.{IsTried, is_written};
+
+use crate::briefs::brief_of;
+use crate::cluster::Cluster;
+use crate::commit::CommitFault;
+use hx_admit::{GREATEST_VERSION, IndexedState};
+use hx_model::{Finish, Guard, Key, Write, is_source};
+use hx_object::{Id, NoMemory, Object, Shared};
+use hx_ports::Keeper;
+use hx_rules::{Brief, Plan, SharedBrief, plan};
+use hx_store::Change;
+use std::alloc::Global;
+
+impl<K: Keeper> Cluster<K> {
+    /// Ends the turn of a worker by its plan: writes what is wanted, if what it rests on is as it was.
+    pub fn finish(&mut self, worker: u32, plan: Plan) -> Finish
+        requires { IsPlanOf self.old.workers.hands worker plan }
+        ensures simulates { Simulates self.old (Finished worker result ∷ []) self.new }
+        ensures empty { hand_of worker self.new.workers.hands ≡ None }
+    {
+        let (brief, write) = plan.into_parts();
+        self.end(worker, brief.brief(), write)
+    }
+
+    /// Ends the turn of a worker that was given this brief, which asks for this write.
+    fn end(&mut self, worker: u32, brief: &Brief, write: Option<Write>) -> Finish
+        requires hand { IfSome (hand_of worker self.old.workers.hands) (λ hand. hand ≡ hand_by worker brief.now) }
+        requires planned { write ≡ planned_by brief.now }
+        ensures simulates { Simulates self.old (Finished worker result ∷ []) self.new }
+        ensures empty { hand_of worker self.new.workers.hands ≡ None }
+    {
+        match self.workers.hand(worker) {
+            None => Finish::Empty,
+            Some(_) => self.end_held(worker, brief, write),
+        }
+    }
+
+    /// The same of a worker that holds its brief.
+    fn end_held(&mut self, worker: u32, brief: &Brief, write: Option<Write>) -> Finish
+        requires hand { hand_of worker self.old.workers.hands ≡ Some (hand_by worker brief.now) }
+        requires planned { write ≡ planned_by brief.now }
+        ensures simulates { Simulates self.old (Finished worker result ∷ []) self.new }
+        ensures empty { hand_of worker self.new.workers.hands ≡ None }
+    {
+        match write {
+            None => self.end_idle(worker, brief),
+            Some(write) => self.end_tried(worker, brief, write),
+        }
+    }
+
+    /// The same where nothing is asked for.
+    fn end_idle(&mut self, worker: u32, brief: &Brief) -> Finish
+        requires hand { hand_of worker self.old.workers.hands ≡ Some (hand_by worker brief.now) }
+        requires planned { planned_by brief.now ≡ None }
+        ensures simulates { Simulates self.old (Finished worker result ∷ []) self.new }
+        ensures empty { hand_of worker self.new.workers.hands ≡ None }
+    {
+        self.workers.law_apart();
+        let _ = self.let_go(worker, false);
+        Finish::Nothing
+    }
+
+    /// The same where a write is.
+    fn end_tried(&mut self, worker: u32, brief: &Brief, write: Write) -> Finish
+        requires hand { hand_of worker self.old.workers.hands ≡ Some (hand_by worker brief.now) }
+        requires planned { Some write ≡ planned_by brief.now }
+        ensures simulates { Simulates self.old (Finished worker result ∷ []) self.new }
+        ensures empty { hand_of worker self.new.workers.hands ≡ None }
+    {
+        self.workers.law_apart();
+        let end = self.attempt(worker, brief, write);
+        let _ = self.let_go(worker, !is_written(end));
+        end
+    }
+
+    /// Makes the write of a worker's hand, if what it rests on is as it was.
+    fn attempt(&mut self, worker: u32, brief: &Brief, write: Write) -> Finish
+        requires hand { hand_of worker self.old.workers.hands ≡ Some (hand_by worker brief.now) }
+        requires planned { Some write ≡ planned_by brief.now }
+        ensures { IsTried (hand_by worker brief.now) write self.old result self.new }
+    {
+        match may_write(&self.state, brief, &write) {
+            Err(NoMemory) => Finish::NoMemory,
+            Ok(may) => self.decide(worker, brief, write, may),
+        }
+    }
+
+    /// Makes a write that may be made, where a version is left.
+    fn decide(&mut self, worker: u32, brief: &Brief, write: Write, may: bool) -> Finish
+        requires hand { hand_of worker self.old.workers.hands ≡ Some (hand_by worker brief.now) }
+        requires planned { Some write ≡ planned_by brief.now }
+        requires may { may ≡ (are_met self.old.state brief.now.guards && keeps_sources self.old.state brief.now.key write) }
+        ensures { IsTried (hand_by worker brief.now) write self.old result self.new }
+    {
+        let now = self.state.version();
+        if !may {
+            return Finish::Conflict {
+                seen: brief.seen,
+                now,
+            };
+        }
+        if is_spent(now) {
+            return Finish::Spent;
+        }
+        self.make(worker, brief, write)
+    }
+
+    /// Makes a write that may be made.
+    fn make(&mut self, worker: u32, brief: &Brief, write: Write) -> Finish
+        requires hand { hand_of worker self.old.workers.hands ≡ Some (hand_by worker brief.now) }
+        requires planned { Some write ≡ planned_by brief.now }
+        requires may { may_write self.old.state (hand_by worker brief.now) write ≡ true }
+        requires fits { self.old.state.last < greatest_version }
+        ensures { IsTried (hand_by worker brief.now) write self.old result self.new }
+    {
+        let last = self.state.version();
+        let version = last + 1;
+        match changes_of(self.state.allocator(), write, version) {
+            Err(NoMemory) => Finish::NoMemory,
+            Ok(writes) => match self.write(writes, own_of(brief, last)) {
+                Ok(()) => Finish::Written(version),
+                Err(fault) => lost_by(fault),
+            },
+        }
+    }
+}
+
+/// How a turn ends whose write was lost.
+fn lost_by(fault: CommitFault) -> Finish
+    ensures keeper { fault ≡ CommitFault.KeeperFault → result ≡ Finish.Fault }
+    ensures memory { fault ≡ CommitFault.NoMemory → result ≡ Finish.NoMemory }
+{
+    match fault {
+        CommitFault::KeeperFault => Finish::Fault,
+        CommitFault::NoMemory => Finish::NoMemory,
+    }
+}
+
+/// Whether no version is left.
+fn is_spent(last: u64) -> bool
+    ensures { result ≡ nat_le greatest_version last }
+{
+    last >= GREATEST_VERSION
+}
+
+/// The key of a brief, where nothing was written since it was made: its write satisfies it.
+fn own_of(brief: &Brief, last: u64) -> Option<&Key>
+    ensures { IfSome (option_copied result) (λ key. (key ≡ brief.now.key) × (brief.now.seen ≡ last)) }
+{
+    if brief.seen == last {
+        return Some(&brief.key);
+    }
+    None
+}
+
+/// Whether a turn ended with its write.
+fn is_written(end: Finish) -> bool
+    ensures { result ≡ is_written end }
+{
+    matches!(end, Finish::Written(_))
+}
+
+/// A write with a version, as the changes of a commit.
+fn changes_of(alloc: Global, write: Write, version: u64) -> Result<Vec<Change>, NoMemory>
+    ensures { IfOk result (λ writes. writes.items ≡ versioned version write ∷ []) }
+{
+    let change = match write {
+        Write::Put(mut object) => {
+            object.version = version;
+            Change::put(Shared::new(alloc, object)?)?
+        }
+        Write::Cut(id) => Change::cut(id),
+    };
+    Ok(vec![in alloc; change]?)
+}
+
+/// Whether the write of a brief may be made: what it rests on is as it was, and where it would overwrite a source it is still wanted.
+fn may_write(state: &IndexedState, brief: &Brief, write: &Write) -> Result<bool, NoMemory>
+    requires { IsValid state.now.state }
+    ensures { IfOk result (λ may. may ≡ (are_met state.now.state brief.now.guards && keeps_sources state.now.state brief.now.key write.now)) }
+{
+    if !are_met(state, brief.guards.as_slice()) {
+        return Ok(false);
+    }
+    keeps_sources(state, &brief.key, write)
+}
+
+/// Whether each guard is met.
+fn are_met(state: &IndexedState, guards: &[Guard]) -> bool
+    ensures { result ≡ are_met state.now.state guards.now }
+{
+    guards.iter().all(|guard| is_met(state, guard))
+}
+
+/// Whether an identity has the version of its guard, or isn't there where the guard has none.
+fn is_met(state: &IndexedState, guard: &Guard) -> bool
+    ensures { result ≡ is_met state.now.state guard.now }
+{
+    version_at(state, &guard.id) == guard.version
+}
+
+/// The version of an object.
+fn version_at(state: &IndexedState, id: &Id) -> Option<u64>
+    ensures { result ≡ option_map (λ x. x.version) (object_at state.now.state.objects id.now) }
+{
+    match state.store().get(id) {
+        Some(object) => Some(object.object().version),
+        None => None,
+    }
+}
+
+/// Whether a write overwrites no source, or is the one that its key wants.
+fn keeps_sources(state: &IndexedState, key: &Key, write: &Write) -> Result<bool, NoMemory>
+    requires { IsValid state.now.state }
+    ensures { IfOk result (λ keeps. keeps ≡ keeps_sources state.now.state key.now write.now) }
+{
+    if !is_source_at(state, id_of(write)) {
+        return Ok(true);
+    }
+    is_wanted(state, key, write)
+}
+
+/// The identity that a write is of.
+fn id_of(write: &Write) -> &Id
+    ensures { result.now ≡ id_written write.now }
+{
+    match write {
+        Write::Put(object) => &object.id,
+        Write::Cut(id) => id,
+    }
+}
+
+/// Whether a source has the identity.
+fn is_source_at(state: &IndexedState, id: &Id) -> bool
+    ensures { result ≡ is_some (source_at state.now.state.objects id.now) }
+{
+    match state.store().get(id) {
+        Some(object) => is_source(object.object()),
+        None => false,
+    }
+}
+
+/// Whether a write is the one that its key wants, as the state is.
+fn is_wanted(state: &IndexedState, key: &Key, write: &Write) -> Result<bool, NoMemory>
+    requires { IsValid state.now.state }
+    ensures { IfOk result (λ wanted. wanted ≡ option_eq same_write (wanted_write state.now.state key.now) (Some write.now)) }
+{
+    let planned = plan_now(state, key)?;
+    Ok(is_same_as(planned.write(), write))
+}
+
+/// The plan of a key, as the state is.
+fn plan_now(state: &IndexedState, key: &Key) -> Result<Plan, NoMemory>
+    requires { IsValid state.now.state }
+    ensures { IfOk result (λ planned. planned.write ≡ wanted_write state.now.state key.now) }
+{
+    let brief = brief_now(state, key)?;
+    match plan(state.allocator(), brief) {
+        Ok(planned) => Ok(planned),
+        Err(same) => {
+            drop(same);
+            Err(NoMemory)
+        }
+    }
+}
+
+/// The brief of a key, as the state is.
+fn brief_now(state: &IndexedState, key: &Key) -> Result<SharedBrief, NoMemory>
+    ensures key { IfOk result (λ brief. brief.key ≡ key.now) }
+    ensures stands { IfOk result (λ brief. StandsFor brief state.now.state) }
+{
+    let brief = brief_of(state, key)?;
+    Ok(SharedBrief::new(state.allocator(), brief)?)
+}
+
+fn is_same_as(wanted: Option<&Write>, write: &Write) -> bool
+    ensures { result ≡ option_eq same_write (option_copied wanted.entry) (Some write.now) }
+{
+    match wanted {
+        Some(other) => is_same_write(other, write),
+        None => false,
+    }
+}
+
+/// Whether two writes are one.
+fn is_same_write(a: &Write, b: &Write) -> bool
+    ensures { result ≡ same_write a.now b.now }
+{
+    match (a, b) {
+        (Write::Put(x), Write::Put(y)) => is_same_object(x, y),
+        (Write::Cut(id), Write::Cut(other)) => is_same_id(id, other),
+        _ => false,
+    }
+}
+
+#[tactic(auto, unfolding(hx_model::specs::Answers::same_object))]
+fn is_same_object(x: &Object, y: &Object) -> bool
+    ensures { result ≡ same_object x.now y.now }
+{
+    x == y
+}
+
+fn is_same_id(id: &Id, other: &Id) -> bool
+    ensures { result ≡ same_id id.now other.now }
+{
+    id.is_same(other)
+}

@@ -1,0 +1,38 @@
+// What workers are answered.
+use hx_model::{Finish, Key};
+use hx_rules::SharedBrief;
+
+/// The answer to a worker that asks for work.
+#[derive(Drop)]
+pub enum Take {
+    /// The worker holds the brief's key now.
+    Job(SharedBrief),
+    /// No key waits.
+    Idle,
+    /// The worker holds a key already, that of this brief.
+    Already(SharedBrief),
+    /// This other worker holds the key that was named.
+    Other(u32),
+    NoMemory,
+}
+
+/// A turn of a settle: the key that was taken, and how its turn ended.
+#[derive(Drop)]
+pub struct Turned {
+    pub key: Key,
+    pub end: Finish,
+}
+
+/// How a settle ended.
+#[derive(Clone, Copy, Debug, PartialEq, Eq)]
+pub enum Settle {
+    /// No key waits, and none is held.
+    Settled,
+    /// The turns are used up and keys wait, or none waits and workers hold some.
+    Unsettled { waiting: u64, held: u64 },
+    /// No version is left.
+    Spent,
+    /// The store failed.
+    Fault,
+    NoMemory,
+}

@@ -1,0 +1,274 @@
+// What workers take and drop.
+ghost use Rattle.std.specs.Prelude.{◌≡◌, ◌<◌, ◌^◌, ℕ, [], ◌∷◌, true, false, None, Some, IfOk, IfSome, IfNone, IsSome, length, option_map};
+ghost use Rattle.hx_model.specs.Keys.{is_among};
+ghost use Rattle.hx_model.specs.Hands.{hand_of, is_held};
+ghost use Rattle.hx_model.specs.Machine.{Checked, Dropped, Finished};
+ghost use Rattle.hx_rules.specs.Briefs.{IsShort, StandsFor, hand_by, planned_by};
+ghost use Rattle.hx_core.specs.Refinement.{Simulates};
+ghost use Rattle.hx_core.specs.Turns.{IsInHand, IsOfKey, take_entry, take_key_entry};
+ghost use Rattle.hx_core.specs.Working.{IsDone, IsGiven, IsGivenBy, IsKept, IsReleased, IsTake, IsTakeOf, chain_in};
+
+use crate::briefs::brief_of;
+use crate::cluster::Cluster;
+use crate::objects::all_objects;
+use crate::turns::Take;
+use hx_admit::IndexedState;
+use hx_model::{Finish, Key};
+use hx_object::{NoMemory, Shared, Text};
+use hx_ports::Keeper;
+use hx_queue::Workers;
+use hx_rules::{Brief, Facts, Plan, SharedBrief, plan};
+use std::alloc::Global;
+
+impl<K: Keeper> Cluster<K> {
+    /// Gives a worker a key that waits, with what its plan is made from.
+    pub fn take(&mut self, worker: u32) -> Take
+        ensures simulates { Simulates self.old (take_entry worker result ∷ []) self.new }
+        ensures hand { IsInHand self.new.workers.hands worker result }
+        ensures idle { result ≡ Take.Idle → (self.old.workers.waiting ≡ []) × (hand_of worker self.old.workers.hands ≡ None) }
+        ensures unnamed { (holder : ℕ) → result ≡ Take.Other holder → ⊥ }
+    {
+        self.take_next(worker)
+    }
+
+    /// Gives a worker the named key, whether it waits or not.
+    pub fn take_key(&mut self, worker: u32, key: Key) -> Take
+        ensures simulates { Simulates self.old (take_key_entry worker key result ∷ []) self.new }
+        ensures hand { IsInHand self.new.workers.hands worker result }
+        ensures key { IsOfKey key result }
+        ensures busy { result ≡ Take.Idle → ⊥ }
+    {
+        self.take_named(worker, key)
+    }
+
+    /// What a worker holds.
+    pub fn hand(&self, worker: u32) -> Option<&SharedBrief>
+        ensures some { IfSome result (λ brief. hand_of worker self.now.workers.hands ≡ Some (hand_by worker brief.now)) }
+        ensures none { IfNone result (hand_of worker self.now.workers.hands ≡ None) }
+    {
+        self.workers.hand(worker)
+    }
+
+    /// Plans what a worker holds, and finishes it. Where no memory is left for the plan, the worker drops it.
+    pub fn complete(&mut self, worker: u32) -> Finish
+        ensures simulates { Simulates self.old (Finished worker result ∷ []) self.new }
+        ensures empty { hand_of worker self.new.workers.hands ≡ None }
+    {
+        match self.workers.hand(worker) {
+            None => Finish::Empty,
+            Some(brief) => match plan_of(self.state.allocator(), brief) {
+                Ok(plan) => self.finish(worker, plan),
+                Err(NoMemory) => self.forsake(worker),
+            },
+        }
+    }
+
+    /// A worker drops what it holds for want of memory.
+    fn forsake(&mut self, worker: u32) -> Finish
+        requires { IsSome (hand_of worker self.old.workers.hands) }
+        ensures simulates { Simulates self.old (Finished worker result ∷ []) self.new }
+        ensures empty { hand_of worker self.new.workers.hands ≡ None }
+    {
+        self.workers.law_apart();
+        let _ = self.let_go(worker, true);
+        Finish::NoMemory
+    }
+
+    /// A worker drops what it holds, whose key waits again. It takes no memory.
+    pub fn drop_hand(&mut self, worker: u32) -> Option<SharedBrief>
+        ensures simulates { Simulates self.old (Dropped worker (option_map (λ brief. brief.key) result) ∷ []) self.new }
+        ensures empty { hand_of worker self.new.workers.hands ≡ None }
+    {
+        self.workers.law_apart();
+        let dropped = self.let_go(worker, true);
+        dropped
+    }
+
+    /// How many keys wait, and how many are held. It takes no memory.
+    pub fn busy(&self) -> (u64, u64)
+        ensures simulates { Simulates self.now (Checked result.0 result.1 ∷ []) self.now }
+        ensures waiting { result.0 ≡ length self.now.workers.waiting }
+        ensures held { result.1 ≡ length self.now.workers.hands }
+    {
+        self.workers.law_apart();
+        (self.workers.waiting() as u64, self.workers.held() as u64)
+    }
+
+    /// All objects, in order.
+    pub fn rows(&self) -> Result<Vec<Shared>, NoMemory>
+        ensures { IfOk result (λ objects. objects.items ≡ self.now.state.objects) }
+    {
+        all_objects(self.state.store())
+    }
+
+    /// A worker takes the key that has waited longest.
+    fn take_next(&mut self, worker: u32) -> Take
+        ensures { IsTake worker self.old result self.new }
+    {
+        match self.workers.hand(worker) {
+            Some(brief) => already(brief),
+            None => self.take_free(worker),
+        }
+    }
+
+    /// The same of a worker that holds nothing.
+    fn take_free(&mut self, worker: u32) -> Take
+        requires { hand_of worker self.old.workers.hands ≡ None }
+        ensures { IsTake worker self.old result self.new }
+    {
+        match self.workers.next() {
+            None => {
+                self.workers.law_apart();
+                Take::Idle
+            }
+            Some(key) => {
+                self.law_of_again(key);
+                match copy_of(key) {
+                    Ok(copy) => self.give(worker, copy),
+                    Err(NoMemory) => Take::NoMemory,
+                }
+            }
+        }
+    }
+
+    /// A worker takes a key that is named.
+    fn take_named(&mut self, worker: u32, key: Key) -> Take
+        ensures { IsTakeOf worker key self.old result self.new }
+    {
+        match self.workers.hand(worker) {
+            Some(brief) => {
+                drop(key);
+                already(brief)
+            }
+            None => self.take_unheld(worker, key),
+        }
+    }
+
+    /// The same of a worker that holds nothing.
+    fn take_unheld(&mut self, worker: u32, key: Key) -> Take
+        requires { hand_of worker self.old.workers.hands ≡ None }
+        ensures { IsTakeOf worker key self.old result self.new }
+    {
+        match self.workers.holder(&key) {
+            Some(holder) => {
+                drop(key);
+                Take::Other(holder)
+            }
+            None => {
+                self.law_of_again(&key);
+                self.give(worker, key)
+            }
+        }
+    }
+
+    /// Gives a key that nobody holds to a worker that holds nothing.
+    pub(crate) fn give(&mut self, worker: u32, key: Key) -> Take
+        requires empty { hand_of worker self.old.workers.hands ≡ None }
+        requires free { is_held key self.old.workers.hands ≡ false }
+        ensures { IsGiven worker key self.old result self.new }
+    {
+        self.workers.law_apart();
+        give_to(&self.state, &mut self.workers, worker, key)
+    }
+
+    /// A theorem, not to be called for what it does: a key that nobody holds isn't marked again.
+    pub(crate) fn law_of_again(&self, key: &Key)
+        requires { is_held key.now self.now.workers.hands ≡ false }
+        ensures { is_among key.now self.now.workers.again ≡ false }
+    {
+        self.workers.law_apart();
+    }
+
+    /// A worker lets go what it holds: its key waits then, or needs no turn more.
+    pub(crate) fn let_go(&mut self, worker: u32, waits: bool) -> Option<SharedBrief>
+        requires { waits ≡ false → IfSome (hand_of worker self.old.workers.hands) (IsDone self.old.state) }
+        ensures released { IsReleased worker waits self.old self.new }
+        ensures some { IfSome result (λ brief. hand_of worker self.old.workers.hands ≡ Some (hand_by worker brief)) }
+        ensures none { IfNone result (hand_of worker self.old.workers.hands ≡ None) }
+        ensures empty { hand_of worker self.new.workers.hands ≡ None }
+    {
+        self.workers.let_go(worker, waits)
+    }
+}
+
+/// What a worker is answered that holds a brief already.
+fn already(brief: &SharedBrief) -> Take
+    ensures { IsKept brief.now result }
+{
+    match brief.share() {
+        Ok(shared) => Take::Already(shared),
+        Err(NoMemory) => Take::NoMemory,
+    }
+}
+
+/// The plan of a brief, which stays with its owner.
+fn plan_of(alloc: Global, brief: &SharedBrief) -> Result<Plan, NoMemory>
+    ensures { IfOk result (λ planned. planned.brief ≡ brief.now) }
+{
+    match plan(alloc, brief.share()?) {
+        Ok(planned) => Ok(planned),
+        Err(same) => {
+            drop(same);
+            Err(NoMemory)
+        }
+    }
+}
+
+fn copy_of(key: &Key) -> Result<Key, NoMemory>
+    ensures { IfOk result (λ copy. copy ≡ key.now) }
+{
+    Ok(key.clone()?)
+}
+
+/// Gives a key to a worker.
+fn give_to(state: &IndexedState, workers: &mut Workers, worker: u32, key: Key) -> Take
+    requires empty { hand_of worker workers.old.seen.hands ≡ None }
+    requires free { is_held key workers.old.seen.hands ≡ false }
+    ensures { IsGivenBy worker key state.now.state workers.old.seen result workers.new.seen }
+{
+    let Ok((brief, shared)) = job_of(state, &key) else {
+        return Take::NoMemory;
+    };
+    if workers.reserve(1).is_err() {
+        return Take::NoMemory;
+    }
+    workers.take(worker, key, brief);
+    Take::Job(shared)
+}
+
+/// The brief of a key, as the state is, with two owners.
+fn job_of(state: &IndexedState, key: &Key) -> Result<(SharedBrief, SharedBrief), NoMemory>
+    ensures key { IfOk result (λ p. p.0.key ≡ key.now) }
+    ensures stands { IfOk result (λ p. StandsFor p.0 state.now.state) }
+    ensures short { IfOk result (λ p. IsShort p.0.facts (planned_by p.0)) }
+    ensures same { IfOk result (λ p. p.1 ≡ p.0) }
+{
+    let brief = brief_of(state, key)?;
+    law_of_facts(&brief);
+    let first = SharedBrief::new(state.allocator(), brief)?;
+    let second = first.share()?;
+    Ok((first, second))
+}
+
+/// A theorem, not to be called for what it does: a chain is no longer than a machine counts.
+fn law_of_facts(brief: &Brief)
+    ensures { IsShort brief.now.facts (planned_by brief.now) }
+{
+    law_of_chain(chain_in(&brief.facts));
+}
+
+/// The chain of facts that have one.
+fn chain_in(facts: &Facts) -> &[Text]
+    ensures { result.now ≡ chain_in facts.now }
+{
+    match facts {
+        Facts::Tree { chain, .. } => chain.as_slice(),
+        _ => &[],
+    }
+}
+
+fn law_of_chain(chain: &[Text])
+    ensures { length chain.now < 2 ^ 64 }
+{
+    let _len = chain.len();
+}
