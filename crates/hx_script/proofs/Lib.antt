@@ -3,5 +3,9 @@ mod Texts
 mod Ends
 mod Simulating
 pub mod Running
+pub mod Making
+pub mod Idling
+pub mod Naming
+pub mod Saying
 pub mod Kept
 pub mod Pieces

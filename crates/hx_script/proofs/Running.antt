@@ -1,28 +1,23 @@
 -- Runs of lines put together.
-use Rattle.std.proofs.Common.{◌≡◌, ◌≢◌, ℕ, Bool, true, false, cond, List, [], ◌∷◌, ◌++◌, None, Some, Ok, Err, refl, sym, ap, subst, ◌∙◌, inl, inr, append_assoc, append-nil, map}
-use Rattle.std.specs.Prelude.{OnErr, ◌⊎◌}
+use Rattle.std.proofs.Common.{◌≡◌, ℕ, Bool, true, false, cond, List, [], ◌∷◌, ◌++◌, None, Some, Ok, Err, refl, sym, ap, subst, ◌∙◌, inl, inr, append_assoc, append-nil, map}
+use Rattle.std.specs.Prelude.{OnOk, OnErr}
 use Rattle.std.specs.declared.option.Option.{Option}
 use Rattle.std.specs.declared.result.Result.{Result}
 use Rattle.std.specs.List.{AllByRecursion}
 use Rattle.std.specs.Str.Lines.{strip_carriage_return}
 use Rattle.std.specs.Io.KnownBytes.{Appends, Keeps}
+use Rattle.std.proofs.lemmas.Grind.{flat_map-append}
 use Rattle.std.proofs.lemmas.List.{map-append}
+use Rattle.std.proofs.lemmas.Result.{on_ok_weaker, on_err_weaker}
 use Rattle.hx_ports.specs.Causes.{IsStall}
 use Rattle.hx_ports.specs.Views.{SinkView}
-use Rattle.hx_model.specs.declared.ask.Ask.{Ask}
-use Rattle.hx_model.specs.declared.ask.Answer.{Answer}
-use Rattle.hx_model.specs.declared.ask.Answer.TheVariants.{Refused as Refusing}
-use Rattle.hx_model.specs.declared.refusal.Refusal.{Refusal}
-use Rattle.hx_model.specs.declared.refusal.Refusal.TheVariants.{StoreFailed, NoMemory as NoRoom}
-use Rattle.hx_model.specs.Machine.{Entry, Refused, LostRequest, NoMemory, answer_of}
-use Rattle.hx_model.specs.Requests.{request_entry}
+use Rattle.hx_model.specs.Machine.{History}
 use Rattle.hx_core.specs.Refinement.{ClusterView, HasWorld, Simulates}
 use Rattle.hx_script.specs.Lines.{Line, line_of_text, asking, is_asking}
 use Rattle.hx_script.specs.Forms.{reading_of}
-use Rattle.hx_script.specs.Replies.{answer_line}
-use Rattle.hx_script.specs.Exchanges.{Exchange, MakesEntry, MayBeUnsaid, IsExchange, lines_of, entries_of, answer_lines, exchange_line, no_memory_line}
-use Rattle.hx_script.specs.Running.{Ran, Does, Cuts, LacksLast, WritesFront, IsSaid, SaysTo, SaysFront, Serves, CutsAnswer, IsCalm}
-use Rattle.hx_script.proofs.Simulating.{Simulates-none, Simulates-refused, Simulates-lost, Simulates-after}
+use Rattle.hx_script.specs.Exchanges.{made_entries, Exchange, IsExchange, lines_of, entries_of, answer_lines, exchange_line}
+use Rattle.hx_script.specs.Running.{Ran, Does, Cuts, LacksLast, WritesFront, IsCalm, HasMade, Serves}
+use Rattle.hx_script.proofs.Simulating.{Simulates-none, Simulates-after}
 
 -- ---- exchanges one after the other
 
@@ -37,8 +32,8 @@ answer_lines-append (t ∷ ts) us = ap (λ l. exchange_line t ++ l) (answer_line
 abbrev line_of_exchange : Exchange → Line
 line_of_exchange exchange = exchange.line
 
-abbrev entry_of_exchange : Exchange → Entry
-entry_of_exchange exchange = exchange.entry
+abbrev entries_of_exchange : Exchange → History
+entries_of_exchange exchange = made_entries exchange.made
 
 lines_together : (ls ks rest : List Line) (ts us : List Exchange) → ls ≡ lines_of ts ++ [] → ks ≡ lines_of us ++ rest → ls ++ ks ≡ lines_of (ts ++ us) ++ rest
 lines_together ls ks rest ts us p q =
@@ -52,7 +47,7 @@ LacksLast-before : (ts us : List Exchange) (lacking : List ℕ) → LacksLast us
 LacksLast-before ts us lacking (inl none) = inl none
 LacksLast-before ts us lacking (inr (before, last, front, ends, whole)) = inr (ts ++ before, last, front, ap (λ l. ts ++ l) ends ∙ sym (append_assoc ts before (last ∷ [])), whole)
 
-Appends-nil : (a : Option (List ℕ)) → Appends a a []
+pub Appends-nil : (a : Option (List ℕ)) → Appends a a []
 Appends-nil None = tt
 Appends-nil (Some x) = sym (append-nil x)
 
@@ -77,7 +72,7 @@ Ran-then ls ks rest lacking a b c x y z p q =
       text = p.text ++ q.text;
       each = each_append p.exchanges q.exchanges p.each q.each;
       split = lines_together ls ks rest p.exchanges q.exchanges p.split q.split;
-      simulates = λ stood. subst (λ es. Simulates a es c) (sym (map-append entry_of_exchange p.exchanges q.exchanges)) (Simulates-after a b c (entries_of p.exchanges) (entries_of q.exchanges) p.simulates q.simulates stood);
+      simulates = λ stood. subst (λ es. Simulates a es c) (sym (flat_map-append entries_of_exchange p.exchanges q.exchanges)) (Simulates-after a b c (entries_of p.exchanges) (entries_of q.exchanges) p.simulates q.simulates stood);
       says = texts_together p.exchanges q.exchanges p.text q.text lacking p.says q.says;
       lacks = LacksLast-before p.exchanges q.exchanges lacking q.lacks;
       wrote = Appends-trans x y z p.text q.text p.wrote q.wrote;
@@ -99,127 +94,49 @@ Cuts-more ls more a b x y p = record { rest = p.rest ++ more; lacking = p.lackin
 
 -- ---- one line
 
--- a line's exchange, and the text that it is to write
-pub record Takes (line : Line) (text : List ℕ) (old new : ClusterView) : Type 0 where
-  pub exchange : Exchange
-  pub is : IsExchange exchange
-  pub asked : exchange.line ≡ line
-  pub simulates : HasWorld old → Simulates old (exchange.entry ∷ []) new
-  pub says : text ≡ exchange_line exchange
+simulates_one : (e : Exchange) (a b : ClusterView) → (HasWorld a → Simulates a (made_entries e.made) b) → HasWorld a → Simulates a (entries_of (e ∷ [])) b
+simulates_one e a b p stood = subst (λ es. Simulates a es b) (sym (append-nil (made_entries e.made))) (p stood)
 
 -- it was written
-Does-takes : (line : Line) (text : List ℕ) (a b : ClusterView) (x y : Option (List ℕ)) → Takes line text a b → Appends x y text → Does (line ∷ []) a b x y
-Does-takes line text a b x y p wrote =
+Does-made : (line : Line) (text : List ℕ) (a b : ClusterView) (x y : Option (List ℕ)) → HasMade (reading_of line) text a b → Appends x y text → Does (line ∷ []) a b x y
+Does-made line text a b x y p wrote =
+    let exchange : Exchange = record { line = line; made = p.made; unsaid = p.unsaid } in
     record {
-      exchanges = p.exchange ∷ [];
+      exchanges = exchange ∷ [];
       text = text;
-      each = (p.is, tt);
-      split = ap (λ l. l ∷ []) (sym p.asked);
-      simulates = p.simulates;
-      says = ap (λ l. l ++ []) (sym p.says);
+      each = (record { makes = p.makes; said = p.said }, tt);
+      split = refl;
+      simulates = simulates_one exchange a b p.simulates;
+      says = ap (λ l. l ++ []) (sym p.is);
       lacks = inl refl;
       wrote = wrote;
     }
 
 -- a front of it was written
-Cuts-takes : (line : Line) (text : List ℕ) (a b : ClusterView) (x y : Option (List ℕ)) → Takes line text a b → WritesFront text x y → Cuts (line ∷ []) a b x y
-Cuts-takes line text a b x y p q =
+Cuts-made : (line : Line) (text : List ℕ) (a b : ClusterView) (x y : Option (List ℕ)) → HasMade (reading_of line) text a b → WritesFront text x y → Cuts (line ∷ []) a b x y
+Cuts-made line text a b x y p q =
+    let exchange : Exchange = record { line = line; made = p.made; unsaid = p.unsaid } in
     record {
       rest = [];
       lacking = q.lacking;
       ran = record {
-        exchanges = p.exchange ∷ [];
+        exchanges = exchange ∷ [];
         text = q.front;
-        each = (p.is, tt);
-        split = ap (λ l. l ∷ []) (sym p.asked);
-        simulates = p.simulates;
-        says = append-nil (exchange_line p.exchange) ∙ sym p.says ∙ q.whole;
-        lacks = inr ([], p.exchange, q.front, refl, sym p.says ∙ q.whole);
+        each = (record { makes = p.makes; said = p.said }, tt);
+        split = refl;
+        simulates = simulates_one exchange a b p.simulates;
+        says = append-nil (exchange_line exchange) ∙ sym p.is ∙ q.whole;
+        lacks = inr ([], exchange, q.front, refl, sym p.is ∙ q.whole);
         wrote = q.wrote;
       };
     }
 
--- ---- a line that is refused
+-- a line was served
+pub Does-serves : {T E : Type 0} (line : Line) (a b : ClusterView) (x y : SinkView) (r : Result T E) → Serves (reading_of line) a b x y r → OnOk r (Does (line ∷ []) a b x.written y.written)
+Does-serves line a b x y r p = on_ok_weaker r (Does-made line p.text a b x.written y.written p.made) p.says.whole
 
--- a line whose reading found no memory
-lost_exchange : (line : Line) (text : List ℕ) (reading : Result Ask Refusal) (c : ClusterView) → reading_of line ≡ reading → text ≡ no_memory_line → Takes line text c c
-lost_exchange line text (Ok ask) c e said =
-    record { exchange = record { line = line; entry = LostRequest ask NoMemory; unsaid = false }; is = record { makes = e; said = tt }; asked = refl; simulates = Simulates-lost c ask; says = said }
-lost_exchange line text (Err refusal) c e said =
-    record { exchange = record { line = line; entry = Refused refusal; unsaid = true }; is = record { makes = e; said = tt }; asked = refl; simulates = Simulates-refused c refusal; says = said }
-
--- the line for want of memory, whether it was meant or stands for another
-said_lost : (text : List ℕ) (refusal : Refusal) → refusal ≡ NoRoom → IsSaid (Refusing refusal) text → text ≡ no_memory_line
-said_lost text refusal is (inl said) = said ∙ ap (λ r. answer_line (Refusing r)) is
-said_lost text refusal is (inr said) = said.0
-
--- what reading a line answers
-abbrev pub IsRefusalOf : Line → Refusal → Type 0
-IsRefusalOf line refusal = (refusal ≡ NoRoom) ⊎ (reading_of line ≡ Err refusal)
-
-Takes-refused : (line : Line) (text : List ℕ) (refusal : Refusal) (c : ClusterView) → IsRefusalOf line refusal → IsSaid (Refusing refusal) text → Takes line text c c
-Takes-refused line text refusal c (inl is) said = lost_exchange line text (reading_of line) c refl (said_lost text refusal is said)
-Takes-refused line text refusal c (inr e) (inl said) =
-    record { exchange = record { line = line; entry = Refused refusal; unsaid = false }; is = record { makes = e; said = tt }; asked = refl; simulates = Simulates-refused c refusal; says = said }
-Takes-refused line text refusal c (inr e) (inr said) =
-    record { exchange = record { line = line; entry = Refused refusal; unsaid = true }; is = record { makes = e; said = tt }; asked = refl; simulates = Simulates-refused c refusal; says = said.0 }
-
-pub Does-refused : (line : Line) (refusal : Refusal) (c : ClusterView) (x y : Option (List ℕ)) → IsRefusalOf line refusal → SaysTo (Refusing refusal) x y → Does (line ∷ []) c c x y
-Does-refused line refusal c x y e p = Does-takes line p.text c c x y (Takes-refused line p.text refusal c e p.said) p.wrote
-
-pub Cuts-refused : (line : Line) (refusal : Refusal) (c : ClusterView) (x y : Option (List ℕ)) → IsRefusalOf line refusal → SaysFront (Refusing refusal) x y → Cuts (line ∷ []) c c x y
-Cuts-refused line refusal c x y e p = Cuts-takes line p.text c c x y (Takes-refused line p.text refusal c e p.said) p.wrote
-
--- ---- a line that asks
-
-answered : (ask : Ask) (answer : Answer) → answer_of (request_entry ask answer) ≡ answer
-answered ask (Refusing StoreFailed) = refl
-answered ask (Refusing NoRoom) = refl
-answered ask answer = refl
-
-makes_entry : (line : Line) (ask : Ask) (answer : Answer) → reading_of line ≡ Ok ask → MakesEntry line (request_entry ask answer)
-makes_entry line ask (Refusing StoreFailed) e = e
-makes_entry line ask (Refusing NoRoom) e = e
-makes_entry line ask answer e = e
-
--- the answer of a loss for want of memory is that fixed line
-abbrev is_unsaid : Answer → Bool
-is_unsaid (Refusing NoRoom) = false
-is_unsaid _ = true
-
-may_be_unsaid : (ask : Ask) (answer : Answer) → answer ≢ Refusing StoreFailed → MayBeUnsaid (request_entry ask answer) (is_unsaid answer)
-may_be_unsaid ask (Refusing StoreFailed) other = absurd (other refl)
-may_be_unsaid ask (Refusing NoRoom) other = tt
-may_be_unsaid ask answer other = tt
-
-unsaid_line : (line : Line) (ask : Ask) (answer : Answer) → no_memory_line ≡ exchange_line (record { line = line; entry = request_entry ask answer; unsaid = is_unsaid answer })
-unsaid_line line ask (Refusing StoreFailed) = refl
-unsaid_line line ask (Refusing NoRoom) = refl
-unsaid_line line ask answer = refl
-
-Takes-request : (line : Line) (text : List ℕ) (ask : Ask) (answer : Answer) (a b : ClusterView) → reading_of line ≡ Ok ask → Simulates a (request_entry ask answer ∷ []) b → IsSaid answer text → Takes line text a b
-Takes-request line text ask answer a b e simulates (inl said) =
-    record {
-      exchange = record { line = line; entry = request_entry ask answer; unsaid = false };
-      is = record { makes = makes_entry line ask answer e; said = tt };
-      asked = refl;
-      simulates = λ stood. simulates;
-      says = said ∙ ap answer_line (sym (answered ask answer));
-    }
-Takes-request line text ask answer a b e simulates (inr said) =
-    record {
-      exchange = record { line = line; entry = request_entry ask answer; unsaid = is_unsaid answer };
-      is = record { makes = makes_entry line ask answer e; said = may_be_unsaid ask answer said.1 };
-      asked = refl;
-      simulates = λ stood. simulates;
-      says = said.0 ∙ unsaid_line line ask answer;
-    }
-
-pub Does-serves : (line : Line) (ask : Ask) (a b : ClusterView) (x y : Option (List ℕ)) → reading_of line ≡ Ok ask → Serves ask a b x y → Does (line ∷ []) a b x y
-Does-serves line ask a b x y e p = Does-takes line p.says.text a b x y (Takes-request line p.says.text ask p.answer a b e p.simulates p.says.said) p.says.wrote
-
-pub Cuts-answer : (line : Line) (ask : Ask) (a b : ClusterView) (x y : Option (List ℕ)) → reading_of line ≡ Ok ask → CutsAnswer ask a b x y → Cuts (line ∷ []) a b x y
-Cuts-answer line ask a b x y e p = Cuts-takes line p.says.text a b x y (Takes-request line p.says.text ask p.answer a b e p.simulates p.says.said) p.says.wrote
+pub Cuts-serves : {T E : Type 0} (line : Line) (a b : ClusterView) (x y : SinkView) (r : Result T E) → Serves (reading_of line) a b x y r → OnErr r (Cuts (line ∷ []) a b x.written y.written)
+Cuts-serves line a b x y r p = on_err_weaker r (Cuts-made line p.text a b x.written y.written p.made) p.says.cut
 
 -- ---- a part between line feeds
 

@@ -4,7 +4,7 @@ use Rattle.std.specs.Prelude.{◌⊎◌, ◌||◌}
 use Rattle.hx_ports.specs.Causes.{Rose}
 use Rattle.hx_model.specs.declared.ask.Ask.{Ask}
 use Rattle.hx_model.specs.declared.refusal.Refusal.{Refusal}
-use Rattle.hx_model.specs.Machine.{Refused, LostRequest, NoMemory, History, replay, loses_to_fault}
+use Rattle.hx_model.specs.Machine.{Refused, LostRequest, LostTake, NoMemory, History, replay, loses_to_fault}
 use Rattle.hx_model.proofs.Histories.{IsHistory-append, replay-append, loses_to_fault-append}
 use Rattle.hx_core.specs.Refinement.{ClusterView, Represents, HasWorld, Simulates}
 
@@ -19,6 +19,10 @@ Simulates-refused c refusal stood = record { stood = stood; steps = λ w stands.
 -- want of memory changes nothing
 pub Simulates-lost : (c : ClusterView) (ask : Ask) → HasWorld c → Simulates c (LostRequest ask NoMemory ∷ []) c
 Simulates-lost c ask stood = record { stood = stood; steps = λ w stands. ((tt, tt), stands); later = omega arith; cause = λ e. absurd (true≢false (sym e)); still = λ e. refl; tells = refl; place = refl }
+
+-- nor does it where a key is taken
+pub Simulates-lost_take : (c : ClusterView) (worker : ℕ) → HasWorld c → Simulates c (LostTake worker ∷ []) c
+Simulates-lost_take c worker stood = record { stood = stood; steps = λ w stands. ((tt, tt), stands); later = omega arith; cause = λ e. absurd (true≢false (sym e)); still = λ e. refl; tells = refl; place = refl }
 
 rose_before : (a b c : ℕ) → a ≤ b → Rose b c → Rose a c
 rose_before a b c le rose = omega arith

@@ -1,20 +1,22 @@
--- What a line asks.
+-- What a line orders.
 --     request_of      what a target and a body ask
---     reading_of      what a line asks, or the refusal that it fixes
+--     reading_of      what a line orders, or the refusal that it fixes
 -- A line is UTF-8. A request is `GET TARGET`, `DELETE TARGET`, `POST TARGET BODY` or `PUT TARGET BODY`, joined by single spaces. The body is the rest of the line, and where it is empty the space before it may be absent.
-use Rattle.std.specs.Prelude.{ℕ, Bool, true, false, ◌==◌, List, [], ◌∷◌, codes, Option, Some, None, Err, if◌then◌else◌}
+use Rattle.std.specs.Prelude.{ℕ, Bool, true, false, ◌==◌, List, [], ◌∷◌, codes, Option, Some, None, Ok, Err, if◌then◌else◌}
 use Rattle.std.specs.declared.result.Result.{Result}
 use Rattle.std.specs.Str.{bytes_eq, is_utf8}
 use Rattle.hx_object.specs.Names.{slash}
 use Rattle.hx_model.specs.declared.ask.Ask.{Ask}
 use Rattle.hx_model.specs.declared.refusal.Refusal.{Refusal}
-use Rattle.hx_model.specs.declared.refusal.Refusal.TheVariants.{BadLine, TooLong, NotServed}
+use Rattle.hx_model.specs.declared.refusal.Refusal.TheVariants.{BadLine, TooLong}
 use Rattle.hx_api.specs.declared.method.Method.{Method}
 use Rattle.hx_api.specs.declared.method.Method.TheVariants.{Get, Post, Put, Delete}
 use Rattle.hx_api.specs.Asks.{ask_of}
 use Rattle.hx_script.specs.Lines.{Line, Short, Long}
 use Rattle.hx_script.specs.Words.{word_of, rest_of}
-use Rattle.hx_script.specs.Workers.{is_worker_line}
+use Rattle.hx_script.specs.Workers.{worker_order}
+use Rattle.hx_script.specs.declared.order.Order.{Order}
+use Rattle.hx_script.specs.declared.order.Order.TheVariants as order
 
 -- the method that a word names
 abbrev pub method_of : List ℕ → Option Method
@@ -54,24 +56,30 @@ abbrev pub request_in : Method → Option (List ℕ) → Result Ask Refusal
 request_in method None = Err BadLine
 request_in method (Some rest) = request_of method (target_of (word_of rest)) (body_of method (rest_of rest))
 
--- the refusal of a line that is no request: the lines for reconcilers aren't served yet
-abbrev pub refusal_of : List ℕ → Refusal
-refusal_of text = if is_worker_line text then NotServed else BadLine
+-- a request is ordered
+abbrev pub asking_for : Result Ask Refusal → Result Order Refusal
+asking_for (Ok ask) = Ok (order.Ask ask)
+asking_for (Err refusal) = Err refusal
 
--- what a text asks, by the method of its first word
-abbrev pub reading_by : Option Method → List ℕ → Result Ask Refusal
-reading_by None text = Err (refusal_of text)
-reading_by (Some method) text = request_in method (rest_of text)
+-- a line that is no request is one for reconcilers, or in no form
+abbrev pub turning : Option Order → Result Order Refusal
+turning (Some order) = Ok order
+turning None = Err BadLine
 
--- what a text asks, or the refusal that it fixes
-unfoldable pub reading_of_text : List ℕ → Result Ask Refusal
+-- what a text orders, by the method of its first word
+abbrev pub reading_by : Option Method → List ℕ → Result Order Refusal
+reading_by None text = turning (worker_order text)
+reading_by (Some method) text = asking_for (request_in method (rest_of text))
+
+-- what a text orders, or the refusal that it fixes
+unfoldable pub reading_of_text : List ℕ → Result Order Refusal
 reading_of_text text = reading_by (method_of (word_of text)) text
 
--- what the bytes of a line ask. Bytes that aren't UTF-8 are in no form, wherever in the line they stand
-unfoldable pub reading_of_bytes : List ℕ → Result Ask Refusal
+-- what the bytes of a line order. Bytes that aren't UTF-8 are in no form, wherever in the line they stand
+unfoldable pub reading_of_bytes : List ℕ → Result Order Refusal
 reading_of_bytes bytes = if is_utf8 bytes then reading_of_text bytes else Err BadLine
 
--- what a line asks, or the refusal that it fixes
-abbrev pub reading_of : Line → Result Ask Refusal
+-- what a line orders, or the refusal that it fixes
+abbrev pub reading_of : Line → Result Order Refusal
 reading_of (Short bytes) = reading_of_bytes bytes
 reading_of Long = Err TooLong

@@ -3,5 +3,7 @@ pub mod Words
 pub mod Workers
 pub mod Forms
 pub mod Replies
+pub mod Turns
 pub mod Exchanges
 pub mod Running
+pub mod Inside

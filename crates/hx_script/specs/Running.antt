@@ -1,29 +1,31 @@
 -- What the run of lines does, piece by piece.
 --     Ran lines rest lacking ..    all lines but the rest were answered, and what was written lacks the end of the last answer
 --     Does, Cuts                   nothing is left, and nothing is lacking;  something may be
---     SaysTo, SaysFront            an answer was written;  a front of it
---     Serves, CutsAnswer           a request was made, and its answer written;  a front of it
+--     SaysText, SaysAnswer         a text was written, or a front of it;  an answer
+--     Said                         a text was written by calls that counted nothing
+--     HasMade                      a reading makes something whose lines are a text
+--     Serves                       it was made, and its lines were written, or a front of them
 --     IsWaiting                    what is kept of a line that hasn't ended
 --     Feeds, CutsPiece             a piece of the script was taken;  it was being taken
 --     OfScript told P              there is a script with P: the one that the source tells, where it tells
 --     ReadsOn                      what was read of the script was answered, but for what waits
 --     IsCalm, WriteCause           no write failed or stalled;  when a write may fail
-use Rattle.std.specs.Prelude.{◌≡◌, ◌≢◌, ◌≤◌, ◌<◌, ◌+◌, ◌^◌, ℕ, false, List, [], ◌∷◌, ◌++◌, ◌⊎◌, ◌==◌, IfSome, length, take, slice_index, OnOk, OnErr}
+use Rattle.std.specs.Prelude.{◌≡◌, ◌≢◌, ◌≤◌, ◌<◌, ◌+◌, ◌^◌, ℕ, Bool, false, if◌then◌else◌, List, [], ◌∷◌, ◌++◌, ◌⊎◌, ◌==◌, IfSome, length, take, slice_index, OnOk, OnErr}
 use Rattle.std.specs.declared.option.Option.{Option}
 use Rattle.std.specs.declared.result.Result.{Result}
 use Rattle.std.specs.List.{AllByRecursion}
 use Rattle.std.specs.Io.KnownBytes.{Appends, Consumes}
 use Rattle.hx_ports.specs.Causes.{Rose}
 use Rattle.hx_ports.specs.Views.{SinkView}
-use Rattle.hx_model.specs.declared.ask.Ask.{Ask}
 use Rattle.hx_model.specs.declared.ask.Answer.{Answer}
 use Rattle.hx_model.specs.declared.ask.Answer.TheVariants.{Refused}
+use Rattle.hx_model.specs.declared.refusal.Refusal.{Refusal}
 use Rattle.hx_model.specs.declared.refusal.Refusal.TheVariants.{StoreFailed}
-use Rattle.hx_model.specs.Requests.{request_entry}
 use Rattle.hx_core.specs.Refinement.{ClusterView, HasWorld, Simulates}
 use Rattle.hx_script.specs.Lines.{Line, most_line_bytes, script_lines}
 use Rattle.hx_script.specs.Replies.{answer_line}
-use Rattle.hx_script.specs.Exchanges.{Exchange, IsExchange, lines_of, entries_of, answer_lines, exchange_line, no_memory_line}
+use Rattle.hx_script.specs.Exchanges.{Made, made_entries, made_lines, Makes, MayBeUnsaid, Exchange, IsExchange, lines_of, entries_of, answer_lines, exchange_line, no_memory_line}
+use Rattle.hx_script.specs.declared.order.Order.{Order}
 
 -- what is lacking of the exchanges' lines is an end of the last one
 abbrev pub LacksLast : List Exchange → List ℕ → Type 0
@@ -61,29 +63,53 @@ pub record WritesFront (bytes : List ℕ) (before after : Option (List ℕ)) : T
 abbrev pub IsSaid : Answer → List ℕ → Type 0
 IsSaid answer text = (text ≡ answer_line answer) ⊎ ((text ≡ no_memory_line) × (answer ≢ Refused StoreFailed))
 
--- an answer was written
-pub record SaysTo (answer : Answer) (before after : Option (List ℕ)) : Type 0 where
+-- no write failed or stalled
+pub record IsCalm (old new : SinkView) : Type 0 where
+  pub faults : new.faults ≡ old.faults
+  pub stalls : new.stalls ≡ old.stalls
+
+-- the sink's counts never fall; one of them rose where the call failed, and both stayed where it didn't
+pub record WriteCause {T E : Type 0} (old new : SinkView) (result : Result T E) : Type 0 where
+  pub later : old.faults ≤ new.faults
+  pub longer : old.stalls ≤ new.stalls
+  pub failed : OnErr result (Rose old.faults new.faults ⊎ Rose old.stalls new.stalls)
+  pub still : OnOk result (IsCalm old new)
+
+-- a text was written, or a front of it
+pub record SaysText {T E : Type 0} (text : List ℕ) (old new : SinkView) (result : Result T E) : Type 0 where
+  pub whole : OnOk result (Appends old.written new.written text)
+  pub cut : OnErr result (WritesFront text old.written new.written)
+  pub cause : WriteCause old new result
+
+-- an answer was written, or a front of it
+pub record SaysAnswer {T E : Type 0} (answer : Answer) (old new : SinkView) (result : Result T E) : Type 0 where
   pub text : List ℕ
   pub said : IsSaid answer text
-  pub wrote : Appends before after text
+  pub says : SaysText text old new result
 
--- a front of an answer was written
-pub record SaysFront (answer : Answer) (before after : Option (List ℕ)) : Type 0 where
+-- a line was written by calls that counted nothing
+pub record Said (text : List ℕ) (old new : SinkView) : Type 0 where
+  pub calm : IsCalm old new
+  pub wrote : Appends old.written new.written text
+
+-- what is written of what was made: its lines, or the fixed one in their place
+abbrev pub said_lines : Made → Bool → List ℕ
+said_lines made unsaid = if unsaid then no_memory_line else made_lines made
+
+-- a reading makes something whose lines are the text
+pub record HasMade (reading : Result Order Refusal) (text : List ℕ) (old new : ClusterView) : Type 0 where
+  pub made : Made
+  pub unsaid : Bool
+  pub makes : Makes reading made
+  pub said : MayBeUnsaid made unsaid
+  pub simulates : HasWorld old → Simulates old (made_entries made) new
+  pub is : text ≡ said_lines made unsaid
+
+-- what a line orders, or refuses, was made, and its lines were written, or a front of them
+pub record Serves {T E : Type 0} (reading : Result Order Refusal) (old new : ClusterView) (before after : SinkView) (result : Result T E) : Type 0 where
   pub text : List ℕ
-  pub said : IsSaid answer text
-  pub wrote : WritesFront text before after
-
--- a request was made, and its answer written
-pub record Serves (ask : Ask) (old new : ClusterView) (before after : Option (List ℕ)) : Type 0 where
-  pub answer : Answer
-  pub simulates : Simulates old (request_entry ask answer ∷ []) new
-  pub says : SaysTo answer before after
-
--- a request was made, and a front of its answer written
-pub record CutsAnswer (ask : Ask) (old new : ClusterView) (before after : Option (List ℕ)) : Type 0 where
-  pub answer : Answer
-  pub simulates : Simulates old (request_entry ask answer ∷ []) new
-  pub says : SaysFront answer before after
+  pub made : HasMade reading text old new
+  pub says : SaysText text before after result
 
 -- no line ends in it
 abbrev pub HasNoEnd : List ℕ → Type 0
@@ -132,15 +158,3 @@ pub record ReadsOn (told left : Option (List ℕ)) (total : ℕ) (waiting : List
   pub read : Consumes told left bytes
   pub many : length bytes ≡ total
   pub feeds : Feeds [] bytes waiting old new before after
-
--- no write failed or stalled
-pub record IsCalm (old new : SinkView) : Type 0 where
-  pub faults : new.faults ≡ old.faults
-  pub stalls : new.stalls ≡ old.stalls
-
--- the sink's counts never fall; one of them rose where the call failed, and both stayed where it didn't
-pub record WriteCause {T E : Type 0} (old new : SinkView) (result : Result T E) : Type 0 where
-  pub later : old.faults ≤ new.faults
-  pub longer : old.stalls ≤ new.stalls
-  pub failed : OnErr result (Rose old.faults new.faults ⊎ Rose old.stalls new.stalls)
-  pub still : OnOk result (IsCalm old new)

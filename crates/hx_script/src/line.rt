@@ -1,51 +1,92 @@
-// What a line asks.
-ghost use Rattle.std.specs.Prelude.{◌≡◌, ◌⊎◌, IfOk, IfErr, Ok, Err, option_copied};
+// What a line orders.
+ghost use Rattle.std.specs.Prelude.{◌≡◌, ◌⊎◌, IfOk, IfErr, Ok, Err, Result, option_copied};
 ghost use Rattle.hx_model.specs.Serving.{IsServedAsk};
 ghost use Rattle.hx_script.specs.Lines.{line_of_text};
 ghost use Rattle.hx_script.specs.Words.{rest_of};
-ghost use Rattle.hx_script.specs.Forms.{method_of, takes_body, body_of, target_of, request_in, refusal_of, reading_of_bytes, reading_of_text, reading_of};
+ghost use Rattle.hx_script.specs.Workers.{worker_order};
+ghost use Rattle.hx_script.specs.Forms.{method_of, takes_body, body_of, target_of, request_in, asking_for, turning, reading_of_bytes, reading_of_text, reading_of};
+ghost use Rattle.hx_script.specs.Inside.{IsServedOrder, IsUnread};
 
+use crate::order::Order;
 use crate::words::{rest_of, word_of};
-use crate::worker::is_worker_line;
+use crate::worker::worker_order;
 use hx_api::{Method, RequestReader};
 use hx_model::{Ask, Refusal};
+use std::alloc::Global;
 
 /// The most bytes of a line.
 const MOST_LINE_BYTES: usize = 131_072;
 
-/// What a line asks, or the refusal that it fixes. It is refused for want of memory too.
-pub fn read_line(reader: &mut RequestReader, line: &[u8]) -> Result<Ask, Refusal>
-    ensures asks { IfOk result (λ ask. reading_of (line_of_text line.now) ≡ Ok ask) }
-    ensures refused { IfErr result (λ refusal. (refusal ≡ Refusal.NoMemory) ⊎ (reading_of (line_of_text line.now) ≡ Err refusal)) }
-    ensures served { IfOk result IsServedAsk }
-{
-    if line.len() > MOST_LINE_BYTES {
-        return Err(Refusal::TooLong);
-    }
-    read_bytes(reader, line)
+/// Why a line orders nothing.
+#[derive(Drop)]
+pub enum Unread {
+    /// It is refused, for want of memory too.
+    Refused(Refusal),
+    /// A worker takes a key that it names, and no memory was left for the key.
+    LostTake { worker: u32 },
 }
 
-/// What the bytes of a line ask. Bytes that aren't UTF-8 ask nothing.
-fn read_bytes(reader: &mut RequestReader, line: &[u8]) -> Result<Ask, Refusal>
-    ensures asks { IfOk result (λ ask. reading_of_bytes line.now ≡ Ok ask) }
-    ensures refused { IfErr result (λ refusal. (refusal ≡ Refusal.NoMemory) ⊎ (reading_of_bytes line.now ≡ Err refusal)) }
-    ensures served { IfOk result IsServedAsk }
+/// What a line orders, or why it orders nothing.
+pub fn read_line(reader: &mut RequestReader, alloc: Global, line: &[u8]) -> Result<Order, Unread>
+    ensures orders { IfOk result (λ order. reading_of (line_of_text line.now) ≡ Ok order) }
+    ensures served { IfOk result IsServedOrder }
+    ensures unread { IfErr result (λ unread. IsUnread (reading_of (line_of_text line.now)) unread) }
+{
+    if line.len() > MOST_LINE_BYTES {
+        return Err(Unread::Refused(Refusal::TooLong));
+    }
+    read_bytes(reader, alloc, line)
+}
+
+/// What the bytes of a line order. Bytes that aren't UTF-8 order nothing.
+fn read_bytes(reader: &mut RequestReader, alloc: Global, line: &[u8]) -> Result<Order, Unread>
+    ensures orders { IfOk result (λ order. reading_of_bytes line.now ≡ Ok order) }
+    ensures served { IfOk result IsServedOrder }
+    ensures unread { IfErr result (λ unread. IsUnread (reading_of_bytes line.now) unread) }
 {
     match str::from_utf8(line) {
-        Ok(text) => read_text(reader, text),
-        Err(_) => Err(Refusal::BadLine),
+        Ok(text) => read_text(reader, alloc, text),
+        Err(_) => Err(Unread::Refused(Refusal::BadLine)),
     }
 }
 
 #[tactic(auto, unfolding(crate::specs::Forms::reading_of_text))]
-fn read_text(reader: &mut RequestReader, text: &str) -> Result<Ask, Refusal>
-    ensures asks { IfOk result (λ ask. reading_of_text text.now ≡ Ok ask) }
-    ensures refused { IfErr result (λ refusal. (refusal ≡ Refusal.NoMemory) ⊎ (reading_of_text text.now ≡ Err refusal)) }
-    ensures served { IfOk result IsServedAsk }
+fn read_text(reader: &mut RequestReader, alloc: Global, text: &str) -> Result<Order, Unread>
+    ensures orders { IfOk result (λ order. reading_of_text text.now ≡ Ok order) }
+    ensures served { IfOk result IsServedOrder }
+    ensures unread { IfErr result (λ unread. IsUnread (reading_of_text text.now) unread) }
 {
     match method_of(word_of(text)) {
-        None => Err(refusal_of(text)),
-        Some(method) => read_request(reader, method, text),
+        None => read_turn(alloc, text),
+        Some(method) => asked(read_request(reader, method, text)),
+    }
+}
+
+/// What a line orders that has no method.
+fn read_turn(alloc: Global, text: &str) -> Result<Order, Unread>
+    ensures orders { IfOk result (λ order. turning (worker_order text.now) ≡ Ok order) }
+    ensures served { IfOk result IsServedOrder }
+    ensures unread { IfErr result (λ unread. IsUnread (turning (worker_order text.now)) unread) }
+{
+    match worker_order(alloc, text) {
+        Ok(Some(order)) => Ok(order),
+        Ok(None) => Err(Unread::Refused(Refusal::BadLine)),
+        Err(lost) => Err(Unread::LostTake {
+            worker: lost.worker,
+        }),
+    }
+}
+
+/// A request as an order.
+fn asked(ask: Result<Ask, Refusal>) -> Result<Order, Unread>
+    requires served { IfOk ask IsServedAsk }
+    ensures orders { IfOk result (λ order. (reading : Result Ask Refusal) → IfOk ask (λ ask. reading ≡ Ok ask) → asking_for reading ≡ Ok order) }
+    ensures served { IfOk result IsServedOrder }
+    ensures unread { IfErr result (λ unread. (reading : Result Ask Refusal) → IfErr ask (λ refusal. (refusal ≡ Refusal.NoMemory) ⊎ (reading ≡ Err refusal)) → IsUnread (asking_for reading) unread) }
+{
+    match ask {
+        Ok(ask) => Ok(Order::Ask(ask)),
+        Err(refusal) => Err(Unread::Refused(refusal)),
     }
 }
 
@@ -103,15 +144,4 @@ fn takes_body(method: Method) -> bool
     ensures { result ≡ takes_body method }
 {
     matches!(method, Method::Post | Method::Put)
-}
-
-/// The refusal of a line that is no request.
-fn refusal_of(text: &str) -> Refusal
-    ensures { result ≡ refusal_of text.now }
-{
-    if is_worker_line(text) {
-        Refusal::NotServed
-    } else {
-        Refusal::BadLine
-    }
 }

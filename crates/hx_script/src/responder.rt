@@ -1,13 +1,18 @@
 // Lines that are answered one by one.
-ghost use Rattle.std.specs.Prelude.{◌≡◌, ◌≢◌, [], ◌∷◌, OnOk, OnErr};
-ghost use Rattle.std.specs.Io.KnownBytes.{Appends};
+ghost use Rattle.std.specs.Prelude.{◌≡◌, ◌≢◌, [], ◌∷◌, Ok, OnOk, OnErr, Result};
 ghost use Rattle.std.specs.Str.Lines.{strip_carriage_return};
 ghost use Rattle.hx_model.specs.Serving.{IsServedAsk, IsLegalAnswer};
+ghost use Rattle.hx_core.specs.Refinement.{ClusterView};
 ghost use Rattle.hx_script.specs.Lines.{line_of_text, asking, is_asking};
-ghost use Rattle.hx_script.specs.Running.{Does, Cuts, WritesFront, WriteCause, IsSaid, SaysTo, SaysFront, Serves, CutsAnswer};
+ghost use Rattle.hx_script.specs.Inside.{IsIdle, IsServedOrder, IsUnread};
+ghost use Rattle.hx_script.specs.Running.{Does, Cuts, WriteCause, IsSaid, SaysAnswer, Serves};
 
 use crate::answer_line::{fixed_line, no_memory, push_line};
-use crate::line::read_line;
+use crate::line::{Unread, read_line};
+use crate::order::Order;
+use crate::serving::{check, drop_hand, finish, settle, take, take_key};
+use crate::turns::say_lost_take;
+use crate::writing::{Unwritten, empty, write_all};
 use hx_api::RequestReader;
 use hx_core::Cluster;
 use hx_model::{Answer, Ask, Refusal};
@@ -15,16 +20,10 @@ use hx_object::NoMemory;
 use hx_ports::{Keeper, Sink};
 use std::alloc::Global;
 
-/// A write failed, or took nothing of a piece that wasn't empty.
-#[derive(Clone, Copy, Debug, PartialEq, Eq)]
-pub struct Unwritten;
-
-/// The most bytes of room that are kept for the line of an answer.
-const MOST_ROOM: usize = 65_536;
-
 /// Answers lines. What reading and writing them takes is kept from one line to the next.
 #[derive(Drop)]
 pub struct Responder {
+    alloc: Global,
     reader: RequestReader,
     /// The line of an answer while it is written. It is empty between two lines.
     line: String,
@@ -33,6 +32,7 @@ pub struct Responder {
 impl Responder {
     pub fn new(alloc: Global) -> Responder {
         Responder {
+            alloc,
             reader: RequestReader::new(alloc),
             line: String::new(alloc),
         }
@@ -45,9 +45,11 @@ impl Responder {
         sink: &mut W,
         part: &[u8],
     ) -> Result<(), Unwritten>
+        requires { IsIdle cluster.old }
         ensures does { OnOk result (Does (asking part.now) cluster.old cluster.new (W.shown sink.old).written (W.shown sink.new).written) }
         ensures cut { OnErr result (Cuts (asking part.now) cluster.old cluster.new (W.shown sink.old).written (W.shown sink.new).written) }
         ensures cause { WriteCause (W.shown sink.old) (W.shown sink.new) result }
+        ensures idle { IsIdle cluster.new }
     {
         let text = without_return(part);
         if !is_asking(text) {
@@ -63,32 +65,70 @@ impl Responder {
         sink: &mut W,
         text: &[u8],
     ) -> Result<(), Unwritten>
+        requires { IsIdle cluster.old }
         ensures does { OnOk result (Does (line_of_text text.now ∷ []) cluster.old cluster.new (W.shown sink.old).written (W.shown sink.new).written) }
         ensures cut { OnErr result (Cuts (line_of_text text.now ∷ []) cluster.old cluster.new (W.shown sink.old).written (W.shown sink.new).written) }
         ensures cause { WriteCause (W.shown sink.old) (W.shown sink.new) result }
+        ensures idle { IsIdle cluster.new }
     {
-        match read_line(&mut self.reader, text) {
-            Err(refusal) => {
+        match read_line(&mut self.reader, self.alloc, text) {
+            Err(unread) => self.refuse(sink, unread),
+            Ok(order) => self.serve(cluster, sink, order),
+        }
+    }
+
+    /// Answers a line that orders nothing.
+    fn refuse<W: Sink>(&mut self, sink: &mut W, unread: Unread) -> Result<(), Unwritten>
+        ensures { (reading : Result Order Refusal) (cluster : ClusterView) → IsUnread reading unread → Serves reading cluster cluster (W.shown sink.old) (W.shown sink.new) result }
+    {
+        match unread {
+            Unread::Refused(refusal) => {
                 let answer = Answer::Refused(refusal);
                 let said = self.say(sink, &answer);
                 drop(answer);
                 said
             }
-            Ok(ask) => self.serve(cluster, sink, ask),
+            Unread::LostTake { worker } => say_lost_take(&mut self.line, sink, worker),
+        }
+    }
+
+    /// Serves what a line orders.
+    fn serve<W: Sink, K: Keeper>(
+        &mut self,
+        cluster: &mut Cluster<K>,
+        sink: &mut W,
+        order: Order,
+    ) -> Result<(), Unwritten>
+        requires served { IsServedOrder order }
+        requires idle { IsIdle cluster.old }
+        ensures serves { Serves (Ok order) cluster.old cluster.new (W.shown sink.old) (W.shown sink.new) result }
+        ensures idle { IsIdle cluster.new }
+    {
+        match order {
+            Order::Ask(ask) => self.request(cluster, sink, ask),
+            Order::Take { worker, key: None } => take(&mut self.line, cluster, sink, worker),
+            Order::Take {
+                worker,
+                key: Some(key),
+            } => take_key(&mut self.line, cluster, sink, worker, key),
+            Order::Finish { worker } => finish(&mut self.line, cluster, sink, worker),
+            Order::Drop { worker } => drop_hand(&mut self.line, cluster, sink, worker),
+            Order::Settle { turns } => settle(self.alloc, &mut self.line, cluster, sink, turns),
+            Order::Check => check(&mut self.line, cluster, sink),
         }
     }
 
     /// Makes one request, and writes the line of its answer.
-    fn serve<W: Sink, K: Keeper>(
+    fn request<W: Sink, K: Keeper>(
         &mut self,
         cluster: &mut Cluster<K>,
         sink: &mut W,
         ask: Ask,
     ) -> Result<(), Unwritten>
-        requires { IsServedAsk ask }
-        ensures serves { OnOk result (Serves ask cluster.old cluster.new (W.shown sink.old).written (W.shown sink.new).written) }
-        ensures cut { OnErr result (CutsAnswer ask cluster.old cluster.new (W.shown sink.old).written (W.shown sink.new).written) }
-        ensures cause { WriteCause (W.shown sink.old) (W.shown sink.new) result }
+        requires served { IsServedAsk ask }
+        requires idle { IsIdle cluster.old }
+        ensures serves { Serves (Ok (Order.Ask ask)) cluster.old cluster.new (W.shown sink.old) (W.shown sink.new) result }
+        ensures idle { IsIdle cluster.new }
     {
         let answer = cluster.request(ask);
         let said = self.say(sink, &answer);
@@ -99,9 +139,7 @@ impl Responder {
     /// Writes the line of an answer or, where it finds no memory, the one for want of memory.
     fn say<W: Sink>(&mut self, sink: &mut W, answer: &Answer) -> Result<(), Unwritten>
         requires { IsLegalAnswer answer.now }
-        ensures says { OnOk result (SaysTo answer.now (W.shown sink.old).written (W.shown sink.new).written) }
-        ensures cut { OnErr result (SaysFront answer.now (W.shown sink.old).written (W.shown sink.new).written) }
-        ensures cause { WriteCause (W.shown sink.old) (W.shown sink.new) result }
+        ensures { SaysAnswer answer.now (W.shown sink.old) (W.shown sink.new) result }
     {
         if let Answer::Refused(refusal) = answer {
             if let Some(line) = fixed_line(refusal) {
@@ -126,31 +164,6 @@ fn made_line<'a>(buffer: &'a mut String, answer: &Answer) -> &'a str
         Ok(()) => buffer.as_str(),
         Err(NoMemory) => no_memory(),
     }
-}
-
-/// Empties a buffer, and gives its room back where a long line made it large.
-fn empty(buffer: &mut String) {
-    buffer.clear();
-    if buffer.capacity() > MOST_ROOM {
-        buffer.shrink_to_fit();
-    }
-}
-
-/// Writes all bytes.
-fn write_all<W: Sink>(sink: &mut W, bytes: &[u8]) -> Result<(), Unwritten>
-    ensures whole { OnOk result (Appends (W.shown sink.old).written (W.shown sink.new).written bytes.now) }
-    ensures cut { OnErr result (WritesFront bytes.now (W.shown sink.old).written (W.shown sink.new).written) }
-    ensures cause { WriteCause (W.shown sink.old) (W.shown sink.new) result }
-{
-    let mut at = 0;
-    while at < bytes.len() {
-        match sink.write(&bytes[at..]) {
-            Ok(0) => return Err(Unwritten),
-            Ok(count) => at += count,
-            Err(_) => return Err(Unwritten),
-        }
-    }
-    Ok(())
 }
 
 /// The line without the carriage return at its end.

@@ -3,10 +3,12 @@ ghost use Rattle.std.specs.Prelude.{◌≡◌, ◌≢◌, ◌≤◌, ◌<◌, �
 ghost use Rattle.std.specs.Io.{ReadsAtMost};
 ghost use Rattle.std.specs.Io.KnownBytes.{IsAtEnd, ReadConsumes};
 ghost use Rattle.hx_ports.specs.Causes.{HasCause, Rose};
+ghost use Rattle.hx_script.specs.Inside.{IsIdle};
 ghost use Rattle.hx_script.specs.Lines.{asking, script_lines};
 ghost use Rattle.hx_script.specs.Running.{Does, Cuts, OfScript, HasNoEnd, IsWaiting, EndsAt, most_kept, most_bytes, Feeds, CutsPiece, IsCalm};
 
-use crate::responder::{Responder, Unwritten};
+use crate::responder::Responder;
+use crate::writing::Unwritten;
 use hx_core::Cluster;
 use hx_object::NoMemory;
 use hx_ports::{Keeper, ReadFault, Sink, Source};
@@ -95,7 +97,9 @@ fn end_line<W: Sink, K: Keeper>(
     waiting: &mut Vec<u8>,
     stretch: &[u8],
 ) -> Result<(), Stop>
-    requires { length waiting.old.items ≤ most_kept }
+    requires few { length waiting.old.items ≤ most_kept }
+    requires idle { IsIdle cluster.old }
+    ensures idle { IsIdle cluster.new }
     ensures cleared { OnOk result (waiting.new.items ≡ []) }
     ensures does { OnOk result (Does (asking (waiting.old.items ++ stretch.now)) cluster.old cluster.new (W.shown sink.old).written (W.shown sink.new).written) }
     ensures cut { OnErr result (Cuts (asking (waiting.old.items ++ stretch.now)) cluster.old cluster.new (W.shown sink.old).written (W.shown sink.new).written) }
@@ -121,7 +125,9 @@ fn feed<W: Sink, K: Keeper>(
     waiting: &mut Vec<u8>,
     piece: &[u8],
 ) -> Result<(), Stop>
-    requires { IsWaiting waiting.old.items }
+    requires waits { IsWaiting waiting.old.items }
+    requires idle { IsIdle cluster.old }
+    ensures idle { IsIdle cluster.new }
     ensures waits { OnOk result (IsWaiting waiting.new.items) }
     ensures feeds { OnOk result (Feeds waiting.old.items piece.now waiting.new.items cluster.old cluster.new (W.shown sink.old).written (W.shown sink.new).written) }
     ensures cut { OnErr result (CutsPiece waiting.old.items piece.now cluster.old cluster.new (W.shown sink.old).written (W.shown sink.new).written) }
@@ -168,6 +174,7 @@ pub fn run_script<S: Source, W: Sink, K: Keeper>(
     sink: &mut W,
     cluster: &mut Cluster<K>,
 ) -> RunEnd
+    requires { cluster.old.workers.hands ≡ [] }
     ensures done { result ≡ RunEnd.Done → OfScript (S.shown source.old).left (λ script. (length script ≤ most_bytes) × Does (script_lines script) cluster.old cluster.new (W.shown sink.old).written (W.shown sink.new).written) }
     ensures cut { result ≢ RunEnd.Done → OfScript (S.shown source.old).left (λ script. Cuts (script_lines script) cluster.old cluster.new (W.shown sink.old).written (W.shown sink.new).written) }
     ensures too_long { result ≡ RunEnd.TooLong → OfScript (S.shown source.old).left (λ script. (most_bytes < length script) × Cuts (script_lines script) cluster.old cluster.new (W.shown sink.old).written (W.shown sink.new).written) }

@@ -1,8 +1,9 @@
 // Words that are joined by single spaces.
-ghost use Rattle.std.specs.Prelude.{◌≡◌, ◌≤◌, ◌<◌, ◌&&◌, true, length, nat_le, option_copied};
+ghost use Rattle.std.specs.Prelude.{◌≡◌, ◌≤◌, ◌<◌, ◌&&◌, true, length, nat_le, IfSome, option_copied};
 ghost use Rattle.std.specs.List.{list_all};
 ghost use Rattle.std.specs.Str.Parse.{digits_value};
 ghost use Rattle.hx_object.specs.Names.{is_digit};
+ghost use Rattle.hx_model.specs.First.{so};
 ghost use Rattle.hx_script.specs.Words.{word_of, rest_of, is_short_decimal, has_no_leading_zero, is_number};
 
 /// The first word.
@@ -27,17 +28,22 @@ pub fn rest_of(text: &str) -> Option<&str>
     }
 }
 
-/// Whether the text is a number in decimal, without a leading zero, that lies within the bounds. It has at most ten digits.
+/// The number that a text is in decimal, without a leading zero, where it lies within the bounds. It has at most ten digits.
 #[tactic(auto, unfolding(crate::specs::Words::is_number))]
-pub fn is_number(least: u64, most: u64, text: &str) -> bool
-    ensures { result ≡ is_number least most text.now }
+pub fn number_in(least: u64, most: u64, text: &str) -> Option<u64>
+    ensures number { result ≡ so (is_number least most text.now) (digits_value 10 text.now) }
+    ensures bounds { IfSome result (λ value. (least ≤ value) × (value ≤ most)) }
 {
     let digits = text.as_bytes();
     if !is_short_decimal(digits) {
-        return false;
+        return None;
     }
     let value = value_of(digits);
-    least <= value && value <= most
+    if least <= value && value <= most {
+        Some(value)
+    } else {
+        None
+    }
 }
 
 /// Whether the bytes are 1 to 10 digits without a leading zero.

@@ -7,7 +7,7 @@ use Rattle.hx_script.proofs.Pieces.{add_back, Feeds-none, Feeds-line, Feeds-rest
 use Rattle.hx_script.proofs.script.feed.Goals as goal
 
 pub loop-end-init : goal.loop-end-init
-loop-end-init g c = record { within = omega arith; waits = c.requires; calm = record { faults = refl; stalls = refl }; feeds = Feeds-none _ _ _ }
+loop-end-init g c = record { within = omega arith; waits = c.requires.waits; idle = c.requires.idle; calm = record { faults = refl; stalls = refl }; feeds = Feeds-none _ _ _ }
 
 pub loop-end-preserved : goal.loop-end-preserved
 loop-end-preserved g c =
@@ -16,6 +16,7 @@ loop-end-preserved g c =
     rw c.in_ok-end_line.ensures.cleared (record {
       within = omega (arith, ends.within, length-drop c.loop-end.at c.args.piece.now);
       waits = record { no_end = tt; few = omega arith };
+      idle = c.in_ok-end_line.ensures.idle;
       calm = calm_on _ _ _ c.loop-end.invariant.calm c.in_ok-end_line.ensures.still;
       feeds = Feeds-line _ _ _ _ _ _ _ _ _ _ _ c.loop-end.invariant.feeds c.loop-end.invariant.waits ends answered;
     })

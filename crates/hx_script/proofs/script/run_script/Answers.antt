@@ -1,4 +1,5 @@
-use Rattle.std.proofs.Common.{◌<◌, ◌+◌, ◌∙◌, refl, arith}
+use Rattle.std.proofs.Common.{◌<◌, ◌+◌, ◌∙◌, refl, ap, arith}
+use Rattle.hx_model.specs.Hands.{hand_of}
 use Rattle.hx_script.specs.Running.{most_bytes}
 use Rattle.hx_script.proofs.Running.{calm_on}
 use Rattle.hx_script.proofs.Pieces.{Cuts-unread, ReadsOn-start, ReadsOn-feed, ReadsOn-end, ReadsOn-cut, ReadsOn-cut_last, ReadsOn-fault, ReadsOn-long}
@@ -7,6 +8,7 @@ use Rattle.hx_script.proofs.script.run_script.Goals as goal
 pub reading-init : goal.reading-init
 reading-init g c = rw c.new-waiting.ensures.items (record {
   waits = record { no_end = tt; few = omega arith };
+  idle = ap (hand_of 0) c.requires;
   room = omega (arith, c.in-Ok.ensures);
   few = omega arith;
   reads = ReadsOn-start (g.S.Source.shown c.args.source.now).left _ _;
@@ -21,6 +23,7 @@ reading-preserved g c =
     let read = c.in-Ok-read_piece.ensures.bytes.0 in
     record {
       waits = fed.waits;
+      idle = fed.idle;
       room = omega (arith, c.reading.invariant.room, c.in-Ok-read_piece.ensures.same);
       few = omega arith;
       reads = ReadsOn-feed (g.S.Source.shown c.args.source.now).left (g.S.Source.shown c.reading.source).left (g.S.Source.shown c.read_piece.new.source).left c.read_piece.new.piece.items c.reading.waiting.items c.feed.new.waiting.items c.reading.total c.in-Ok-read_piece.count _ _ _ _ _ _ c.reading.invariant.reads c.in-Ok-read_piece.ensures.bound.0 read feeds;

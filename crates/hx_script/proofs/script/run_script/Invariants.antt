@@ -1,10 +1,12 @@
 use Rattle.std.proofs.Common.{◌≡◌, ◌≤◌, ◌<◌, ◌-◌, ◌^◌, length}
+use Rattle.hx_script.specs.Inside.{IsIdle}
 use Rattle.hx_script.specs.Running.{IsCalm, IsWaiting, ReadsOn}
 use Rattle.hx_script.proofs.script.run_script.Given as goal
 
 abbrev pub invariant-reading : goal.invariant-reading
 invariant-reading g l = record {
   waits : IsWaiting l.waiting.items;
+  idle : IsIdle l.cluster;
   room : 0 < length l.piece.items;
   few : l.total ≤ 2 ^ 40;
   reads : ReadsOn (g.S.Source.shown l.fn.source).left (g.S.Source.shown l.source).left l.total l.waiting.items l.fn.cluster l.cluster (g.W.Sink.shown l.fn.sink).written (g.W.Sink.shown l.sink).written;

@@ -1,20 +1,24 @@
-use Rattle.std.proofs.lemmas.Result.{on_ok_weaker, on_err_weaker}
+use Rattle.std.proofs.Common.{subst, sym}
+use Rattle.hx_script.specs.Forms.{reading_of}
 use Rattle.hx_script.specs.Lines.{line_of_text}
-use Rattle.hx_script.proofs.Running.{Does-refused, Cuts-refused, Does-serves, Cuts-answer}
+use Rattle.hx_script.specs.Running.{Serves}
+use Rattle.hx_script.proofs.Running.{Does-serves, Cuts-serves}
 use Rattle.hx_script.proofs.responder.Responder.answer_one.Goals as goal
 
 pub returns-in-Err-clause-does : goal.returns-in-Err-clause-does
-returns-in-Err-clause-does g c =
-    on_ok_weaker c.say-said.result (Does-refused (line_of_text c.args.text.now) c.in-Err.refusal _ _ _ c.in-Err.ensures.refused) c.say-said.ensures.says
+returns-in-Err-clause-does g c = Does-serves (line_of_text c.args.text.now) _ _ _ _ c.refuse.result (c.refuse.ensures (reading_of (line_of_text c.args.text.now)) c.args.cluster.now c.in-Err.ensures.unread)
 
 pub returns-in-Err-clause-cut : goal.returns-in-Err-clause-cut
-returns-in-Err-clause-cut g c =
-    on_err_weaker c.say-said.result (Cuts-refused (line_of_text c.args.text.now) c.in-Err.refusal _ _ _ c.in-Err.ensures.refused) c.say-said.ensures.cut
+returns-in-Err-clause-cut g c = Cuts-serves (line_of_text c.args.text.now) _ _ _ _ c.refuse.result (c.refuse.ensures (reading_of (line_of_text c.args.text.now)) c.args.cluster.now c.in-Err.ensures.unread)
 
 pub returns-in-Ok-clause-does : goal.returns-in-Ok-clause-does
-returns-in-Ok-clause-does g c =
-    on_ok_weaker c.serve.result (Does-serves (line_of_text c.args.text.now) c.in-Ok.ask _ _ _ _ c.in-Ok.ensures.asks) c.serve.ensures.serves
+returns-in-Ok-clause-does g c = Does-serves (line_of_text c.args.text.now) _ _ _ _ c.serve.result (subst (λ r. Serves r c.args.cluster.now c.serve.new.cluster (g.W.Sink.shown c.args.sink.now) (g.W.Sink.shown c.serve.new.sink) c.serve.result) (sym c.in-Ok.ensures.orders) c.serve.ensures.serves)
 
 pub returns-in-Ok-clause-cut : goal.returns-in-Ok-clause-cut
-returns-in-Ok-clause-cut g c =
-    on_err_weaker c.serve.result (Cuts-answer (line_of_text c.args.text.now) c.in-Ok.ask _ _ _ _ c.in-Ok.ensures.asks) c.serve.ensures.cut
+returns-in-Ok-clause-cut g c = Cuts-serves (line_of_text c.args.text.now) _ _ _ _ c.serve.result (subst (λ r. Serves r c.args.cluster.now c.serve.new.cluster (g.W.Sink.shown c.args.sink.now) (g.W.Sink.shown c.serve.new.sink) c.serve.result) (sym c.in-Ok.ensures.orders) c.serve.ensures.serves)
+
+pub returns-in-Err-clause-cause : goal.returns-in-Err-clause-cause
+returns-in-Err-clause-cause g c = (c.refuse.ensures (reading_of (line_of_text c.args.text.now)) c.args.cluster.now c.in-Err.ensures.unread).says.cause
+
+pub returns-in-Ok-clause-cause : goal.returns-in-Ok-clause-cause
+returns-in-Ok-clause-cause g c = c.serve.ensures.serves.says.cause
