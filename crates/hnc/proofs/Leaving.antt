@@ -21,6 +21,7 @@ use Rattle.hx_script.specs.declared.script.RunEnd.TheVariants.{Done as Ended, No
 use Rattle.hx_script.specs.Lines.{Line, script_lines}
 use Rattle.hx_script.specs.Exchanges.{entries_of}
 use Rattle.hx_script.specs.Running.{Ran, Does, Cuts, OfScript, most_bytes}
+use Rattle.hnc.proofs.Quiet.{quiet_settled}
 use Rattle.hnc.specs.Headline.{Leaves, LeavesWhole, LeavesFront, OfRun}
 
 -- a cluster was started on a keeper that took its place at the path of the words
@@ -96,6 +97,7 @@ leaves words script rest lacking sink sink' keeper keeper' a b starts valid is r
       opens = told_before keeper.kept a.keeper.kept (λ held. held ≡ kept_of a.state) starts.same starts.holds;
       history = there.history;
       ends = there.ends;
+      settled = quiet_settled (opening_world keeper.broken a.state) entries there.history;
       says = ran.says;
       lacks = ran.lacks;
       wrote = ran.wrote;

@@ -1,11 +1,12 @@
 -- What the top call promises of a run.
+--     EndsQuiet                  a history ends with a check that no key waits or is held
 --     Leaves                     what a run of a script leaves: one history of the machine, what it writes and what is kept
 --     LeavesWhole, LeavesFront   the same of a run to the script's end;  of one that was cut short
 --     OfRun words source P       there is a script with P, for what the words ask for: the one that the source tells, where it tells
 --     is_cut_short, has_not_begun      what a status says of a run
 --     IsUnbegun                  no run began
 --     code_of_status             the number of a status
-use Rattle.std.specs.Prelude.{◌≡◌, ◌≤◌, ◌⊎◌, ℕ, Bool, true, false, List, [], ◌++◌, IfSome, IsSome, IsSomeAnd, None, Some, length}
+use Rattle.std.specs.Prelude.{◌≡◌, ◌≤◌, ◌⊎◌, ℕ, Bool, true, false, List, [], ◌∷◌, ◌++◌, IfSome, IsSome, IsSomeAnd, None, Some, length}
 use Rattle.std.specs.declared.option.Option.{Option}
 use Rattle.std.specs.List.{AllByRecursion}
 use Rattle.std.specs.Io.KnownBytes.{Appends}
@@ -13,7 +14,8 @@ use Rattle.hx_ports.specs.Causes.{Rose}
 use Rattle.hx_ports.specs.Views.{KeeperView, SinkView, SourceView}
 use Rattle.hx_words.specs.declared.RunWords.{RunWords}
 use Rattle.hx_model.specs.State.{State}
-use Rattle.hx_model.specs.Machine.{opening_world, IsHistory, replay, loses_to_fault}
+use Rattle.hx_model.specs.Machine.{History, Checked, opening_world, IsHistory, replay, loses_to_fault}
+use Rattle.hx_model.specs.Settled.{IsSettled}
 use Rattle.hx_model.specs.Valid.{IsValid}
 use Rattle.hx_core.specs.Refinement.{IsKeptOf, kept_of}
 use Rattle.hx_core.specs.Starting.{IsUndamaged}
@@ -23,8 +25,15 @@ use Rattle.hx_script.specs.Lines.{Line, script_lines}
 use Rattle.hx_script.specs.Running.{LacksLast, OfScript, most_bytes}
 use Rattle.hx_script.specs.Exchanges.{Exchange, IsExchange, lines_of, entries_of, answer_lines}
 
+-- no key waits or is held, as the last entry says: `check: quiet`, or `settle: settled`
+abbrev pub EndsQuiet : History → Type 0
+EndsQuiet [] = ⊥
+EndsQuiet (e ∷ []) = e ≡ Checked 0 0
+EndsQuiet (e ∷ next ∷ entries) = EndsQuiet (next ∷ entries)
+
 -- There is a first state, which is valid and under the configuration of the words: the one whose rows the keeper had, where it told them. There is one history of the machine from it, to a valid state. Its entries are those of the script's lines in order, each once, up to the rest.
 -- What is written are their answers, but for what is lacking of the last one. What the keeper holds is what the history leaves, and it is broken where the history says so; its count rose where a loss to a fault stands in the history, and stayed where none does.
+-- Where the history ends quiet, its last state is settled: each namespace that takes part holds exactly the copies and the tree labels that its place prescribes.
 -- The keeper was undamaged. It is at the path of the words now, and it tells what it holds if it told before.
 pub record Leaves (run : RunWords) (script : List ℕ) (rest : List Line) (lacking : List ℕ) (sink sink' : SinkView) (keeper keeper' : KeeperView) : Type 0 where
   pub exchanges : List Exchange
@@ -38,6 +47,7 @@ pub record Leaves (run : RunWords) (script : List ℕ) (rest : List Line) (lacki
   pub opens : IfSome keeper.kept (λ held. held ≡ kept_of first)
   pub history : IsHistory (opening_world keeper.broken first) (entries_of exchanges)
   pub ends : IsValid (replay (opening_world keeper.broken first) (entries_of exchanges)).state
+  pub settled : EndsQuiet (entries_of exchanges) → IsSettled (replay (opening_world keeper.broken first) (entries_of exchanges)).state
   pub says : answer_lines exchanges ≡ text ++ lacking
   pub lacks : LacksLast exchanges lacking
   pub wrote : Appends sink.written sink'.written text
