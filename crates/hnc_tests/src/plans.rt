@@ -2,7 +2,7 @@
 use crate::stores::object;
 use hx_model::{Key, Write};
 use hx_object::{Id, Kind, List, Mode, NoMemory, Object, Pairs, Payload, Shared, Text};
-use hx_rules::{Brief, Facts, Plan, plan};
+use hx_rules::{Brief, Facts, Plan, SharedBrief, plan};
 use std::alloc::Global;
 use std::test::Fail;
 
@@ -71,7 +71,7 @@ fn brief_of_tree(alloc: Global) -> Result<Brief, NoMemory> {
 }
 
 /// Whether a plan puts an object with this label.
-fn puts(planned: &Result<Plan, Brief>, key: &str, value: &str) -> bool {
+fn puts(planned: &Result<Plan, SharedBrief>, key: &str, value: &str) -> bool {
     let Ok(plan) = planned else {
         return false;
     };
@@ -82,12 +82,12 @@ fn puts(planned: &Result<Plan, Brief>, key: &str, value: &str) -> bool {
 }
 
 fn puts_copy(alloc: Global) -> Result<bool, NoMemory> {
-    let planned = plan(alloc, brief_of_copy(alloc)?);
+    let planned = plan(alloc, SharedBrief::new(alloc, brief_of_copy(alloc)?)?);
     Ok(puts(&planned, "hnc.x-k8s.io/inherited-from", "acme"))
 }
 
 fn puts_tree_labels(alloc: Global) -> Result<bool, NoMemory> {
-    let planned = plan(alloc, brief_of_tree(alloc)?);
+    let planned = plan(alloc, SharedBrief::new(alloc, brief_of_tree(alloc)?)?);
     Ok(puts(&planned, "acme.tree.hnc.x-k8s.io/depth", "1"))
 }
 
