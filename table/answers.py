@@ -183,6 +183,11 @@ class Table:
         self.silent(line)
         self.answers.append(f"{status} {text(body)}")
 
+    def says(self, line, *answers):
+        """What a line of reconcilers answers, which may be several lines."""
+        self.silent(line)
+        self.answers += answers
+
     def refuses(self, line, refusal):
         status, reason, message, *rules = refusal
         body = {"apiVersion": "v1", "code": status, "kind": "Status", "message": message, "metadata": {}, "reason": reason, "status": "Failure"}
@@ -2237,16 +2242,14 @@ FORMLESS = [
     "//", "; x", "\u0000",
 ]
 
-# Lines for reconcilers.
-WORKERS = [
-    "check", "take 1", "take 64", "take 9 tree acme", "take 1 report acme", "take 1 purge acme",
-    "take 1 copy acme roles system:a", "take 1 copy acme rolebindings A", "take 1 copy acme configmaps a.b",
-    "take 1 copy acme secrets a", "take 1 copy acme networkpolicies a",
-    "take 1 copy acme limitranges a", "take 1 child acme beta", "take 1 anchor acme beta", "take 1 used acme a.b",
-    "finish 1", "finish 64", "drop 1", "drop 64", "settle 0", "settle 1", "settle 1000000000",
+# Keys in a namespace that isn't there, so that they want nothing: one of each form, and one of each plural.
+IDLE_KEYS = [
+    "tree nowhere", "report nowhere", "purge nowhere", "copy nowhere roles system:a", "copy nowhere rolebindings A",
+    "copy nowhere configmaps a.b", "copy nowhere secrets a", "copy nowhere networkpolicies a", "copy nowhere limitranges a",
+    "child nowhere beta", "anchor nowhere beta", "used nowhere a.b",
 ]
 
-# Lines that are almost such.
+# Lines that are almost those of reconcilers.
 NO_WORKERS = [
     "check ", "check 1", "Check", "take", "take ", "take 0", "take 65", "take 01", "take +1", "take -1", "take 1 ",
     "take 1x", "take  1", "take 1 tree", "take 1 tree ", "take 1 tree Acme", "take 1 tree acme ", "take 1 tree acme x",
@@ -2277,8 +2280,8 @@ def line_ends(t):
     t.refuses(f"GET {NAMESPACES}/no\rne", not_found("namespaces", "no\rne"))
     t.refuses("\r\r", BAD_LINE)
     t.refuses("\r# x", BAD_LINE)
-    t.refuses("take 1\r", NOT_SERVED)
-    t.refuses("take 1\r\r", BAD_LINE)
+    t.says("drop 1\r", "drop 1: empty")
+    t.refuses("drop 1\r\r", BAD_LINE)
     stored = t.creates(post(CONFIGMAPS, MINIMAL) + "\r", configmap("x"))
     t.shows(post(CONFIGMAPS, MINIMAL).replace("POST", "PUT").replace("configmaps ", "configmaps/x ") + "\r\r", stored)
     t.removes(delete(f"{CONFIGMAPS}/x\r"))
@@ -2328,12 +2331,62 @@ def line_bytes(t):
     t.refuses(b"take 1\xff", BAD_LINE)
 
 
+def idle_lines(t):
+    """Reconcilers' lines where there is nothing to do."""
+    t.part("lines: reconcilers of an empty cluster")
+    for worker in (1, 64):
+        t.says(f"take {worker}", f"take {worker}: idle")
+        t.says(f"finish {worker}", f"finish {worker}: empty")
+        t.says(f"drop {worker}", f"drop {worker}: empty")
+    t.says("check", "check: quiet")
+    for turns in (0, 5, 1_000_000_000):
+        t.says(f"settle {turns}", "settle: settled")
+    # a key that a worker holds keeps the cluster busy
+    t.says("take 1 tree nowhere", "take 1: tree nowhere")
+    t.says("check", "check: waiting 0 held 1")
+    t.says("settle 5", "settle: unsettled 0 1")
+    t.says("take 64", "take 64: idle")
+    t.says("take 1", "take 1: already tree nowhere")
+    t.says("drop 1", "drop 1: dropped tree nowhere")
+    # and one that is dropped waits
+    t.says("check", "check: waiting 1 held 0")
+    t.says("settle 0", "settle: unsettled 1 0")
+    t.says("take 64", "take 64: tree nowhere")
+    t.says("finish 64", "finish 64: nothing")
+    t.says("take 1 tree nowhere", "take 1: tree nowhere")
+    t.says("drop 1", "drop 1: dropped tree nowhere")
+    t.says("settle 1", "take 0: tree nowhere", "finish 0: nothing", "settle: settled")
+    t.says("check", "check: quiet")
+
+
 def worker_lines(t):
     t.part("lines: reconcilers")
-    for line in WORKERS:
-        t.refuses(line, NOT_SERVED)
+    for at, key in enumerate(IDLE_KEYS):
+        worker, other = at + 1, 64 - at
+        t.says(f"take {worker} {key}", f"take {worker}: {key}")
+        t.says(f"take {worker} {key}", f"take {worker}: already {key}")
+        t.says(f"take {worker} tree acme", f"take {worker}: already {key}")
+        t.says(f"take {worker}", f"take {worker}: already {key}")
+        t.says(f"take {other} {key}", f"take {other}: held by {worker}")
+        t.says(f"drop {other}", f"drop {other}: empty")
+        t.says(f"finish {other}", f"finish {other}: empty")
+        t.says(f"finish {worker}", f"finish {worker}: nothing")
+        t.says(f"finish {worker}", f"finish {worker}: empty")
+        t.says(f"take {other} {key}", f"take {other}: {key}")
+        t.says(f"take {worker} {key}", f"take {worker}: held by {other}")
+        t.says(f"drop {other}", f"drop {other}: dropped {key}")
+        t.says(f"drop {other}", f"drop {other}: empty")
+        # one that waits can be named too
+        t.says(f"take {worker} {key}", f"take {worker}: {key}")
+        t.says(f"finish {worker}", f"finish {worker}: nothing")
     for line in NO_WORKERS:
         t.refuses(line, BAD_LINE)
+    # lines in no form leave workers alone
+    t.says("take 9 tree nowhere", "take 9: tree nowhere")
+    t.refuses("take 09", BAD_LINE)
+    t.refuses("finish 9 tree nowhere", BAD_LINE)
+    t.refuses("drop 9 ", BAD_LINE)
+    t.says("finish 9", "finish 9: nothing")
 
 
 def lengths(t):
@@ -2348,6 +2401,7 @@ def lengths(t):
 
 
 PARTS = [
+    idle_lines,
     namespaces,
     configurations,
     hierarchies,
