@@ -72,18 +72,28 @@ class Run:
 
     def ask(self, lines):
         """Sends lines and gives their answers, each of which is a success."""
+        answers = self.tell(lines, lambda text: text.count(b"\n") >= len(lines))
+        assert len(answers) == len(lines) and all(answer.startswith((b"200 ", b"201 ")) for answer in answers)
+        return answers
+
+    def settle(self, most=1_000_000_000):
+        """Lets reconcilers settle, and gives how each of their turns ended."""
+        *turns, end = self.tell([f"settle {most}\n"], lambda text: re.search(rb"^settle: .*\n", text[-64:], re.M))
+        assert end == b"settle: settled" or end.startswith(b"settle: unsettled ")
+        return [answer.split(b" ")[2] for answer in turns[1::2]]
+
+    def tell(self, lines, is_whole):
+        """Sends lines and gives what is answered, once that is whole."""
         self.child.stdin.write("".join(lines).encode())
         self.child.stdin.flush()
         text = b""
-        while text.count(b"\n") < len(lines):
+        while not is_whole(text):
             assert self.child.poll() is None
             time.sleep(0.001)
             # the child's writes go to where this file stands, so that it isn't moved
             text += os.pread(self.answers.fileno(), 1 << 28, self.taken + len(text))
         self.taken += len(text)
-        answers = text.splitlines()
-        assert len(answers) == len(lines) and all(answer.startswith((b"200 ", b"201 ")) for answer in answers)
-        return answers
+        return text.splitlines()
 
     def seconds(self, lines):
         """The processor's time for the lines, in the program and in the system."""

@@ -25,8 +25,8 @@ def move(ns, parent):
 class Columns(Run):
     """A run with a root and columns of namespaces, each the parent of the next one. What the columns don't hold, up to so many namespaces, stands in a shorter one, which isn't asked about."""
 
-    def __init__(self, program, columns, depth, namespaces=0):
-        super().__init__(program)
+    def __init__(self, program, columns, depth, namespaces=0, *options):
+        super().__init__(program, *options)
         self.depth = depth
         self.columns = list(range(columns))
         namespaces = max(namespaces, columns * depth + 1)
