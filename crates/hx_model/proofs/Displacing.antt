@@ -6,12 +6,11 @@
 --     with_same_parent   with the parent that it has the tree is the same
 --     put_decided, cut_decided   so a HierarchyConfiguration that is put or cut, by the parent that it leaves
 use Rattle.std.specs.Prelude.{is_some, option_and_then, if◌then◌else◌}
-use Rattle.std.proofs.Common.{◌≡◌, ℕ, ◌==◌, Bool, true, false, cond, not, ◌&&◌, ◌||◌, Option, Some, None, option_map, List, [], ◌∷◌, ◌++◌, filter, refl, sym, ap, ◌∙◌, subst, inl, inr, eq-eqb, true≢false}
+use Rattle.std.proofs.Common.{◌≡◌, ℕ, ◌==◌, Bool, true, false, cond, not, ◌&&◌, Option, Some, None, option_map, List, [], ◌∷◌, ◌++◌, refl, sym, ap, ◌∙◌, subst, inl, inr, eq-eqb, true≢false}
 use Rattle.std.specs.List.{list_any, AllByRecursion}
 use Rattle.std.specs.Option.{option_map_or}
-use Rattle.std.specs.Cmp.{tied_itself}
 use Rattle.std.specs.Str.{bytes_eq}
-use Rattle.std.proofs.lemmas.Bool.{and_parts, and_from, or_cases, or_left, or_right, cases_Bool, not-true, not_from_false, false_from_ne_true}
+use Rattle.std.proofs.lemmas.Bool.{and_parts, and_from, cases_Bool, not-true, not_from_false, false_from_ne_true}
 use Rattle.hx_object.specs.Kinds.{can_be_copied, number_of}
 use Rattle.hx_object.specs.declared.kind.Kind.{Kind}
 use Rattle.hx_object.specs.declared.kind.Kind.TheVariants as kinds
@@ -28,77 +27,19 @@ use Rattle.hx_model.specs.Limits.{is_copy, is_hierarchy}
 use Rattle.hx_model.specs.Modes.{config_id, mode_in}
 use Rattle.hx_model.specs.Propagation.{is_source, source_at, sources_along, as_list, top_of, id_in}
 use Rattle.hx_model.specs.Serving.{IsServed}
-use Rattle.hx_model.specs.State.{State, Objects, ascends, is_below_all, object_at, same_id, put, cut, namespace_id, home_in}
+use Rattle.hx_model.specs.State.{State, Objects, ascends, object_at, same_id, put, cut, namespace_id, home_in}
 use Rattle.hx_model.specs.Tree.{hierarchy, hierarchy_id, forest_in, forest_of, node_in, named_parent, subnamespace_parent, parent_with}
 use Rattle.hx_model.proofs.Planting.{node_of-objects, there-objects, forest-put_hierarchy, forest-cut_hierarchy, put_there, home_of_hierarchy, forest-put_moves, forest-cut_moves}
 use Rattle.hx_model.specs.TreeLabels.{is_open, prescribed_labels}
 use Rattle.hx_model.proofs.Climbing.{is_same, same_itself}
 use Rattle.hx_model.proofs.Conflicting.{conflict_found, conflict_of, reached_any}
 use Rattle.hx_model.proofs.Moving.{IsApart, moved_chain_same, moved_there}
-use Rattle.hx_model.proofs.Objects.{id_total, is_same_id, same_from_Equal, object_at-put, object_at-cut, found_id, none_below}
+use Rattle.hx_model.proofs.Objects.{is_same_id, object_at-put, object_at-cut, found_id}
 use Rattle.hx_model.proofs.Opening.{moved_chain_below, moved_open_same, moved_open_below, not_live}
 use Rattle.hx_model.proofs.Parents.{in_below}
+use Rattle.hx_model.proofs.Passing.{any_filter, passing_object, found_object, found_name, passing_kind, found_kind}
 use Rattle.hx_model.proofs.Walking.{names_have, no_parent, passes_in}
-use Rattle.hx_model.specs.Moves.{labels_in, is_met, open_chain, open_moved, is_newly_met, overwrites_kind, overwrites_in, copied_kinds}
-
--- ---- found among lists
-
-found_object : (p : Object → Bool) (objects : Objects) → ascends objects ≡ true → list_any p objects ≡ true → (x : Object) × (object_at objects x.id ≡ Some x) × (p x ≡ true)
-found_object p [] up h = absurd (true≢false (sym h))
-found_object p (y ∷ objects) up h = elim (or_cases (p y) (list_any p objects) h) [
-  | inl here ↦ (y, ap (λ b. cond b (Some y) (object_at objects y.id)) (same_from_Equal y.id y.id (tied_itself id_total y.id)), here)
-  | inr later ↦
-      let parts = and_parts (is_below_all y.id objects) (ascends objects) up in
-      let found = found_object p objects parts.1 later in
-      (found.0, ap (λ b. cond b (Some y) (object_at objects found.0.id)) (differs found.0 parts.0 found.1) ∙ found.1, found.2)
-]
-  where
-    none_some : (x : Object) → ◌≡◌ {A = Option Object} None (Some x) → ⊥
-    none_some x e = true≢false (sym (ap is_some e))
-
-    differs : (x : Object) → is_below_all y.id objects ≡ true → object_at objects x.id ≡ Some x → same_id x.id y.id ≡ false
-    differs x low found = false_from_ne_true (same_id x.id y.id) (λ h. none_some x (sym (none_below y.id objects low) ∙ ap (object_at objects) (sym (is_same_id x.id y.id h)) ∙ found))
-
-passing_object : (p : Object → Bool) (objects : Objects) (id : Id) (x : Object) → object_at objects id ≡ Some x → p x ≡ true → list_any p objects ≡ true
-passing_object p [] id x at passes = absurd (true≢false (sym (ap is_some at)))
-passing_object p (y ∷ objects) id x at passes =
-    elim (same_id id y.id) as (λ b. cond b (Some y) (object_at objects id) ≡ Some x → (p y || list_any p objects) ≡ true) [
-      | true ↦ λ e. or_left (p y) _ (ap p (inside y x e) ∙ passes)
-      | false ↦ λ e. or_right (p y) _ (passing_object p objects id x e passes)
-    ] at
-  where
-    inside : (a b : Object) → Some a ≡ Some b → a ≡ b
-    inside a b e = cc
-
-any_in_filter : {A : Type 0} (p q : A → Bool) (xs : List A) → list_any p (filter q xs) ≡ list_any (λ x. q x && p x) xs
-any_in_filter p q [] = refl
-any_in_filter p q (x ∷ xs) = elim (q x) as (λ b. list_any p (cond b (x ∷ filter q xs) (filter q xs)) ≡ ((b && p x) || list_any (λ y. q y && p y) xs)) [
-  | true ↦ ap (λ b. p x || b) (any_in_filter p q xs)
-  | false ↦ any_in_filter p q xs
-]
-
-found_name : (t : List ℕ → Bool) (xs : List (List ℕ)) → list_any t xs ≡ true → (a : List ℕ) × (is_in a xs ≡ true) × (t a ≡ true)
-found_name t [] h = absurd (true≢false (sym h))
-found_name t (x ∷ xs) h = elim (or_cases (t x) (list_any t xs) h) [
-  | inl here ↦ (x, or_left (bytes_eq x x) (is_in x xs) (same_itself x), here)
-  | inr later ↦ let found = found_name t xs later in (found.0, or_right (bytes_eq found.0 x) (is_in found.0 xs) found.1, found.2)
-]
-
-found_kind : (t : Kind → Bool) (xs : List Kind) → list_any t xs ≡ true → (kind : Kind) × (t kind ≡ true)
-found_kind t [] h = absurd (true≢false (sym h))
-found_kind t (x ∷ xs) h = elim (or_cases (t x) (list_any t xs) h) [
-  | inl here ↦ (x, here)
-  | inr later ↦ found_kind t xs later
-]
-
-passing_kind : (t : Kind → Bool) (kind : Kind) → can_be_copied kind ≡ true → t kind ≡ true → list_any t copied_kinds ≡ true
-passing_kind t kinds.Role is h = or_left (t kinds.Role) (t kinds.RoleBinding || (t kinds.ConfigMap || (t kinds.Secret || (t kinds.NetworkPolicy || (t kinds.LimitRange || false))))) h
-passing_kind t kinds.RoleBinding is h = or_right (t kinds.Role) (t kinds.RoleBinding || (t kinds.ConfigMap || (t kinds.Secret || (t kinds.NetworkPolicy || (t kinds.LimitRange || false))))) (or_left (t kinds.RoleBinding) (t kinds.ConfigMap || (t kinds.Secret || (t kinds.NetworkPolicy || (t kinds.LimitRange || false)))) h)
-passing_kind t kinds.ConfigMap is h = or_right (t kinds.Role) (t kinds.RoleBinding || (t kinds.ConfigMap || (t kinds.Secret || (t kinds.NetworkPolicy || (t kinds.LimitRange || false))))) (or_right (t kinds.RoleBinding) (t kinds.ConfigMap || (t kinds.Secret || (t kinds.NetworkPolicy || (t kinds.LimitRange || false)))) (or_left (t kinds.ConfigMap) (t kinds.Secret || (t kinds.NetworkPolicy || (t kinds.LimitRange || false))) h))
-passing_kind t kinds.Secret is h = or_right (t kinds.Role) (t kinds.RoleBinding || (t kinds.ConfigMap || (t kinds.Secret || (t kinds.NetworkPolicy || (t kinds.LimitRange || false))))) (or_right (t kinds.RoleBinding) (t kinds.ConfigMap || (t kinds.Secret || (t kinds.NetworkPolicy || (t kinds.LimitRange || false)))) (or_right (t kinds.ConfigMap) (t kinds.Secret || (t kinds.NetworkPolicy || (t kinds.LimitRange || false))) (or_left (t kinds.Secret) (t kinds.NetworkPolicy || (t kinds.LimitRange || false)) h)))
-passing_kind t kinds.NetworkPolicy is h = or_right (t kinds.Role) (t kinds.RoleBinding || (t kinds.ConfigMap || (t kinds.Secret || (t kinds.NetworkPolicy || (t kinds.LimitRange || false))))) (or_right (t kinds.RoleBinding) (t kinds.ConfigMap || (t kinds.Secret || (t kinds.NetworkPolicy || (t kinds.LimitRange || false)))) (or_right (t kinds.ConfigMap) (t kinds.Secret || (t kinds.NetworkPolicy || (t kinds.LimitRange || false))) (or_right (t kinds.Secret) (t kinds.NetworkPolicy || (t kinds.LimitRange || false)) (or_left (t kinds.NetworkPolicy) (t kinds.LimitRange || false) h))))
-passing_kind t kinds.LimitRange is h = or_right (t kinds.Role) (t kinds.RoleBinding || (t kinds.ConfigMap || (t kinds.Secret || (t kinds.NetworkPolicy || (t kinds.LimitRange || false))))) (or_right (t kinds.RoleBinding) (t kinds.ConfigMap || (t kinds.Secret || (t kinds.NetworkPolicy || (t kinds.LimitRange || false)))) (or_right (t kinds.ConfigMap) (t kinds.Secret || (t kinds.NetworkPolicy || (t kinds.LimitRange || false))) (or_right (t kinds.Secret) (t kinds.NetworkPolicy || (t kinds.LimitRange || false)) (or_right (t kinds.NetworkPolicy) (t kinds.LimitRange || false) (or_left (t kinds.LimitRange) false h)))))
-passing_kind t _ is h = absurd (true≢false (sym is))
+use Rattle.hx_model.specs.Moves.{labels_in, is_met, open_chain, open_moved, is_newly_met, overwrites_kind, overwrites_in}
 
 -- ---- in a tree
 
@@ -246,7 +187,7 @@ module _ (s : State) (n : List ℕ) (parent : Option (List ℕ)) (apart : IsApar
       passes_in here_in x.id.ns (subtree_of (forest_of s) n)
       (in_below (forest_of s) x.id.ns n ∙ and_from (is_in x.id.ns (names_of (forest_of s))) (in_chain (forest_of s) x.id.ns n) (sym (names_have (forest_of s) x.id.ns) ∙ home) has)
       (passing_kind (overwrites_kind s.objects x.id.ns (open_moved (forest_of s) n parent x.id.ns) (open_chain (forest_of s) x.id.ns)) x.id.kind (and_parts (can_be_copied x.id.kind) (not (is_copy x)) is).0
-      (any_in_filter (is_newly_met s.objects x.id.ns (open_moved (forest_of s) n parent x.id.ns) (open_chain (forest_of s) x.id.ns)) (is_listed x.id.kind (Some x.id.ns)) s.objects
+      (any_filter (is_newly_met s.objects x.id.ns (open_moved (forest_of s) n parent x.id.ns) (open_chain (forest_of s) x.id.ns)) (is_listed x.id.kind (Some x.id.ns)) s.objects
       ∙ passing_object (λ y. is_listed x.id.kind (Some x.id.ns) y && is_newly_met s.objects x.id.ns (open_moved (forest_of s) n parent x.id.ns) (open_chain (forest_of s) x.id.ns) y) s.objects x.id x at (and_from _ _ (listed_here x) newly)))
 
   -- what is found in the subtree is one
@@ -259,8 +200,8 @@ module _ (s : State) (n : List ℕ) (parent : Option (List ℕ)) (apart : IsApar
       let has : in_chain (forest_of s) at.0 n ≡ true = (and_parts (is_in at.0 (names_of (forest_of s))) _ (sym (in_below (forest_of s) at.0 n) ∙ at.1)).1 in
       let after = open_moved (forest_of s) n parent at.0 in
       let before = open_chain (forest_of s) at.0 in
-      let kind = found_kind (overwrites_kind s.objects at.0 after before) copied_kinds at.2 in
-      let found = found_object (λ y. is_listed kind.0 (Some at.0) y && is_newly_met s.objects at.0 after before y) s.objects up (sym (any_in_filter (is_newly_met s.objects at.0 after before) (is_listed kind.0 (Some at.0)) s.objects) ∙ kind.1) in
+      let kind = found_kind (overwrites_kind s.objects at.0 after before) at.2 in
+      let found = found_object (λ y. is_listed kind.0 (Some at.0) y && is_newly_met s.objects at.0 after before y) s.objects up (sym (any_filter (is_newly_met s.objects at.0 after before) (is_listed kind.0 (Some at.0)) s.objects) ∙ kind.2) in
       of_member at.0 has found.0 found.1 (is_same found.0.id.ns at.0 (and_parts (number_of kind.0 == number_of found.0.id.kind) _ (and_parts (is_listed kind.0 (Some at.0) found.0) _ found.2).0).1) (and_parts (is_listed kind.0 (Some at.0) found.0) _ found.2).1
     where
       at_home : (x : Object) → in_chain (forest_of s) x.id.ns n ≡ true → object_at s.objects x.id ≡ Some x → is_newly_met s.objects x.id.ns (open_moved (forest_of s) n parent x.id.ns) (open_chain (forest_of s) x.id.ns) x ≡ true → IsFound

@@ -5,6 +5,7 @@ use Rattle.std.specs.Fmt.{digits}
 use Rattle.serde_json.proofs.OnLiterals.{serde_json_on_literals}
 use Rattle.hx_object.specs.Json.{object_text}
 use Rattle.hx_object.specs.Sizes.{size_of, is_tree_key, is_reconciled_key, is_counted}
+use Rattle.hx_object.specs.WellKnown.{subnamespace_of}
 use Rattle.hx_object.specs.declared.kind.Kind.TheVariants.{Namespace, HierarchyConfiguration, SubnamespaceAnchor, Role, ConfigMap, Service}
 use Rattle.hx_object.specs.declared.object.Id.{Id}
 use Rattle.hx_object.specs.declared.object.Need.{Need}
@@ -16,7 +17,7 @@ use Rattle.hx_select.specs.Selectors.{everything}
 use Rattle.hx_model.specs.declared.ask.Ask.TheVariants.{Get, List as ListOf, Create, Replace, Delete}
 use Rattle.hx_model.specs.declared.ask.Answer.TheVariants.{One, Many, Gone, Refused as Refusing}
 use Rattle.hx_model.specs.declared.refusal.Refusal.TheVariants.{BadQuery, NotKind, Broken, NoPath, NotFound, NoMethod, Exists, OtherVersion, TooLong, Missing, WrongType, NotServed}
-use Rattle.hx_model.specs.declared.rule.Rule.TheVariants.{L1, L2, L3, L4}
+use Rattle.hx_model.specs.declared.rule.Rule.TheVariants.{N4, L1, L2, L3, L4}
 use Rattle.hx_model.specs.declared.key.Write.TheVariants.{Put, Cut}
 use Rattle.hx_model.specs.State.{State, Objects, put, cut, ascends, objects_from, with_version, opening_state, state_after, namespace_id}
 use Rattle.hx_model.specs.Texts.{key_text, new_namespace}
@@ -224,9 +225,9 @@ pub same_content : answer_to (record { objects = stored acme 1 ∷ []; last = 4;
 unfolding same_object counts is_copy
 same_content = refl
 
--- a terminating namespace goes on terminating when it gets a label
+-- a namespace on its way out isn't changed any more
 pub same_phase : answer_to (record { objects = record (stored acme 1) { payload = NamespaceOf true } ∷ []; last = 4; config = no_config }) (Replace (labelled 0) None false)
-    ≡ (One (record (labelled 5) { payload = NamespaceOf true }) false, record { objects = record (labelled 5) { payload = NamespaceOf true } ∷ []; last = 5; config = no_config })
+    ≡ (Refusing (Broken N4), record { objects = record (stored acme 1) { payload = NamespaceOf true } ∷ []; last = 4; config = no_config })
 unfolding same_object counts is_copy
 same_phase = refl
 
@@ -418,8 +419,12 @@ pub no_name_is_left : refusal_of (crowd 4095 (stored team 1)) (Create (new_names
 unfolding counts
 no_name_is_left = refl
 
+-- a subnamespace of acme
+abbrev owned : List ℕ → ℕ → Object
+owned name version = record (stored name version) { annotations = (subnamespace_of, acme) ∷ [] }
+
 -- an anchor of a namespace's name brings no name
-pub old_name : refusal_of (crowd 4095 (stored team 1)) (Create (anchor acme team) false) ≡ None
+pub old_name : refusal_of (crowd 4095 (owned team 1)) (Create (anchor acme team) false) ≡ None
 unfolding counts is_copy size_of
 old_name = refl
 

@@ -2,11 +2,16 @@ pub mod Objects
 pub mod Storing
 pub mod Histories
 pub mod Homes
+pub mod Distinct
+pub mod Naming
+pub mod NamesAfter
 pub mod Legality
 pub mod Writes
 pub mod Counting
 pub mod Replying
 pub mod Climbing
+pub mod Passing
+pub mod SameKeys
 pub mod Parents
 pub mod Walking
 pub mod Moving
@@ -21,3 +26,4 @@ pub mod PropagationExamples
 pub mod NextParents
 pub mod Displacing
 pub mod TurnExamples
+pub mod DeletionExamples

@@ -1,5 +1,7 @@
 -- The tree of the rows after a write.
 --     namespace_is_homed, is_hierarchy_id    the identities of namespaces, and of HierarchyConfigurations named `hierarchy`
+--     nodes node objects                     the nodes of the namespaces, each by a function of its row: a tree of whichever kind
+--     look_up, namespaces-put, namespaces-cut, nodes-put, nodes-cut    what it tells of a name;  other objects leave it as it is;  a namespace brings its node, or takes it along
 --     node_of-objects, there-objects               what the tree tells of a name, by the row of its namespace
 --     forest-put, forest-cut                 objects that are neither namespaces nor HierarchyConfigurations leave the tree as it is
 --     forest-put_other, forest-cut_other     so does a HierarchyConfiguration of another name than `hierarchy`
@@ -57,7 +59,7 @@ namespace_is_homed x served is =
     let ns : x.id.ns ≡ [] = served.legal.home (ap is_in_cluster kind) in
     λ i. record { kind = kind i; ns = ns i; name = x.id.name }
 
-all_homed : (objects : Objects) → AllByRecursion IsServed objects → AllByRecursion IsHomed objects
+pub all_homed : (objects : Objects) → AllByRecursion IsServed objects → AllByRecursion IsHomed objects
 all_homed [] served = tt
 all_homed (x ∷ objects) served = (namespace_is_homed x served.0, all_homed objects served.1)
 
@@ -88,51 +90,51 @@ is_hierarchy_id id is named =
     let name = (bytes_eq-Decides id.name hierarchy).0 named in
     λ i. record { kind = kind i; ns = id.ns; name = name i }
 
--- ---- nodes of some rows, by all rows
+-- ---- nodes, each by a function of its row
 
-abbrev entry : List (List ℕ) → Objects → Object → List ℕ × Node
-entry ex all x = (x.id.name, node_in ex all x)
+abbrev entry : (Object → Node) → Object → List ℕ × Node
+entry node x = (x.id.name, node x)
 
-abbrev nodes : List (List ℕ) → Objects → Objects → Forest
-nodes ex all objects = map (entry ex all) (namespaces_in objects)
+abbrev pub nodes : (Object → Node) → Objects → Forest
+nodes node objects = map (entry node) (namespaces_in objects)
 
-nodes-namespace : (ex : List (List ℕ)) (all : Objects) (x : Object) (objects : Objects) → is_namespace x.id.kind ≡ true → nodes ex all (x ∷ objects) ≡ entry ex all x ∷ nodes ex all objects
-nodes-namespace ex all x objects is = ap (λ b. map (entry ex all) (cond b (x ∷ namespaces_in objects) (namespaces_in objects))) is
+nodes-namespace : (node : Object → Node) (x : Object) (objects : Objects) → is_namespace x.id.kind ≡ true → nodes node (x ∷ objects) ≡ entry node x ∷ nodes node objects
+nodes-namespace node x objects is = ap (λ b. map (entry node) (cond b (x ∷ namespaces_in objects) (namespaces_in objects))) is
 
-nodes-other : (ex : List (List ℕ)) (all : Objects) (x : Object) (objects : Objects) → is_namespace x.id.kind ≡ false → nodes ex all (x ∷ objects) ≡ nodes ex all objects
-nodes-other ex all x objects out = ap (λ b. map (entry ex all) (cond b (x ∷ namespaces_in objects) (namespaces_in objects))) out
+nodes-other : (node : Object → Node) (x : Object) (objects : Objects) → is_namespace x.id.kind ≡ false → nodes node (x ∷ objects) ≡ nodes node objects
+nodes-other node x objects out = ap (λ b. map (entry node) (cond b (x ∷ namespaces_in objects) (namespaces_in objects))) out
 
 -- a node depends on all rows by the HierarchyConfiguration alone
 abbrev node_by : List (List ℕ) → Object → Option Object → Node
 node_by ex x found = record { parent = or_else (subnamespace_parent x) (option_and_then named_parent found); terminating = is_terminating x.payload; excluded = is_in x.id.name ex }
 
 -- where all HierarchyConfigurations are found alike, all nodes are the same
-nodes_alike : (ex : List (List ℕ)) (old new objects : Objects) → ((n : List ℕ) → object_at new (hierarchy_id n) ≡ object_at old (hierarchy_id n)) → nodes ex new objects ≡ nodes ex old objects
+nodes_alike : (ex : List (List ℕ)) (old new objects : Objects) → ((n : List ℕ) → object_at new (hierarchy_id n) ≡ object_at old (hierarchy_id n)) → nodes (node_in ex new) objects ≡ nodes (node_in ex old) objects
 nodes_alike ex old new objects alike = ap (λ (f : Object → List ℕ × Node). map f (namespaces_in objects)) (λ i x. (x.id.name, node_by ex x (alike x.id.name i)))
 
 -- ---- look-ups
 
-look_up : (ex : List (List ℕ)) (all objects : Objects) (n : List ℕ) → AllByRecursion IsHomed objects → node_of (nodes ex all objects) n ≡ option_map (node_in ex all) (object_at objects (namespace_id n))
-look_up ex all [] n homes = refl
-look_up ex all (y ∷ objects) n homes =
+pub look_up : (node : Object → Node) (objects : Objects) (n : List ℕ) → AllByRecursion IsHomed objects → node_of (nodes node objects) n ≡ option_map node (object_at objects (namespace_id n))
+look_up node [] n homes = refl
+look_up node (y ∷ objects) n homes =
     elim (is_namespace y.id.kind) as (λ b. is_namespace y.id.kind ≡ b
-    → node_of (map (entry ex all) (cond b (y ∷ namespaces_in objects) (namespaces_in objects))) n ≡ option_map (node_in ex all) (cond (same_id (namespace_id n) y.id) (Some y) (object_at objects (namespace_id n)))) [
+    → node_of (map (entry node) (cond b (y ∷ namespaces_in objects) (namespaces_in objects))) n ≡ option_map node (cond (same_id (namespace_id n) y.id) (Some y) (object_at objects (namespace_id n)))) [
       | true ↦ λ is.
-          either (bytes_eq n y.id.name) (look_up ex all objects n homes.1)
-          ∙ ap (λ b. option_map (node_in ex all) (cond b (Some y) (object_at objects (namespace_id n)))) (sym (ap (same_id (namespace_id n)) (homes.0 is)))
+          either (bytes_eq n y.id.name) (look_up node objects n homes.1)
+          ∙ ap (λ b. option_map node (cond b (Some y) (object_at objects (namespace_id n)))) (sym (ap (same_id (namespace_id n)) (homes.0 is)))
       | false ↦ λ out.
-          look_up ex all objects n homes.1
-          ∙ ap (λ b. option_map (node_in ex all) (cond b (Some y) (object_at objects (namespace_id n)))) (sym (not_a_namespace n y.id out))
+          look_up node objects n homes.1
+          ∙ ap (λ b. option_map node (cond b (Some y) (object_at objects (namespace_id n)))) (sym (not_a_namespace n y.id out))
     ] refl
   where
-    either : (b : Bool) → node_of (nodes ex all objects) n ≡ option_map (node_in ex all) (object_at objects (namespace_id n))
-        → cond b (Some (node_in ex all y)) (node_of (nodes ex all objects) n) ≡ option_map (node_in ex all) (cond b (Some y) (object_at objects (namespace_id n)))
+    either : (b : Bool) → node_of (nodes node objects) n ≡ option_map node (object_at objects (namespace_id n))
+        → cond b (Some (node y)) (node_of (nodes node objects) n) ≡ option_map node (cond b (Some y) (object_at objects (namespace_id n)))
     either true e = refl
     either false e = e
 
 -- the node of a namespace is that of its row
 pub node_of-objects : (ex : List (List ℕ)) (objects : Objects) (n : List ℕ) → AllByRecursion IsServed objects → node_of (forest_in ex objects) n ≡ option_map (node_in ex objects) (object_at objects (namespace_id n))
-node_of-objects ex objects n served = look_up ex objects objects n (all_homed objects served)
+node_of-objects ex objects n served = look_up (node_in ex objects) objects n (all_homed objects served)
 
 -- a namespace is there where its row is
 pub there-objects : (ex : List (List ℕ)) (objects : Objects) (n : List ℕ) → AllByRecursion IsServed objects → is_there (forest_in ex objects) n ≡ is_some (object_at objects (namespace_id n))
@@ -144,43 +146,43 @@ there-objects ex objects n served = ap is_some (node_of-objects ex objects n ser
 
 -- ---- objects that are no namespaces
 
-namespaces-put : (ex : List (List ℕ)) (all : Objects) (x : Object) (objects : Objects) → is_namespace x.id.kind ≡ false → nodes ex all (put x objects) ≡ nodes ex all objects
-namespaces-put ex all x [] out = nodes-other ex all x [] out
-namespaces-put ex all x (y ∷ objects) out =
-    elim (id_cmp x.id y.id) as (λ o. id_cmp x.id y.id ≡ o → nodes ex all (by_order o (x ∷ y ∷ objects) (x ∷ objects) (y ∷ put x objects)) ≡ nodes ex all (y ∷ objects)) [
-      | Less ↦ λ e. nodes-other ex all x (y ∷ objects) out
-      | Equal ↦ λ e. nodes-other ex all x objects out ∙ sym (nodes-other ex all y objects (subst (λ (q : Id). is_namespace q.kind ≡ false) (exact_ids x.id y.id e) out))
-      | Greater ↦ λ e. onward (is_namespace y.id.kind) (namespaces-put ex all x objects out)
+pub namespaces-put : (node : Object → Node) (x : Object) (objects : Objects) → is_namespace x.id.kind ≡ false → nodes node (put x objects) ≡ nodes node objects
+namespaces-put node x [] out = nodes-other node x [] out
+namespaces-put node x (y ∷ objects) out =
+    elim (id_cmp x.id y.id) as (λ o. id_cmp x.id y.id ≡ o → nodes node (by_order o (x ∷ y ∷ objects) (x ∷ objects) (y ∷ put x objects)) ≡ nodes node (y ∷ objects)) [
+      | Less ↦ λ e. nodes-other node x (y ∷ objects) out
+      | Equal ↦ λ e. nodes-other node x objects out ∙ sym (nodes-other node y objects (subst (λ (q : Id). is_namespace q.kind ≡ false) (exact_ids x.id y.id e) out))
+      | Greater ↦ λ e. onward (is_namespace y.id.kind) (namespaces-put node x objects out)
     ] refl
   where
-    onward : (b : Bool) → nodes ex all (put x objects) ≡ nodes ex all objects
-        → map (entry ex all) (cond b (y ∷ namespaces_in (put x objects)) (namespaces_in (put x objects))) ≡ map (entry ex all) (cond b (y ∷ namespaces_in objects) (namespaces_in objects))
-    onward true e = ap (λ (f : Forest). entry ex all y ∷ f) e
+    onward : (b : Bool) → nodes node (put x objects) ≡ nodes node objects
+        → map (entry node) (cond b (y ∷ namespaces_in (put x objects)) (namespaces_in (put x objects))) ≡ map (entry node) (cond b (y ∷ namespaces_in objects) (namespaces_in objects))
+    onward true e = ap (λ (f : Forest). entry node y ∷ f) e
     onward false e = e
 
-namespaces-cut : (ex : List (List ℕ)) (all : Objects) (id : Id) (objects : Objects) → is_namespace id.kind ≡ false → nodes ex all (cut id objects) ≡ nodes ex all objects
-namespaces-cut ex all id [] out = refl
-namespaces-cut ex all id (y ∷ objects) out =
-    elim (same_id id y.id) as (λ b. same_id id y.id ≡ b → nodes ex all (cond (not b) (y ∷ cut id objects) (cut id objects)) ≡ nodes ex all (y ∷ objects)) [
-      | true ↦ λ e. namespaces-cut ex all id objects out ∙ sym (nodes-other ex all y objects (subst (λ (q : Id). is_namespace q.kind ≡ false) (is_same_id id y.id e) out))
-      | false ↦ λ e. onward (is_namespace y.id.kind) (namespaces-cut ex all id objects out)
+pub namespaces-cut : (node : Object → Node) (id : Id) (objects : Objects) → is_namespace id.kind ≡ false → nodes node (cut id objects) ≡ nodes node objects
+namespaces-cut node id [] out = refl
+namespaces-cut node id (y ∷ objects) out =
+    elim (same_id id y.id) as (λ b. same_id id y.id ≡ b → nodes node (cond (not b) (y ∷ cut id objects) (cut id objects)) ≡ nodes node (y ∷ objects)) [
+      | true ↦ λ e. namespaces-cut node id objects out ∙ sym (nodes-other node y objects (subst (λ (q : Id). is_namespace q.kind ≡ false) (is_same_id id y.id e) out))
+      | false ↦ λ e. onward (is_namespace y.id.kind) (namespaces-cut node id objects out)
     ] refl
   where
-    onward : (b : Bool) → nodes ex all (cut id objects) ≡ nodes ex all objects
-        → map (entry ex all) (cond b (y ∷ namespaces_in (cut id objects)) (namespaces_in (cut id objects))) ≡ map (entry ex all) (cond b (y ∷ namespaces_in objects) (namespaces_in objects))
-    onward true e = ap (λ (f : Forest). entry ex all y ∷ f) e
+    onward : (b : Bool) → nodes node (cut id objects) ≡ nodes node objects
+        → map (entry node) (cond b (y ∷ namespaces_in (cut id objects)) (namespaces_in (cut id objects))) ≡ map (entry node) (cond b (y ∷ namespaces_in objects) (namespaces_in objects))
+    onward true e = ap (λ (f : Forest). entry node y ∷ f) e
     onward false e = e
 
 -- of an identity that no HierarchyConfiguration named `hierarchy` has
 same-put : (ex : List (List ℕ)) (x : Object) (objects : Objects) → is_namespace x.id.kind ≡ false → ((n : List ℕ) → same_id (hierarchy_id n) x.id ≡ false) → forest_in ex (put x objects) ≡ forest_in ex objects
 same-put ex x objects out other =
     nodes_alike ex objects (put x objects) (put x objects) (λ n. object_at-put x objects (hierarchy_id n) ∙ ap (λ b. cond b (Some x) (object_at objects (hierarchy_id n))) (other n))
-    ∙ namespaces-put ex objects x objects out
+    ∙ namespaces-put (node_in ex objects) x objects out
 
 same-cut : (ex : List (List ℕ)) (id : Id) (objects : Objects) → is_namespace id.kind ≡ false → ((n : List ℕ) → same_id (hierarchy_id n) id ≡ false) → forest_in ex (cut id objects) ≡ forest_in ex objects
 same-cut ex id objects out other =
     nodes_alike ex objects (cut id objects) (cut id objects) (λ n. object_at-cut id objects (hierarchy_id n) ∙ ap (λ b. cond b None (object_at objects (hierarchy_id n))) (other n))
-    ∙ namespaces-cut ex objects id objects out
+    ∙ namespaces-cut (node_in ex objects) id objects out
 
 -- an object that is neither a namespace nor a HierarchyConfiguration is put
 pub forest-put : (ex : List (List ℕ)) (x : Object) (objects : Objects) → is_namespace x.id.kind ≡ false → is_hierarchy x.id.kind ≡ false → forest_in ex (put x objects) ≡ forest_in ex objects
@@ -229,7 +231,7 @@ map_alike u v (y ∷ objects) agree =
 abbrev moved_entry : List (List ℕ) → Objects → List ℕ → Option (List ℕ) → Object → List ℕ × Node
 moved_entry ex all n parent y = (y.id.name, if bytes_eq n y.id.name then record (node_in ex all y) { parent = parent } else node_in ex all y)
 
-moved_map : (ex : List (List ℕ)) (all : Objects) (n : List ℕ) (parent : Option (List ℕ)) (xs : Objects) → map (moved_entry ex all n parent) xs ≡ with_parent n parent (map (entry ex all) xs)
+moved_map : (ex : List (List ℕ)) (all : Objects) (n : List ℕ) (parent : Option (List ℕ)) (xs : Objects) → map (moved_entry ex all n parent) xs ≡ with_parent n parent (map (entry (node_in ex all)) xs)
 moved_map ex all n parent [] = refl
 moved_map ex all n parent (y ∷ xs) = ap (λ (f : Forest). moved_entry ex all n parent y ∷ f) (moved_map ex all n parent xs)
 
@@ -257,16 +259,16 @@ module _ (ex : List (List ℕ)) (old new : Objects) (n : List ℕ) (found : Opti
     at_name y homed own is false other = refl
 
     moved : (objects : Objects) → AllByRecursion IsHomed objects → AllByRecursion (λ (y : Object). object_at old y.id ≡ Some y) objects
-        → AllByRecursion (λ (y : Object). is_namespace y.id.kind ≡ true → entry ex new y ≡ moved_entry ex old n after y) objects
+        → AllByRecursion (λ (y : Object). is_namespace y.id.kind ≡ true → entry (node_in ex new) y ≡ moved_entry ex old n after y) objects
     moved [] homes own = tt
     moved (y ∷ objects) homes own =
         (λ is i. (y.id.name, (ap (node_by ex y) (changed y.id.name) ∙ at_name y homes.0 own.0 is (bytes_eq n y.id.name) refl) i), moved objects homes.1 own.1)
 
-    with_found : ascends old ≡ true → AllByRecursion IsServed old → nodes ex new old ≡ with_parent n after (forest_in ex old)
-    with_found up served = map_alike (entry ex new) (moved_entry ex old n after) old (moved old (all_homed old served) (unique old up)) ∙ moved_map ex old n after (namespaces_in old)
+    with_found : ascends old ≡ true → AllByRecursion IsServed old → nodes (node_in ex new) old ≡ with_parent n after (forest_in ex old)
+    with_found up served = map_alike (entry (node_in ex new)) (moved_entry ex old n after) old (moved old (all_homed old served) (unique old up)) ∙ moved_map ex old n after (namespaces_in old)
 
   module _ (absent : object_at old (namespace_id n) ≡ None) where
-    unmoved : (objects : Objects) → AllByRecursion IsHomed objects → AllByRecursion (λ (y : Object). object_at old y.id ≡ Some y) objects → AllByRecursion (λ (y : Object). is_namespace y.id.kind ≡ true → entry ex new y ≡ entry ex old y) objects
+    unmoved : (objects : Objects) → AllByRecursion IsHomed objects → AllByRecursion (λ (y : Object). object_at old y.id ≡ Some y) objects → AllByRecursion (λ (y : Object). is_namespace y.id.kind ≡ true → entry (node_in ex new) y ≡ entry (node_in ex old) y) objects
     unmoved [] homes own = tt
     unmoved (y ∷ objects) homes own =
         (λ is i. (y.id.name, node_by ex y ((changed y.id.name ∙ ap (λ b. cond b found (object_at old (hierarchy_id y.id.name))) (apart is)) i)), unmoved objects homes.1 own.1)
@@ -274,8 +276,8 @@ module _ (ex : List (List ℕ)) (old new : Objects) (n : List ℕ) (found : Opti
         apart : is_namespace y.id.kind ≡ true → bytes_eq n y.id.name ≡ false
         apart is = false_from_ne_true (bytes_eq n y.id.name) (λ named. true≢false (ap is_some (sym (only y homes.0 own.0 is named) ∙ absent)))
 
-    without_home : ascends old ≡ true → AllByRecursion IsServed old → nodes ex new old ≡ forest_in ex old
-    without_home up served = map_alike (entry ex new) (entry ex old) old (unmoved old (all_homed old served) (unique old up))
+    without_home : ascends old ≡ true → AllByRecursion IsServed old → nodes (node_in ex new) old ≡ forest_in ex old
+    without_home up served = map_alike (entry (node_in ex new)) (entry (node_in ex old)) old (unmoved old (all_homed old served) (unique old up))
 
 changed-put : (x : Object) (objects : Objects) (n : List ℕ) → x.id ≡ hierarchy_id n → (m : List ℕ) → object_at (put x objects) (hierarchy_id m) ≡ cond (bytes_eq n m) (Some x) (object_at objects (hierarchy_id m))
 changed-put x objects n is m = object_at-put x objects (hierarchy_id m) ∙ ap (λ b. cond b (Some x) (object_at objects (hierarchy_id m))) (ap (same_id (hierarchy_id m)) is ∙ same_hierarchy m n)
@@ -286,20 +288,20 @@ changed-cut objects n m = object_at-cut (hierarchy_id n) objects (hierarchy_id m
 -- one is put, and sets the parent of its namespace
 pub forest-put_hierarchy : (ex : List (List ℕ)) (x : Object) (objects : Objects) (n : List ℕ) (home : Object) → x.id ≡ hierarchy_id n → object_at objects (namespace_id n) ≡ Some home → ascends objects ≡ true → AllByRecursion IsServed objects
     → forest_in ex (put x objects) ≡ with_parent n (or_else (subnamespace_parent home) (named_parent x)) (forest_in ex objects)
-forest-put_hierarchy ex x objects n home is there up served = namespaces-put ex (put x objects) x objects (ap (λ (q : Id). is_namespace q.kind) is) ∙ with_found ex objects (put x objects) n (Some x) (changed-put x objects n is) home there up served
+forest-put_hierarchy ex x objects n home is there up served = namespaces-put (node_in ex (put x objects)) x objects (ap (λ (q : Id). is_namespace q.kind) is) ∙ with_found ex objects (put x objects) n (Some x) (changed-put x objects n is) home there up served
 
 -- one is cut
 pub forest-cut_hierarchy : (ex : List (List ℕ)) (objects : Objects) (n : List ℕ) (home : Object) → object_at objects (namespace_id n) ≡ Some home → ascends objects ≡ true → AllByRecursion IsServed objects
     → forest_in ex (cut (hierarchy_id n) objects) ≡ with_parent n (or_else (subnamespace_parent home) None) (forest_in ex objects)
-forest-cut_hierarchy ex objects n home there up served = namespaces-cut ex (cut (hierarchy_id n) objects) (hierarchy_id n) objects refl ∙ with_found ex objects (cut (hierarchy_id n) objects) n None (changed-cut objects n) home there up served
+forest-cut_hierarchy ex objects n home there up served = namespaces-cut (node_in ex (cut (hierarchy_id n) objects)) (hierarchy_id n) objects refl ∙ with_found ex objects (cut (hierarchy_id n) objects) n None (changed-cut objects n) home there up served
 
 -- one without a namespace is put
 pub forest-put_stray : (ex : List (List ℕ)) (x : Object) (objects : Objects) (n : List ℕ) → x.id ≡ hierarchy_id n → object_at objects (namespace_id n) ≡ None → ascends objects ≡ true → AllByRecursion IsServed objects → forest_in ex (put x objects) ≡ forest_in ex objects
-forest-put_stray ex x objects n is absent up served = namespaces-put ex (put x objects) x objects (ap (λ (q : Id). is_namespace q.kind) is) ∙ without_home ex objects (put x objects) n (Some x) (changed-put x objects n is) absent up served
+forest-put_stray ex x objects n is absent up served = namespaces-put (node_in ex (put x objects)) x objects (ap (λ (q : Id). is_namespace q.kind) is) ∙ without_home ex objects (put x objects) n (Some x) (changed-put x objects n is) absent up served
 
 -- and is cut
 pub forest-cut_stray : (ex : List (List ℕ)) (objects : Objects) (n : List ℕ) → object_at objects (namespace_id n) ≡ None → ascends objects ≡ true → AllByRecursion IsServed objects → forest_in ex (cut (hierarchy_id n) objects) ≡ forest_in ex objects
-forest-cut_stray ex objects n absent up served = namespaces-cut ex (cut (hierarchy_id n) objects) (hierarchy_id n) objects refl ∙ without_home ex objects (cut (hierarchy_id n) objects) n None (changed-cut objects n) absent up served
+forest-cut_stray ex objects n absent up served = namespaces-cut (node_in ex (cut (hierarchy_id n) objects)) (hierarchy_id n) objects refl ∙ without_home ex objects (cut (hierarchy_id n) objects) n None (changed-cut objects n) absent up served
 
 -- ---- namespaces
 
@@ -313,48 +315,48 @@ is_less Equal e = absurd (true≢false (sym e))
 is_less Greater e = absurd (true≢false (sym e))
 
 -- a name that is less than all stands first
-with_least : (ex : List (List ℕ)) (all : Objects) (n : List ℕ) (node : Node) (objects : Objects) → AllByRecursion IsHomed objects → is_below_all (namespace_id n) objects ≡ true → with_node n node (nodes ex all objects) ≡ (n, node) ∷ nodes ex all objects
-with_least ex all n node [] homes low = refl
-with_least ex all n node (y ∷ objects) homes low =
+with_least : (node : Object → Node) (n : List ℕ) (own : Node) (objects : Objects) → AllByRecursion IsHomed objects → is_below_all (namespace_id n) objects ≡ true → with_node n own (nodes node objects) ≡ (n, own) ∷ nodes node objects
+with_least node n own [] homes low = refl
+with_least node n own (y ∷ objects) homes low =
     let parts = and_parts (is_lt (id_cmp (namespace_id n) y.id)) (is_below_all (namespace_id n) objects) low in
-    elim (is_namespace y.id.kind) as (λ b. is_namespace y.id.kind ≡ b → with_node n node (map (entry ex all) (cond b (y ∷ namespaces_in objects) (namespaces_in objects))) ≡ (n, node) ∷ map (entry ex all) (cond b (y ∷ namespaces_in objects) (namespaces_in objects))) [
+    elim (is_namespace y.id.kind) as (λ b. is_namespace y.id.kind ≡ b → with_node n own (map (entry node) (cond b (y ∷ namespaces_in objects) (namespaces_in objects))) ≡ (n, own) ∷ map (entry node) (cond b (y ∷ namespaces_in objects) (namespaces_in objects))) [
       | true ↦ λ is.
-          ap (λ o. by_order o ((n, node) ∷ entry ex all y ∷ nodes ex all objects) ((n, node) ∷ nodes ex all objects) (entry ex all y ∷ with_node n node (nodes ex all objects)))
+          ap (λ o. by_order o ((n, own) ∷ entry node y ∷ nodes node objects) ((n, own) ∷ nodes node objects) (entry node y ∷ with_node n own (nodes node objects)))
           (sym (name_cmp n y homes.0 is) ∙ is_less (id_cmp (namespace_id n) y.id) parts.0)
-      | false ↦ λ out. with_least ex all n node objects homes.1 parts.1
+      | false ↦ λ out. with_least node n own objects homes.1 parts.1
     ] refl
 
-module _ (ex : List (List ℕ)) (all : Objects) (x : Object) (home : x.id ≡ namespace_id x.id.name) where
+module _ (node : Object → Node) (x : Object) (home : x.id ≡ namespace_id x.id.name) where
   is_one : is_namespace x.id.kind ≡ true
   is_one = ap (λ (q : Id). is_namespace q.kind) home
 
   cmp_at : (y : Object) (o : Ordering) → IsHomed y → is_namespace y.id.kind ≡ true → id_cmp x.id y.id ≡ o → bytes_cmp x.id.name y.id.name ≡ o
   cmp_at y o homed is e = sym (name_cmp x.id.name y homed is) ∙ ap (λ (q : Id). id_cmp q y.id) (sym home) ∙ e
 
-  nodes-put : (objects : Objects) → ascends objects ≡ true → AllByRecursion IsHomed objects → nodes ex all (put x objects) ≡ with_node x.id.name (node_in ex all x) (nodes ex all objects)
-  nodes-put [] up homes = nodes-namespace ex all x [] is_one
+  pub nodes-put : (objects : Objects) → ascends objects ≡ true → AllByRecursion IsHomed objects → nodes node (put x objects) ≡ with_node x.id.name (node x) (nodes node objects)
+  nodes-put [] up homes = nodes-namespace node x [] is_one
   nodes-put (y ∷ objects) up homes =
       let parts = and_parts (is_below_all y.id objects) (ascends objects) up in
-      elim (id_cmp x.id y.id) as (λ o. id_cmp x.id y.id ≡ o → nodes ex all (by_order o (x ∷ y ∷ objects) (x ∷ objects) (y ∷ put x objects)) ≡ with_node x.id.name (node_in ex all x) (nodes ex all (y ∷ objects))) [
+      elim (id_cmp x.id y.id) as (λ o. id_cmp x.id y.id ≡ o → nodes node (by_order o (x ∷ y ∷ objects) (x ∷ objects) (y ∷ put x objects)) ≡ with_node x.id.name (node x) (nodes node (y ∷ objects))) [
         | Less ↦ λ e.
             let low : is_below_all x.id (y ∷ objects) ≡ true = and_from _ _ (ap is_lt e) (less_than_all x.id y.id objects e parts.0) in
-            nodes-namespace ex all x (y ∷ objects) is_one ∙ sym (with_least ex all x.id.name (node_in ex all x) (y ∷ objects) homes (subst (λ (q : Id). is_below_all q (y ∷ objects) ≡ true) home low))
+            nodes-namespace node x (y ∷ objects) is_one ∙ sym (with_least node x.id.name (node x) (y ∷ objects) homes (subst (λ (q : Id). is_below_all q (y ∷ objects) ≡ true) home low))
         | Equal ↦ λ e.
             let is : is_namespace y.id.kind ≡ true = subst (λ (q : Id). is_namespace q.kind ≡ true) (exact_ids x.id y.id e) is_one in
-            nodes-namespace ex all x objects is_one
-            ∙ sym (ap (with_node x.id.name (node_in ex all x)) (nodes-namespace ex all y objects is) ∙ steps y objects Equal (cmp_at y Equal homes.0 is e))
+            nodes-namespace node x objects is_one
+            ∙ sym (ap (with_node x.id.name (node x)) (nodes-namespace node y objects is) ∙ steps y objects Equal (cmp_at y Equal homes.0 is e))
         | Greater ↦ λ e.
             elim (is_namespace y.id.kind) as (λ b. is_namespace y.id.kind ≡ b
-            → map (entry ex all) (cond b (y ∷ namespaces_in (put x objects)) (namespaces_in (put x objects))) ≡ with_node x.id.name (node_in ex all x) (map (entry ex all) (cond b (y ∷ namespaces_in objects) (namespaces_in objects)))) [
-              | true ↦ λ is. ap (λ (f : Forest). entry ex all y ∷ f) (nodes-put objects parts.1 homes.1) ∙ sym (steps y objects Greater (cmp_at y Greater homes.0 is e))
+            → map (entry node) (cond b (y ∷ namespaces_in (put x objects)) (namespaces_in (put x objects))) ≡ with_node x.id.name (node x) (map (entry node) (cond b (y ∷ namespaces_in objects) (namespaces_in objects)))) [
+              | true ↦ λ is. ap (λ (f : Forest). entry node y ∷ f) (nodes-put objects parts.1 homes.1) ∙ sym (steps y objects Greater (cmp_at y Greater homes.0 is e))
               | false ↦ λ out. nodes-put objects parts.1 homes.1
             ] refl
       ] refl
     where
       steps : (y : Object) (objects : Objects) (o : Ordering) → bytes_cmp x.id.name y.id.name ≡ o
-          → with_node x.id.name (node_in ex all x) (entry ex all y ∷ nodes ex all objects)
-          ≡ by_order o ((x.id.name, node_in ex all x) ∷ entry ex all y ∷ nodes ex all objects) ((x.id.name, node_in ex all x) ∷ nodes ex all objects) (entry ex all y ∷ with_node x.id.name (node_in ex all x) (nodes ex all objects))
-      steps y objects o e = ap (λ p. by_order p ((x.id.name, node_in ex all x) ∷ entry ex all y ∷ nodes ex all objects) ((x.id.name, node_in ex all x) ∷ nodes ex all objects) (entry ex all y ∷ with_node x.id.name (node_in ex all x) (nodes ex all objects))) e
+          → with_node x.id.name (node x) (entry node y ∷ nodes node objects)
+          ≡ by_order o ((x.id.name, node x) ∷ entry node y ∷ nodes node objects) ((x.id.name, node x) ∷ nodes node objects) (entry node y ∷ with_node x.id.name (node x) (nodes node objects))
+      steps y objects o e = ap (λ p. by_order p ((x.id.name, node x) ∷ entry node y ∷ nodes node objects) ((x.id.name, node x) ∷ nodes node objects) (entry node y ∷ with_node x.id.name (node x) (nodes node objects))) e
 
 -- a namespace is put, and its node stands in its place
 pub forest-put_namespace : (ex : List (List ℕ)) (x : Object) (objects : Objects) → x.id ≡ namespace_id x.id.name → ascends objects ≡ true → AllByRecursion IsServed objects
@@ -362,7 +364,7 @@ pub forest-put_namespace : (ex : List (List ℕ)) (x : Object) (objects : Object
 forest-put_namespace ex x objects home up served =
     let out : is_hierarchy x.id.kind ≡ false = ap (λ (q : Id). is_hierarchy q.kind) home in
     nodes_alike ex objects (put x objects) (put x objects) (λ n. object_at-put x objects (hierarchy_id n) ∙ ap (λ b. cond b (Some x) (object_at objects (hierarchy_id n))) (not_a_hierarchy n x.id out))
-    ∙ nodes-put ex objects x home objects up (all_homed objects served)
+    ∙ nodes-put (node_in ex objects) x home objects up (all_homed objects served)
 
 -- to put what is there changes nothing
 pub put_there : (x : Object) (objects : Objects) → object_at objects x.id ≡ Some x → ascends objects ≡ true → put x objects ≡ objects
@@ -396,43 +398,43 @@ same_names n y homed is = sym (ap (same_id (namespace_id n)) (homed is))
 abbrev leaving_entry : List (List ℕ) → Objects → List ℕ → Object → List ℕ × Node
 leaving_entry ex all n y = (y.id.name, if bytes_eq n y.id.name then record (node_in ex all y) { terminating = true } else node_in ex all y)
 
-leaving_map : (ex : List (List ℕ)) (all : Objects) (n : List ℕ) (xs : Objects) → map (leaving_entry ex all n) xs ≡ with_terminating n (map (entry ex all) xs)
+leaving_map : (ex : List (List ℕ)) (all : Objects) (n : List ℕ) (xs : Objects) → map (leaving_entry ex all n) xs ≡ with_terminating n (map (entry (node_in ex all)) xs)
 leaving_map ex all n [] = refl
 leaving_map ex all n (y ∷ xs) = ap (λ (f : Forest). leaving_entry ex all n y ∷ f) (leaving_map ex all n xs)
 
 module _ (ex : List (List ℕ)) (all : Objects) (x old : Object) (home : x.id ≡ namespace_id x.id.name) (annotated : subnamespace_parent x ≡ subnamespace_parent old) (leaves : is_terminating x.payload ≡ true) where
   -- another namespace stays
-  stays : (y : Object) → IsHomed y → same_id x.id y.id ≡ false → is_namespace y.id.kind ≡ true → entry ex all y ≡ leaving_entry ex all x.id.name y
+  stays : (y : Object) → IsHomed y → same_id x.id y.id ≡ false → is_namespace y.id.kind ≡ true → entry (node_in ex all) y ≡ leaving_entry ex all x.id.name y
   stays y homed other is =
       let apart : bytes_eq x.id.name y.id.name ≡ false = same_names x.id.name y homed is ∙ ap (λ q. same_id q y.id) (sym home) ∙ other in
       ap (λ b. (y.id.name, if b then record (node_in ex all y) { terminating = true } else node_in ex all y)) (sym apart)
 
-  rest_stays : (objects : Objects) → is_below_all x.id objects ≡ true → AllByRecursion IsHomed objects → nodes ex all objects ≡ map (leaving_entry ex all x.id.name) (namespaces_in objects)
-  rest_stays objects low homes = map_alike (entry ex all) (leaving_entry ex all x.id.name) objects (each objects low homes)
+  rest_stays : (objects : Objects) → is_below_all x.id objects ≡ true → AllByRecursion IsHomed objects → nodes (node_in ex all) objects ≡ map (leaving_entry ex all x.id.name) (namespaces_in objects)
+  rest_stays objects low homes = map_alike (entry (node_in ex all)) (leaving_entry ex all x.id.name) objects (each objects low homes)
     where
-      each : (objects : Objects) → is_below_all x.id objects ≡ true → AllByRecursion IsHomed objects → AllByRecursion (λ (y : Object). is_namespace y.id.kind ≡ true → entry ex all y ≡ leaving_entry ex all x.id.name y) objects
+      each : (objects : Objects) → is_below_all x.id objects ≡ true → AllByRecursion IsHomed objects → AllByRecursion (λ (y : Object). is_namespace y.id.kind ≡ true → entry (node_in ex all) y ≡ leaving_entry ex all x.id.name y) objects
       each [] low homes = tt
       each (y ∷ objects) low homes =
           let parts = and_parts (is_lt (id_cmp x.id y.id)) (is_below_all x.id objects) low in
           (stays y homes.0 (false_from_ne_true (same_id x.id y.id) (λ h. true≢false (sym parts.0 ∙ ap is_lt (ap (id_cmp x.id) (sym (is_same_id x.id y.id h)) ∙ tied_itself id_total x.id)))), each objects parts.1 homes.1)
 
-  nodes-leave : (objects : Objects) → ascends objects ≡ true → AllByRecursion IsHomed objects → object_at objects x.id ≡ Some old → nodes ex all (put x objects) ≡ map (leaving_entry ex all x.id.name) (namespaces_in objects)
+  nodes-leave : (objects : Objects) → ascends objects ≡ true → AllByRecursion IsHomed objects → object_at objects x.id ≡ Some old → nodes (node_in ex all) (put x objects) ≡ map (leaving_entry ex all x.id.name) (namespaces_in objects)
   nodes-leave [] up homes there = absurd (let h = there in cc)
   nodes-leave (y ∷ objects) up homes there =
       let parts = and_parts (is_below_all y.id objects) (ascends objects) up in
-      elim (id_cmp x.id y.id) as (λ o. id_cmp x.id y.id ≡ o → nodes ex all (by_order o (x ∷ y ∷ objects) (x ∷ objects) (y ∷ put x objects)) ≡ map (leaving_entry ex all x.id.name) (namespaces_in (y ∷ objects))) [
+      elim (id_cmp x.id y.id) as (λ o. id_cmp x.id y.id ≡ o → nodes (node_in ex all) (by_order o (x ∷ y ∷ objects) (x ∷ objects) (y ∷ put x objects)) ≡ map (leaving_entry ex all x.id.name) (namespaces_in (y ∷ objects))) [
         | Less ↦ λ e. absurd (none_some (sym (none_below x.id (y ∷ objects) (and_from _ _ (ap is_lt e) (less_than_all x.id y.id objects e parts.0))) ∙ there))
         | Equal ↦ λ e.
             let same : x.id ≡ y.id = exact_ids x.id y.id e in
             let found : y ≡ old = some_same y old (sym (ap (λ b. cond b (Some y) (object_at objects x.id)) (same_from_Equal x.id y.id e)) ∙ there) in
             let is : is_namespace y.id.kind ≡ true = subst (λ (q : Id). is_namespace q.kind ≡ true) same (ap (λ (q : Id). is_namespace q.kind) home) in
             let named : bytes_eq x.id.name y.id.name ≡ true = (bytes_eq-Decides x.id.name y.id.name).1 (ap (λ (q : Id). q.name) same) in
-            nodes-namespace ex all x objects (ap (λ (q : Id). is_namespace q.kind) home)
+            nodes-namespace (node_in ex all) x objects (ap (λ (q : Id). is_namespace q.kind) home)
             ∙ (λ i. head y same found named i ∷ rest_stays objects (subst (λ (q : Id). is_below_all q objects ≡ true) (sym same) parts.0) homes.1 i)
             ∙ sym (ap (λ b. map (leaving_entry ex all x.id.name) (cond b (y ∷ namespaces_in objects) (namespaces_in objects))) is)
         | Greater ↦ λ e.
             elim (is_namespace y.id.kind) as (λ b. is_namespace y.id.kind ≡ b
-            → map (entry ex all) (cond b (y ∷ namespaces_in (put x objects)) (namespaces_in (put x objects))) ≡ map (leaving_entry ex all x.id.name) (cond b (y ∷ namespaces_in objects) (namespaces_in objects))) [
+            → map (entry (node_in ex all)) (cond b (y ∷ namespaces_in (put x objects)) (namespaces_in (put x objects))) ≡ map (leaving_entry ex all x.id.name) (cond b (y ∷ namespaces_in objects) (namespaces_in objects))) [
               | true ↦ λ is. λ i. stays y homes.0 (apart y e) is i ∷ nodes-leave objects parts.1 homes.1 (onward y objects (apart y e) there) i
               | false ↦ λ out. nodes-leave objects parts.1 homes.1 (onward y objects (apart y e) there)
             ] refl
@@ -453,7 +455,7 @@ module _ (ex : List (List ℕ)) (all : Objects) (x old : Object) (home : x.id �
       onward : (y : Object) (objects : Objects) → same_id x.id y.id ≡ false → object_at (y ∷ objects) x.id ≡ Some old → object_at objects x.id ≡ Some old
       onward y objects other e = ap (λ b. cond b (Some y) (object_at objects x.id)) (sym other) ∙ e
 
-      head : (y : Object) → x.id ≡ y.id → y ≡ old → bytes_eq x.id.name y.id.name ≡ true → entry ex all x ≡ leaving_entry ex all x.id.name y
+      head : (y : Object) → x.id ≡ y.id → y ≡ old → bytes_eq x.id.name y.id.name ≡ true → entry (node_in ex all) x ≡ leaving_entry ex all x.id.name y
       head y same found named =
           (λ i. ((same i).name, record { parent = or_else ((annotated ∙ ap subnamespace_parent (sym found)) i) (option_and_then named_parent (object_at all (hierarchy_id ((same i).name)))); terminating = leaves i; excluded = is_in ((same i).name) ex }))
           ∙ ap (λ b. (y.id.name, if b then record (node_in ex all y) { terminating = true } else node_in ex all y)) (sym named)
@@ -466,24 +468,24 @@ forest-put_terminating ex x old objects home there annotated leaves up served =
     ∙ nodes-leave ex objects x old home annotated leaves objects up (all_homed objects served) there
     ∙ leaving_map ex objects x.id.name (namespaces_in objects)
 
-nodes-cut : (ex : List (List ℕ)) (all : Objects) (n : List ℕ) (objects : Objects) → AllByRecursion IsHomed objects → nodes ex all (cut (namespace_id n) objects) ≡ without_node n (nodes ex all objects)
-nodes-cut ex all n [] homes = refl
-nodes-cut ex all n (y ∷ objects) homes =
-    elim (is_namespace y.id.kind) as (λ b. is_namespace y.id.kind ≡ b → nodes ex all (cut (namespace_id n) (y ∷ objects)) ≡ without_node n (map (entry ex all) (cond b (y ∷ namespaces_in objects) (namespaces_in objects)))) [
-      | true ↦ λ is. ap (λ t. nodes ex all (cond (not t) (y ∷ cut (namespace_id n) objects) (cut (namespace_id n) objects))) (sym (same_names n y homes.0 is)) ∙ kept is (bytes_eq n y.id.name) (nodes-cut ex all n objects homes.1)
-      | false ↦ λ out. ap (λ t. nodes ex all (cond (not t) (y ∷ cut (namespace_id n) objects) (cut (namespace_id n) objects))) (not_a_namespace n y.id out) ∙ nodes-other ex all y (cut (namespace_id n) objects) out ∙ nodes-cut ex all n objects homes.1
+pub nodes-cut : (node : Object → Node) (n : List ℕ) (objects : Objects) → AllByRecursion IsHomed objects → nodes node (cut (namespace_id n) objects) ≡ without_node n (nodes node objects)
+nodes-cut node n [] homes = refl
+nodes-cut node n (y ∷ objects) homes =
+    elim (is_namespace y.id.kind) as (λ b. is_namespace y.id.kind ≡ b → nodes node (cut (namespace_id n) (y ∷ objects)) ≡ without_node n (map (entry node) (cond b (y ∷ namespaces_in objects) (namespaces_in objects)))) [
+      | true ↦ λ is. ap (λ t. nodes node (cond (not t) (y ∷ cut (namespace_id n) objects) (cut (namespace_id n) objects))) (sym (same_names n y homes.0 is)) ∙ kept is (bytes_eq n y.id.name) (nodes-cut node n objects homes.1)
+      | false ↦ λ out. ap (λ t. nodes node (cond (not t) (y ∷ cut (namespace_id n) objects) (cut (namespace_id n) objects))) (not_a_namespace n y.id out) ∙ nodes-other node y (cut (namespace_id n) objects) out ∙ nodes-cut node n objects homes.1
     ] refl
   where
-    kept : is_namespace y.id.kind ≡ true → (t : Bool) → nodes ex all (cut (namespace_id n) objects) ≡ without_node n (nodes ex all objects)
-        → nodes ex all (cond (not t) (y ∷ cut (namespace_id n) objects) (cut (namespace_id n) objects)) ≡ cond (not t) (entry ex all y ∷ without_node n (nodes ex all objects)) (without_node n (nodes ex all objects))
+    kept : is_namespace y.id.kind ≡ true → (t : Bool) → nodes node (cut (namespace_id n) objects) ≡ without_node n (nodes node objects)
+        → nodes node (cond (not t) (y ∷ cut (namespace_id n) objects) (cut (namespace_id n) objects)) ≡ cond (not t) (entry node y ∷ without_node n (nodes node objects)) (without_node n (nodes node objects))
     kept is true rest = rest
-    kept is false rest = nodes-namespace ex all y (cut (namespace_id n) objects) is ∙ ap (λ (f : Forest). entry ex all y ∷ f) rest
+    kept is false rest = nodes-namespace node y (cut (namespace_id n) objects) is ∙ ap (λ (f : Forest). entry node y ∷ f) rest
 
 -- a namespace is cut, and takes its node along
 pub forest-cut_namespace : (ex : List (List ℕ)) (n : List ℕ) (objects : Objects) → AllByRecursion IsServed objects → forest_in ex (cut (namespace_id n) objects) ≡ without_node n (forest_in ex objects)
 forest-cut_namespace ex n objects served =
     nodes_alike ex objects (cut (namespace_id n) objects) (cut (namespace_id n) objects) (λ m. object_at-cut (namespace_id n) objects (hierarchy_id m) ∙ ap (λ b. cond b None (object_at objects (hierarchy_id m))) (not_a_hierarchy m (namespace_id n) refl))
-    ∙ nodes-cut ex objects n objects (all_homed objects served)
+    ∙ nodes-cut (node_in ex objects) n objects (all_homed objects served)
 
 -- ---- as rulings have it
 

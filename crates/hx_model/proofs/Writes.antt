@@ -52,7 +52,7 @@ valid_after s [] valid may = valid
 valid_after s (w ∷ ws) valid may = record {
   in_order = ascends_after (w ∷ ws) s.objects valid.in_order;
   stored = stored_after s (w ∷ ws) s.objects may.each (stored_next s.last s.objects valid.stored);
-  housed = housed_after s (w ∷ ws) s.objects may.each (λ id home. home) valid.housed;
+  housed = housed_after s (w ∷ ws) may valid.housed;
   fits = let less : s.last + 1 ≤ greatest_version = omega (arith, may.fits (λ none. cc)) in less;
 }
 

@@ -7,7 +7,7 @@
 --     writes_of         what an ask changes where nothing refuses it
 --     selected          the objects of a list, in order
 --     answer_to         the answer and the next state. A refusal and a read leave the state
-use Rattle.std.specs.Prelude.{◌≡◌, ◌≢◌, ℕ, ◌+◌, Bool, true, false, not, ◌&&◌, ◌||◌, ◌==◌, nat_lt, nat_le, is_some, is_none, List, [], ◌∷◌, filter, Option, Some, None, if◌then◌else◌, option_map, option_and_then}
+use Rattle.std.specs.Prelude.{◌≡◌, ◌≢◌, ℕ, ◌+◌, Bool, true, false, not, ◌&&◌, ◌||◌, ◌==◌, nat_lt, nat_le, is_some, is_none, List, [], ◌∷◌, filter, map, Option, Some, None, if◌then◌else◌, option_map, option_and_then}
 use Rattle.std.specs.Option.{option_map_or}
 use Rattle.std.specs.Str.{bytes_eq}
 use Rattle.hx_object.specs.Kinds.{number_of, is_in_cluster}
@@ -31,13 +31,14 @@ use Rattle.hx_model.specs.declared.key.Write.{Write}
 use Rattle.hx_model.specs.declared.key.Write.TheVariants.{Put, Cut}
 use Rattle.hx_model.specs.First.{so, first}
 use Rattle.hx_model.specs.Limits.{is_namespace, is_anchor, is_named, counts, names_in, objects_in, bytes_in, most_names, most_objects, most_bytes, greatest_version}
-use Rattle.hx_model.specs.Cases.{Case}
+use Rattle.hx_model.specs.Cases.{Case, Family}
 use Rattle.hx_model.specs.Denials.{refusal_by}
 use Rattle.hx_model.specs.Conflicts.{with_written, makes_conflict}
 use Rattle.hx_model.specs.Modes.{config_id}
 use Rattle.hx_model.specs.Rules.{rules}
-use Rattle.hx_model.specs.Tree.{forest_of}
-use Rattle.hx_model.specs.State.{State, Objects, object_at, home_in, with_version, after_writes, state_after}
+use Rattle.hx_model.specs.Subnamespaces.{is_anchored, is_owned_by, is_reached, has_followers, has_children, cascades}
+use Rattle.hx_model.specs.Tree.{forest_of, namespaces_in, is_terminating}
+use Rattle.hx_model.specs.State.{State, Objects, object_at, namespace_id, home_in, with_version, after_writes, state_after}
 
 -- ---- what an ask changes
 
@@ -62,13 +63,39 @@ abbrev pub replacing : Option Object → Object → ℕ → List Write
 replacing None x version = []
 replacing (Some old) x version = if same_object (replaced_by old x) old then [] else Put (with_version (replaced_by old x) version) ∷ []
 
+-- a namespace on its way out
+abbrev pub ended : ℕ → Object → Object
+ended version x = record x { payload = NamespaceOf true; version = version }
+
+-- a namespace goes with n, and isn't on its way out yet
+abbrev pub begins_to_leave : State → List ℕ → Object → Bool
+begins_to_leave s n x = not (is_terminating x.payload) && is_reached s n x.id.name
+
+-- those that go with n are on their way out from now on
+abbrev pub ending : State → List ℕ → List Write
+ending s n = map (λ x. Put (ended (s.last + 1) x)) (filter (begins_to_leave s n) (namespaces_in s.objects))
+
+-- the subnamespace that an anchor asked for goes with the anchor, where it is one of the anchor's namespace
+abbrev pub owns_named : State → Id → Bool
+owns_named s id = option_map_or (is_owned_by id.ns) (object_at s.objects (namespace_id id.name)) false
+
+-- a namespace is on its way out
+abbrev pub is_ended : Option Object → Bool
+is_ended found = option_map_or (λ (x : Object). is_terminating x.payload) found false
+
+-- What a DELETE changes. A namespace begins to leave, and all that go with it, unless it does already; it is removed once nothing lies in it. An anchor goes at once
+abbrev pub deleting : State → Id → Bool → List Write
+deleting s id skip =
+    if is_namespace id.kind then (if is_ended (object_at s.objects id) then [] else ending s id.name) else (
+    if is_anchor id.kind && (not skip && owns_named s id) then Cut id ∷ ending s id.name else Cut id ∷ [])
+
 -- what an ask changes. Every object that it puts has the new version
 abbrev pub writes_of : State → Ask → List Write
 writes_of s (Get id) = []
 writes_of s (ListOf kind ns selector) = []
 writes_of s (Create x skip) = Put (with_version x (s.last + 1)) ∷ []
 writes_of s (Replace x expected skip) = replacing (object_at s.objects x.id) x (s.last + 1)
-writes_of s (Delete id skip) = Cut id ∷ []
+writes_of s (Delete id skip) = deleting s id skip
 
 -- ---- refusals
 
@@ -99,9 +126,19 @@ abbrev pub version_refusal : State → Ask → Option Refusal
 version_refusal s (Replace x expected skip) = other_version expected (object_at s.objects x.id)
 version_refusal s _ = None
 
+-- what the rules on removals and on anchors look at besides
+abbrev pub family_of : State → List ℕ → Family
+family_of s n = record {
+  named = object_at s.objects (namespace_id n);
+  anchored = option_map_or (is_anchored s.objects) (object_at s.objects (namespace_id n)) false;
+  has_children = has_children (forest_of s) n;
+  has_followers = has_followers s n;
+  cascades = cascades s n;
+}
+
 -- what the rules look at, by the identity, what is there and what is given
 abbrev pub case_at : State → Id → Option Object → Option Object → Bool → Case
-case_at s id old new skip = record { id = id; old = old; new = new; home = home_in s.objects id; hnc_config = object_at s.objects config_id; conflict = makes_conflict s (with_written s id new); tree = forest_of s; config = s.config; skip = skip }
+case_at s id old new skip = record { id = id; old = old; new = new; home = home_in s.objects id; hnc_config = object_at s.objects config_id; conflict = makes_conflict s (with_written s id new); family = family_of s id.name; tree = forest_of s; config = s.config; skip = skip }
 
 -- the case of a write or a removal
 abbrev pub case_of : State → Ask → Option Case

@@ -18,8 +18,10 @@ pub mod Conflicts
 pub mod Moves
 pub mod Denials
 pub mod Cases
+pub mod Subnamespaces
 pub mod RulesNamespace
 pub mod RulesHierarchy
+pub mod RulesAnchors
 pub mod RulesConfig
 pub mod RulesCopies
 pub mod Rules

@@ -17,7 +17,7 @@ use Rattle.hx_model.specs.declared.reason.Reason.{Reason}
 use Rattle.hx_model.specs.declared.reason.Reason.TheVariants as of
 use Rattle.hx_model.specs.declared.reason.Reason.TheVariants.{BadRequest, Forbidden, MethodNotAllowed, AlreadyExists, Conflict, RequestEntityTooLarge, Invalid, InternalError, NotImplemented, ServiceUnavailable, InsufficientStorage}
 use Rattle.hx_model.specs.declared.rule.Rule.{Rule}
-use Rattle.hx_model.specs.declared.rule.Rule.TheVariants.{X1, H7, C1, O1, N3, H1, H2, H3, H4, H5, H6, H8, C2, C3, C4, C6, C5, O3, O2, L1, L2, L3, L4}
+use Rattle.hx_model.specs.declared.rule.Rule.TheVariants.{X1, N4, H7, C1, O1, N3, H1, H2, H3, H4, H5, H6, H8, C2, C3, C4, C6, C5, A2, A1, A4, A3, N1, N2, O3, O2, L1, L2, L3, L4}
 use Rattle.hx_model.specs.declared.refusal.Refusal.{Refusal}
 use Rattle.hx_model.specs.declared.refusal.Refusal.TheVariants.{BadLine, BadPath, BadQuery, NotJson, NotWhole, NotKind, OtherPlace, Broken, NoPath, NotFound, NoMethod, Exists, OtherVersion, TooLong, Missing, WrongType, BadName, BadLabel, TooManyLabels, TooLarge, StoreFailed, NotServed, NoMemory}
 
@@ -59,6 +59,7 @@ rule_as name reason message = record { name = codes name; reason = reason; messa
 -- a rule of admission forbids, and a limit of the store says that there is no room
 abbrev pub rule_row : Rule → RuleRow
 rule_row X1 = rule_as "X1" Forbidden "skipping admission is not allowed"
+rule_row N4 = rule_as "N4" Forbidden "the namespace is terminating"
 rule_row H7 = rule_as "H7" Forbidden "the name must be hierarchy"
 rule_row C1 = rule_as "C1" Forbidden "the name must be config"
 rule_row O1 = rule_as "O1" Forbidden "propagated copies cannot be made or changed"
@@ -75,6 +76,12 @@ rule_row C3 = rule_as "C3" Forbidden "the resource is named twice"
 rule_row C4 = rule_as "C4" Forbidden "the mode of this resource is fixed"
 rule_row C6 = rule_as "C6" Forbidden "the resource cannot be propagated"
 rule_row C5 = rule_as "C5" Forbidden "a source would be overwritten"
+rule_row A2 = rule_as "A2" Forbidden "the namespace is excluded"
+rule_row A1 = rule_as "A1" Forbidden "the namespace exists elsewhere"
+rule_row A4 = rule_as "A4" Forbidden "the tree would be deeper than 64"
+rule_row A3 = rule_as "A3" Forbidden "the subnamespace has children"
+rule_row N1 = rule_as "N1" Forbidden "delete the anchor instead"
+rule_row N2 = rule_as "N2" Forbidden "cascading deletion is not allowed"
 rule_row O3 = rule_as "O3" Forbidden "the exception is not valid"
 rule_row O2 = rule_as "O2" Forbidden "a source would overwrite or be overwritten"
 rule_row L1 = rule_as "L1" InsufficientStorage "too many namespaces"

@@ -1,12 +1,13 @@
 -- What is served so far.
---     is_written       the kinds whose objects may be stored: anchors, quotas, Pods and claims aren't yet
---     is_given         a payload that requests give: what reconcilers report isn't stored yet
+--     is_written       the kinds whose objects may be stored: quotas, Pods and claims aren't yet
+--     is_given         a payload that requests give: no namespace that is on its way out, and nothing that reconcilers report
+--     is_kept          a payload that may be stored: what is reported of hierarchies and quotas isn't yet
 --     is_text_or_none  a text, or none
 --     has_type         the type of a Secret is a text, where it has one
 --     is_typed         the same of what is kept of it
---     IsGiven          an object of such a payload, whose type is a text if it has one, and whose labels and annotations are in order
+--     IsGiven, IsKept  an object of such a payload, whose type is a text if it has one, and whose labels and annotations are in order
 --     IsServed         an object that may be stored
---     IsServedAsk      an ask that a cluster takes. No namespace is removed yet
+--     IsServedAsk      an ask that a cluster takes
 --     IsLegalAnswer    an answer whose objects are legal
 use Rattle.std.specs.Prelude.{◌≡◌, Bool, true, false, not, [], Option, Some, None, codes}
 use Rattle.std.specs.List.{AllByRecursion, list_all}
@@ -17,7 +18,7 @@ use Rattle.serde_json.specs.Read.{read}
 use Rattle.hx_object.specs.Faults.{IsLegal}
 use Rattle.hx_object.specs.Pairs.{has_ascending_keys}
 use Rattle.hx_object.specs.declared.kind.Kind.{Kind}
-use Rattle.hx_object.specs.declared.kind.Kind.TheVariants.{SubnamespaceAnchor, HierarchicalResourceQuota, Secret, Pod, PersistentVolumeClaim}
+use Rattle.hx_object.specs.declared.kind.Kind.TheVariants.{HierarchicalResourceQuota, Secret, Pod, PersistentVolumeClaim}
 use Rattle.hx_object.specs.declared.object.Mode.{Mode}
 use Rattle.hx_object.specs.declared.object.Mode.TheVariants.{AllowPropagate}
 use Rattle.hx_object.specs.declared.object.ModeEntry.{ModeEntry}
@@ -28,11 +29,9 @@ use Rattle.hx_model.specs.declared.ask.Ask.{Ask}
 use Rattle.hx_model.specs.declared.ask.Ask.TheVariants.{Get, List as ListOf, Create, Replace, Delete}
 use Rattle.hx_model.specs.declared.ask.Answer.{Answer}
 use Rattle.hx_model.specs.declared.ask.Answer.TheVariants.{One, Many, Gone, Refused}
-use Rattle.hx_model.specs.Limits.{is_namespace}
 
 -- objects of these kinds may be stored
 abbrev pub is_written : Kind → Bool
-is_written SubnamespaceAnchor = false
 is_written HierarchicalResourceQuota = false
 is_written Pod = false
 is_written PersistentVolumeClaim = false
@@ -43,7 +42,7 @@ abbrev pub is_given_mode : Mode → Bool
 is_given_mode AllowPropagate = false
 is_given_mode _ = true
 
--- A payload that a request gives: no status but that of a namespace that stays, and modes that bodies may name. What reconcilers report comes with them
+-- A payload that a request gives: no status but that of a namespace that stays, and modes that bodies may name
 abbrev pub is_given : Payload → Bool
 is_given (NamespaceOf terminating) = not terminating
 is_given (Config entries) = list_all (λ (e : ModeEntry). is_given_mode e.mode) entries
@@ -54,6 +53,17 @@ is_given (Anchor status) = false
 is_given (Quota hard []) = true
 is_given (Quota hard status) = false
 is_given (Plain members need) = true
+
+-- A payload that may be stored: modes that bodies may name. What reconcilers report of hierarchies and quotas comes with them
+abbrev pub is_kept : Payload → Bool
+is_kept (NamespaceOf terminating) = true
+is_kept (Config entries) = list_all (λ (e : ModeEntry). is_given_mode e.mode) entries
+is_kept (Hierarchy parent cascade [] []) = true
+is_kept (Hierarchy parent cascade children conditions) = false
+is_kept (Anchor status) = true
+is_kept (Quota hard []) = true
+is_kept (Quota hard status) = false
+is_kept (Plain members need) = true
 
 -- a text, or none: null counts as none
 abbrev pub is_text_or_none : Option Data → Bool
@@ -79,19 +89,26 @@ pub record IsGiven (x : Object) : Type 0 where
   pub payload : is_given x.payload ≡ true
   pub typed : is_typed x.id.kind x.payload ≡ true
 
--- a legal object of such a kind, as requests give them
+-- the same of one that may be stored
+pub record IsKept (x : Object) : Type 0 where
+  pub labels : has_ascending_keys x.labels ≡ true
+  pub annotations : has_ascending_keys x.annotations ≡ true
+  pub payload : is_kept x.payload ≡ true
+  pub typed : is_typed x.id.kind x.payload ≡ true
+
+-- a legal object of such a kind
 pub record IsServed (x : Object) : Type 0 where
   pub legal : IsLegal x
   pub written : is_written x.id.kind ≡ true
-  pub given : IsGiven x
+  pub kept : IsKept x
 
--- an object that is to be stored is served, and has no version yet
+-- an object that is to be stored is one that requests give, and has no version yet
 abbrev pub IsServedAsk : Ask → Type 0
 IsServedAsk (Get id) = Unit {0}
 IsServedAsk (ListOf kind ns selector) = Unit {0}
-IsServedAsk (Create x skip) = IsServed x × (x.version ≡ 0)
-IsServedAsk (Replace x expected skip) = IsServed x × (x.version ≡ 0)
-IsServedAsk (Delete id skip) = is_namespace id.kind ≡ false
+IsServedAsk (Create x skip) = IsServed x × (is_given x.payload ≡ true) × (x.version ≡ 0)
+IsServedAsk (Replace x expected skip) = IsServed x × (is_given x.payload ≡ true) × (x.version ≡ 0)
+IsServedAsk (Delete id skip) = Unit {0}
 
 -- the objects of an answer are legal
 abbrev pub IsLegalAnswer : Answer → Type 0

@@ -1,21 +1,25 @@
--- When a state is settled: each namespace that takes part holds exactly the copies and the tree labels that its place prescribes.
+-- When a state is settled: no namespace is on its way out, each that takes part holds exactly the copies and the tree labels that its place prescribes, and each anchor has its subnamespace and its status.
 --     HasTreeLabels s n x  a namespace has the labels that its chain prescribes
 --     IsKeptIn             what lies in a place of copies, by the mode of the kind: the copy of the source that wins, or else no copy
---     IsSettled s          so it is in each namespace that takes part
+--     HasChild, HasStatus  an anchor in a namespace that takes part has its subnamespace;  each anchor has its status
+--     IsSettled s          so it is in each namespace
 -- Objects are compared without their versions. What is ignored is left alone.
-use Rattle.std.specs.Prelude.{◌≡◌, ℕ, true, false, List, Option, Some, None, IfSome}
+use Rattle.std.specs.Prelude.{◌≡◌, ℕ, true, false, List, Option, Some, None, IfSome, is_some}
 use Rattle.hx_object.specs.Kinds.{can_be_copied}
 use Rattle.hx_object.specs.declared.kind.Kind.{Kind}
 use Rattle.hx_object.specs.declared.object.Mode.{Mode}
 use Rattle.hx_object.specs.declared.object.Mode.TheVariants.{Propagate, AllowPropagate, Remove, Ignore}
 use Rattle.hx_object.specs.declared.object.Object.{Object}
-use Rattle.hx_model.specs.Forest.{chain_of}
+use Rattle.hx_object.specs.declared.object.Payload.TheVariants.{Anchor}
+use Rattle.hx_model.specs.Forest.{chain_of, is_in}
 use Rattle.hx_model.specs.Limits.{is_copy}
 use Rattle.hx_model.specs.Modes.{mode_of}
 use Rattle.hx_model.specs.Propagation.{copy_of, id_in, top_source}
 use Rattle.hx_model.specs.State.{State, object_at, namespace_id, with_version}
-use Rattle.hx_model.specs.Tree.{forest_of}
+use Rattle.hx_model.specs.Subnamespaces.{anchor_id}
+use Rattle.hx_model.specs.Tree.{forest_of, is_terminating}
 use Rattle.hx_model.specs.TreeLabels.{is_open, prescribed_labels}
+use Rattle.hx_model.specs.Wanted.{anchor_status}
 
 -- ---- places of copies
 
@@ -49,6 +53,19 @@ pub record IsSettledIn (s : State) (n : List ℕ) (x : Object) : Type 0 where
   pub labels : HasTreeLabels s n x
   pub copies : HasCopies s n x
 
--- each namespace that takes part
-abbrev pub IsSettled : State → Type 0
-IsSettled s = (n : List ℕ) (x : Object) → object_at s.objects (namespace_id n) ≡ Some x → is_open (forest_of s) n ≡ true → IsSettledIn s n x
+-- ---- anchors
+
+-- where its namespace takes part and its name isn't excluded, a namespace of its name is there
+abbrev pub HasChild : State → List ℕ → List ℕ → Type 0
+HasChild s n m = is_open (forest_of s) n ≡ true → is_in m s.config.excluded ≡ false → is_some (object_at s.objects (namespace_id m)) ≡ true
+
+-- its status is the one that its name has
+abbrev pub HasStatus : State → List ℕ → List ℕ → Object → Type 0
+HasStatus s n m x = x.payload ≡ Anchor (Some (anchor_status s n m))
+
+-- no namespace is on its way out, and it is so in each that takes part, and for each anchor
+pub record IsSettled (s : State) : Type 0 where
+  pub none_leaving : (n : List ℕ) (x : Object) → object_at s.objects (namespace_id n) ≡ Some x → is_terminating x.payload ≡ false
+  pub places : (n : List ℕ) (x : Object) → object_at s.objects (namespace_id n) ≡ Some x → is_open (forest_of s) n ≡ true → IsSettledIn s n x
+  pub children : (n m : List ℕ) (x : Object) → object_at s.objects (anchor_id n m) ≡ Some x → HasChild s n m
+  pub statuses : (n m : List ℕ) (x : Object) → object_at s.objects (anchor_id n m) ≡ Some x → HasStatus s n m x

@@ -10,6 +10,7 @@
 --     home_in objects id the namespace that an identity lies in, where its kind has one
 --     has_home objects id  that namespace is there, or the kind has none
 --     with_version            an object with another version
+--     lies_in n id, least_in objects n   an identity lies in a namespace;  the first of the objects that do
 --     state_after        the state after a write: one new version for all that it changes
 use Rattle.std.specs.Prelude.{ℕ, ◌+◌, Bool, true, not, ◌&&◌, ◌||◌, ◌==◌, is_some, List, [], ◌∷◌, filter, find, Option, Some, None, option_and_then, if◌then◌else◌}
 use Rattle.std.specs.Ordering.{is_lt}
@@ -83,6 +84,14 @@ home_in objects id = option_and_then (object_at objects) (home_id id)
 -- that namespace is there, or the identity is of a kind that lies in none
 abbrev pub has_home : Objects → Id → Bool
 has_home objects id = is_in_cluster id.kind || is_some (home_in objects id)
+
+-- an identity lies in a namespace
+abbrev pub lies_in : List ℕ → Id → Bool
+lies_in n id = not (is_in_cluster id.kind) && bytes_eq n id.ns
+
+-- the first object that lies in a namespace
+abbrev pub least_in : Objects → List ℕ → Option Object
+least_in objects n = find (λ (x : Object). lies_in n x.id) objects
 
 -- the object with another version
 abbrev pub with_version : Object → ℕ → Object

@@ -1,21 +1,29 @@
 -- What the keys of reconcilers prescribe: for each at most one write, by the state as it is.
 --     wanted_copy, wanted_tree     the write of a place of copies;  of a namespace's tree labels
---     wanted_write s key           the write of a key. The keys of reports, subnamespaces, anchors, quotas and removals want nothing yet
+--     wanted_child, wanted_anchor  of the subnamespace that an anchor asks for;  of an anchor's status
+--     wanted_purge                 of a namespace that is on its way out: its objects go one by one, and then the namespace
+--     wanted_write s key           the write of a key. The keys of reports and of quotas want nothing yet
 --     guards_of s key              the identities that the write rests on, each with its version or absent
 -- Objects are compared without their versions, and a write that would change nothing is none. What is put has no version yet.
-use Rattle.std.specs.Prelude.{ℕ, Bool, not, List, [], ◌∷◌, Option, Some, None, option_map, if◌then◌else◌}
+use Rattle.std.specs.Prelude.{ℕ, Bool, false, not, ◌&&◌, ◌||◌, is_some, List, [], ◌∷◌, Option, Some, None, option_map, if◌then◌else◌}
+use Rattle.hx_object.specs.WellKnown.{subnamespace_of}
 use Rattle.hx_object.specs.declared.kind.Kind.{Kind}
+use Rattle.hx_object.specs.declared.object.AnchorStatus.{AnchorStatus}
+use Rattle.hx_object.specs.declared.object.AnchorStatus.TheVariants.{Missing, Ok, Conflict, Forbidden}
 use Rattle.hx_object.specs.declared.object.Id.{Id}
 use Rattle.hx_object.specs.declared.object.Mode.{Mode}
 use Rattle.hx_object.specs.declared.object.Mode.TheVariants.{Propagate, AllowPropagate, Remove, Ignore}
 use Rattle.hx_object.specs.declared.object.Object.{Object}
+use Rattle.hx_object.specs.declared.object.Payload.TheVariants.{Namespace as NamespaceOf, Anchor}
 use Rattle.hx_model.specs.Answers.{same_object}
 use Rattle.hx_model.specs.First.{so}
-use Rattle.hx_model.specs.Forest.{chain_of}
+use Rattle.hx_model.specs.Forest.{chain_of, is_in, is_live}
 use Rattle.hx_model.specs.Limits.{is_copy}
 use Rattle.hx_model.specs.Modes.{mode_of}
 use Rattle.hx_model.specs.Propagation.{copy_of, id_in, sources_above, top_of}
-use Rattle.hx_model.specs.State.{State, object_at, namespace_id, with_version}
+use Rattle.hx_model.specs.State.{State, object_at, namespace_id, with_version, least_in}
+use Rattle.hx_model.specs.Subnamespaces.{anchor_id, is_owned_by}
+use Rattle.hx_model.specs.Cases.{is_leaving}
 use Rattle.hx_model.specs.Tree.{forest_of}
 use Rattle.hx_model.specs.TreeLabels.{is_open, prescribed_labels}
 use Rattle.hx_model.specs.declared.key.Guard.{Guard}
@@ -72,18 +80,83 @@ tree_write acts chain (Some x) = if acts then placed (labelled chain x) (Some x)
 abbrev pub wanted_tree : State → List ℕ → Option Write
 wanted_tree s n = tree_write (is_open (forest_of s) n) (chain_of (forest_of s) n) (object_at s.objects (namespace_id n))
 
+-- ---- subnamespaces
+
+-- the subnamespace m of n, as it is made
+abbrev pub subnamespace : List ℕ → List ℕ → Object
+subnamespace n m = record { id = namespace_id m; labels = []; annotations = (subnamespace_of, n) ∷ []; payload = NamespaceOf false; version = 0 }
+
+-- where n takes part and holds the anchor, its name isn't excluded and no namespace has it
+abbrev pub child_write : Bool → Bool → Bool → Bool → List ℕ → List ℕ → Option Write
+child_write acts anchored excluded taken n m = so (acts && (anchored && (not excluded && not taken))) (Put (subnamespace n m))
+
+abbrev pub wanted_child : State → List ℕ → List ℕ → Option Write
+wanted_child s n m =
+    child_write (is_open (forest_of s) n) (is_some (object_at s.objects (anchor_id n m))) (is_in m s.config.excluded) (is_some (object_at s.objects (namespace_id m))) n m
+
+-- the status of an anchor m in n, by the namespace m
+abbrev pub status_by : Bool → List ℕ → Option Object → AnchorStatus
+status_by excluded n found = if excluded then Forbidden else named_status found
+  where
+    named_status : Option Object → AnchorStatus
+    named_status None = Missing
+    named_status (Some x) = if is_owned_by n x then Ok else Conflict
+
+abbrev pub anchor_status : State → List ℕ → List ℕ → AnchorStatus
+anchor_status s n m = status_by (is_in n s.config.excluded || is_in m s.config.excluded) n (object_at s.objects (namespace_id m))
+
+-- an anchor with a status
+abbrev pub with_status_of : AnchorStatus → Object → Object
+with_status_of status x = record x { payload = Anchor (Some status); version = 0 }
+
+-- where its namespace isn't on its way out
+abbrev pub anchor_write : Bool → AnchorStatus → Option Object → Option Write
+anchor_write live status None = None
+anchor_write live status (Some x) = if live then placed (with_status_of status x) (Some x) else None
+
+abbrev pub wanted_anchor : State → List ℕ → List ℕ → Option Write
+wanted_anchor s n m = anchor_write (is_live (forest_of s) n) (anchor_status s n m) (object_at s.objects (anchor_id n m))
+
+-- ---- removals
+
+-- the first object that lies in the namespace or, where none does, the namespace itself
+abbrev pub next_to_go : Option Id → List ℕ → Id
+next_to_go None n = namespace_id n
+next_to_go (Some id) n = id
+
+abbrev pub purge_write : Bool → Option Id → List ℕ → Option Write
+purge_write leaves least n = so leaves (Cut (next_to_go least n))
+
+-- the identity of the first object that lies in the namespace
+abbrev pub least_id : State → List ℕ → Option Id
+least_id s n = option_map (λ (x : Object). x.id) (least_in s.objects n)
+
+abbrev pub wanted_purge : State → List ℕ → Option Write
+wanted_purge s n = purge_write (is_leaving (forest_of s) n) (least_id s n) n
+
 -- ---- keys
 
 abbrev pub wanted_write : State → Key → Option Write
 wanted_write s (key.Copy n kind name) = wanted_copy s n kind name
 wanted_write s (key.Tree n) = wanted_tree s n
+wanted_write s (key.Child n name) = wanted_child s n name
+wanted_write s (key.Anchor n name) = wanted_anchor s n name
+wanted_write s (key.Purge n) = wanted_purge s n
 wanted_write s _ = None
 
 -- an identity, with the version of its object or none where it isn't there
 abbrev pub guard_at : State → Id → Guard
 guard_at s id = record { id = id; version = option_map (λ (x : Object). x.version) (object_at s.objects id) }
 
+-- the first object that lies in the namespace, where one does, and the namespace
+abbrev pub purge_guards : State → Option Id → List ℕ → List Guard
+purge_guards s None n = guard_at s (namespace_id n) ∷ []
+purge_guards s (Some id) n = guard_at s id ∷ guard_at s (namespace_id n) ∷ []
+
 abbrev pub guards_of : State → Key → List Guard
 guards_of s (key.Copy n kind name) = guard_at s (id_in kind name n) ∷ guard_at s (namespace_id n) ∷ []
 guards_of s (key.Tree n) = guard_at s (namespace_id n) ∷ []
+guards_of s (key.Child n name) = guard_at s (anchor_id n name) ∷ guard_at s (namespace_id n) ∷ guard_at s (namespace_id name) ∷ []
+guards_of s (key.Anchor n name) = guard_at s (anchor_id n name) ∷ guard_at s (namespace_id n) ∷ []
+guards_of s (key.Purge n) = purge_guards s (least_id s n) n
 guards_of s _ = []

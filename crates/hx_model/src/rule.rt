@@ -9,6 +9,8 @@ use crate::Reason;
 pub enum Rule {
     /// Admission is skipped only where that is allowed.
     X1,
+    /// A namespace that is on its way out takes nothing in, and isn't changed by requests.
+    N4,
     /// A HierarchyConfiguration is named `hierarchy`.
     H7,
     /// An HNCConfiguration is named `config`.
@@ -41,6 +43,18 @@ pub enum Rule {
     C6,
     /// No change of modes lets a copy overwrite a source.
     C5,
+    /// Neither the namespace of an anchor nor its name is excluded.
+    A2,
+    /// No anchor asks for a namespace that is there already, but for its own subnamespace.
+    A1,
+    /// No anchor asks for a namespace at a depth over 64.
+    A4,
+    /// An anchor isn't removed while its subnamespace has children, unless cascading deletion is allowed.
+    A3,
+    /// A subnamespace is removed by its anchor.
+    N1,
+    /// No namespace takes others along when it is removed, unless cascading deletion is allowed.
+    N2,
     /// An object that can be copied has at most one exception, and one that can be read.
     O3,
     /// No source is written where a copy would overwrite it, or so that its copy would overwrite another.
@@ -92,6 +106,7 @@ impl Rule {
     {
         match self {
             Rule::X1 => forbids("X1", "skipping admission is not allowed"),
+            Rule::N4 => forbids("N4", "the namespace is terminating"),
             Rule::H7 => forbids("H7", "the name must be hierarchy"),
             Rule::C1 => forbids("C1", "the name must be config"),
             Rule::O1 => forbids("O1", "propagated copies cannot be made or changed"),
@@ -108,6 +123,12 @@ impl Rule {
             Rule::C4 => forbids("C4", "the mode of this resource is fixed"),
             Rule::C6 => forbids("C6", "the resource cannot be propagated"),
             Rule::C5 => forbids("C5", "a source would be overwritten"),
+            Rule::A2 => forbids("A2", "the namespace is excluded"),
+            Rule::A1 => forbids("A1", "the namespace exists elsewhere"),
+            Rule::A4 => forbids("A4", "the tree would be deeper than 64"),
+            Rule::A3 => forbids("A3", "the subnamespace has children"),
+            Rule::N1 => forbids("N1", "delete the anchor instead"),
+            Rule::N2 => forbids("N2", "cascading deletion is not allowed"),
             Rule::O3 => forbids("O3", "the exception is not valid"),
             Rule::O2 => forbids("O2", "a source would overwrite or be overwritten"),
             Rule::L1 => limits("L1", "too many namespaces"),
