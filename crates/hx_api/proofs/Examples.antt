@@ -1,5 +1,5 @@
 -- Paths and requests on examples.
-use Rattle.std.proofs.Common.{◌≡◌, [], Some, None, Ok, Err, codes, refl}
+use Rattle.std.proofs.Common.{◌≡◌, [], false, Some, None, Ok, Err, codes, refl}
 use Rattle.std.specs.Str.{is_utf8, chars}
 use Rattle.std.specs.Str.Lossy.{utf8_lossy, utf8_valid_len}
 use lib.Utf8.{encode}
@@ -11,7 +11,7 @@ use Rattle.hx_model.specs.declared.refusal.Refusal.TheVariants.{NoMethod, BadQue
 use Rattle.hx_api.specs.Asks.{ask_of}
 use Rattle.hx_api.specs.Paths.{resource_of, segment_text}
 use Rattle.hx_api.specs.Queries.{bad_parameter, parameters_of}
-use Rattle.hx_api.specs.declared.method.Method.TheVariants.{Get, Post}
+use Rattle.hx_api.specs.declared.method.Method.TheVariants.{Get, Post, Delete}
 use Rattle.hx_api.specs.declared.resource_path.ResourcePath.TheVariants.{Events, Collection, Object}
 
 all_pods : resource_of (codes "/api/v1/pods") ≡ Some (Collection Pod None)
@@ -75,3 +75,7 @@ empty_selector = refl
 decoded : ask_of Get (codes "/api/v1/namespaces/a%2Fb") [] ≡ Ok (of.Get (record { kind = Namespace; ns = []; name = codes "a/b" }))
 unfolding ask_of resource_of segment_text bad_parameter parameters_of form_urlencoded_on_literals is_utf8 chars encode
 decoded = refl
+
+removal : ask_of Delete (codes "/api/v1/namespaces/a") [] ≡ Ok (of.Delete (record { kind = Namespace; ns = []; name = codes "a" }) false)
+unfolding ask_of resource_of segment_text bad_parameter parameters_of form_urlencoded_on_literals is_utf8 chars encode
+removal = refl

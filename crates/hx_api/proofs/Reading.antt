@@ -1,16 +1,20 @@
--- What reading a body gives is what the body says.
-use Rattle.std.proofs.Common.{◌≡◌, ◌⊎◌, inl, inr, ℕ, List, Bool, true, false, Option, Some, None, Result, Ok, Err, refl, sym, ap, ◌∙◌}
+-- What reading a body gives is what the body says, and may be stored.
+use Rattle.std.proofs.Common.{◌≡◌, ◌⊎◌, inl, inr, ℕ, List, [], ◌∷◌, Bool, true, false, Option, Some, None, Result, Ok, Err, refl, sym, ap, ◌∙◌}
 use Rattle.std.specs.Str.{IsUtf8, is_utf8}
 use Rattle.std.proofs.lemmas.Str.{IsUtf8-from_is_utf8, is_utf8-from_IsUtf8}
 use Rattle.serde_json.specs.Data.{Data}
 use Rattle.serde_json.specs.Read.{read}
 use Rattle.serde_json.specs.Written.{has_float}
+use Rattle.hx_object.specs.Faults.{IsLegal}
 use Rattle.hx_object.specs.declared.kind.Kind.{Kind}
 use Rattle.hx_object.specs.declared.object.Object.{Object}
+use Rattle.hx_object.specs.declared.object.Payload.{Payload}
+use Rattle.hx_object.specs.declared.object.Payload.TheVariants.{Namespace, Config, Hierarchy, Anchor, Quota, Plain}
 use Rattle.hx_json.specs.Reading.{Target, fault_of}
 use Rattle.hx_json.specs.ReadObject.{IsFaultOf, IsReadOf, IsWhole}
 use Rattle.hx_json.specs.declared.fault.JsonFault.{JsonFault}
 use Rattle.hx_json.specs.declared.fault.JsonFault.TheVariants.{NotJson, NotWhole, WrongKind, MissingMember, WrongType, BadQuantity, WrongPlace, Object as OfObject, NoMemory}
+use Rattle.hx_model.specs.Serving.{IsGiven, IsServed, is_given, is_kept, is_written}
 use Rattle.hx_model.specs.declared.ask.Ask.{Ask}
 use Rattle.hx_model.specs.declared.refusal.Refusal.{Refusal}
 use Rattle.hx_model.specs.declared.refusal.Refusal.TheVariants as refusal
@@ -57,3 +61,24 @@ refused kind ask p body fault r gives is h = by (faults p body fault h)
     by : (fault ≡ NoMemory) ⊎ (read_body p body ≡ Err fault) → (r ≡ refusal.NoMemory) ⊎ (ask (read_body p body) ≡ Err r)
     by (inl e) = inl (is ∙ ap (refusal_of kind) e)
     by (inr e) = inr (ap ask e ∙ gives fault ∙ ap Err (sym is))
+
+-- ---- what is stored
+
+given_kept : (payload : Payload) → is_given payload ≡ true → is_kept payload ≡ true
+given_kept (Namespace terminating) h = refl
+given_kept (Config entries) h = h
+given_kept (Hierarchy parent cascade [] []) h = h
+given_kept (Hierarchy parent cascade [] (c ∷ cs)) h = h
+given_kept (Hierarchy parent cascade (c ∷ cs) conditions) h = h
+given_kept (Anchor status) h = refl
+given_kept (Quota hard []) h = h
+given_kept (Quota hard (u ∷ us)) h = h
+given_kept (Plain members need) h = refl
+
+-- an object that a request gives may be stored
+pub served : (x : Object) → IsLegal x → is_written x.id.kind ≡ true → IsGiven x → IsServed x
+served x legal written given = record {
+  legal = legal;
+  written = written;
+  kept = record { labels = given.labels; annotations = given.annotations; payload = given_kept x.payload given.payload; typed = given.typed };
+}

@@ -8,7 +8,6 @@ use Rattle.hx_object.specs.Pairs.{value_of}
 use Rattle.hx_json.specs.Reading.{target_at}
 use Rattle.hx_json.specs.declared.fault.JsonFault.{JsonFault}
 use Rattle.hx_model.specs.First.{so, first}
-use Rattle.hx_object.specs.Kinds.{is_namespace}
 use Rattle.hx_select.specs.Selectors.{everything, selector_of}
 use Rattle.hx_select.specs.declared.selector.Selector.{Selector}
 use Rattle.hx_select.specs.declared.selector.SelectFault.{SelectFault}
@@ -47,12 +46,11 @@ is_feed _ = false
 abbrev pub query_refusal : ResourcePath (List ℕ) → Parameters → Option Refusal
 query_refusal resource query = option_map (λ name. BadQuery name) (bad_parameter (is_feed resource) query)
 
--- the request's form is served: not yet the feed, the kinds that aren't written, and removals of namespaces
+-- the request's form is served: not yet the feed, and writes of the kinds that aren't written
 abbrev pub is_served : Method → ResourcePath (List ℕ) → Bool
 is_served Get Events = false
 is_served Post (Collection kind ns) = is_written kind
 is_served Put (Object kind ns name) = is_written kind
-is_served Delete (Object kind ns name) = not (is_namespace kind)
 is_served method resource = true
 
 -- the refusal of a request at a resource, but for its selector and its body

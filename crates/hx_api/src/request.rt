@@ -99,10 +99,7 @@ fn is_written(kind: Kind) -> bool
 {
     !matches!(
         kind,
-        Kind::SubnamespaceAnchor
-            | Kind::HierarchicalResourceQuota
-            | Kind::Pod
-            | Kind::PersistentVolumeClaim
+        Kind::HierarchicalResourceQuota | Kind::Pod | Kind::PersistentVolumeClaim
     )
 }
 
@@ -114,7 +111,6 @@ fn is_served(method: Method, resource: &ResourcePath<Text>) -> bool
         (Method::Get, ResourcePath::Events) => false,
         (Method::Post, ResourcePath::Collection { kind, .. }) => is_written(*kind),
         (Method::Put, ResourcePath::Object { kind, .. }) => is_written(*kind),
-        (Method::Delete, ResourcePath::Object { kind, .. }) => *kind != Kind::Namespace,
         _ => true,
     }
 }

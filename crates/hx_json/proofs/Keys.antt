@@ -64,7 +64,6 @@ pub kind_back : (digits : List ℕ) (kind : Kind) → is_written kind ≡ true �
 kind_back digits kind h is = ap kind_in is ∙ by kind h
   where
     by : (kind : Kind) → is_written kind ≡ true → kind_in (two_digits (number_of kind)) ≡ Some kind
-    by of.SubnamespaceAnchor h = absurd (true≢false (sym h))
     by of.HierarchicalResourceQuota h = absurd (true≢false (sym h))
     by of.Pod h = absurd (true≢false (sym h))
     by of.PersistentVolumeClaim h = absurd (true≢false (sym h))

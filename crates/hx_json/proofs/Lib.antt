@@ -19,6 +19,7 @@ pub mod InOrder
 pub mod Payloads
 pub mod Telling
 pub mod Given
+pub mod Statuses
 pub mod ReadBack
 pub mod Keys
 pub mod RowsBack

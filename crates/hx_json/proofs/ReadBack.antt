@@ -2,20 +2,22 @@
 --     object_back      the object of its identity and its version that its value says is itself
 --     said_back        the same of a tree of its text
 --     tree_back        its text has a tree that is read as it stands
-use Rattle.std.proofs.Common.{◌≡◌, ◌≤◌, ℕ, List, [], ◌∷◌, Bool, true, false, true≢false, Option, Some, None, Err, option_and_then, unwrap_or, codes, refl, sym, subst, ap, ◌∙◌, decimal}
+use Rattle.std.proofs.Common.{◌≡◌, ◌≤◌, ℕ, List, [], ◌∷◌, Bool, true, false, true≢false, Option, Some, None, Err, option_and_then, unwrap_or, bytes_eq, codes, refl, sym, subst, ap, ◌∙◌, decimal}
 use Rattle.std.specs.List.{list_all}
 use Rattle.std.proofs.lemmas.Bool.{and_parts}
-use Rattle.serde_json.specs.Data.{Data, null, object, Members, no_members, member, put, depth}
-use Rattle.serde_json.specs.Find.{get_member}
+use Rattle.serde_json.specs.Data.{Data, null, string, object, Members, no_members, member, put, depth}
+use Rattle.serde_json.specs.Find.{get, get_member}
 use Rattle.serde_json.specs.Read.{max_depth, read}
 use Rattle.serde_json.proofs.Views.{get_member-put_other}
 use Rattle.json.specs.Json.{Json}
 use Rattle.hx_object.specs.Canonical.{IsCanonical}
-use Rattle.hx_object.specs.Faults.{IsPayloadOf}
-use Rattle.hx_object.specs.Json.{pairs_members, metadata_of, mode_text, entry_data, entries_items, hierarchy_spec, own_members, object_data, object_text}
+use Rattle.hx_object.specs.Faults.{IsPayloadOf, object_fault}
+use Rattle.hx_object.specs.Json.{pairs_members, metadata_of, phase_of, mode_text, entry_data, entries_items, anchor_text, hierarchy_spec, own_members, object_data, object_text}
 use Rattle.hx_object.specs.Kinds.{is_plain}
 use Rattle.hx_object.specs.declared.kind.Kind.{Kind}
 use Rattle.hx_object.specs.declared.kind.Kind.TheVariants as of
+use Rattle.hx_object.specs.declared.object.AnchorStatus.{AnchorStatus}
+use Rattle.hx_object.specs.declared.object.AnchorStatus.TheVariants.{Missing, Ok, Conflict, Forbidden}
 use Rattle.hx_object.specs.declared.object.Id.{Id}
 use Rattle.hx_object.specs.declared.object.Mode.{Mode}
 use Rattle.hx_object.specs.declared.object.Mode.TheVariants.{Propagate, AllowPropagate, Remove, Ignore}
@@ -23,10 +25,10 @@ use Rattle.hx_object.specs.declared.object.ModeEntry.{ModeEntry}
 use Rattle.hx_object.specs.declared.object.Object.{Object}
 use Rattle.hx_object.specs.declared.object.Payload.{Payload}
 use Rattle.hx_object.specs.declared.object.Payload.TheVariants.{Namespace, Config, Hierarchy, Anchor, Quota, Plain}
-use Rattle.hx_model.specs.Serving.{IsServed, has_type, is_given, is_given_mode, is_typed, is_written}
-use Rattle.hx_json.specs.Reading.{counted_member, entry_of, entries_of, in_spec, items_in, kept_members, metadata_in, mode_of_text, pairs_in, pairs_of, payload_of, plain_of, text_in, truth_in, unless_empty_text, unless_null}
+use Rattle.hx_model.specs.Serving.{IsServed, has_type, is_given_mode, is_kept, is_typed, is_written}
+use Rattle.hx_json.specs.Reading.{counted_member, entry_of, entries_of, in_spec, is_this, items_in, kept_members, metadata_in, mode_of_text, pairs_in, pairs_of, payload_of, plain_of, text_in, truth_in, unless_empty_text, unless_null}
 use Rattle.hx_json.specs.ReadObject.{is_read}
-use Rattle.hx_json.specs.Rows.{Gives, IsTextOf, IsUnsound, row_fault, said_object}
+use Rattle.hx_json.specs.Rows.{Gives, IsTextOf, IsUnsound, in_status, reported, row_fault, said_object, status_named, with_status}
 use Rattle.hx_json.specs.Trees.{data_of, is_ordered, tree_of, IsNoTree, IsOrdered}
 use Rattle.hx_json.specs.declared.fault.JsonFault.{JsonFault}
 use Rattle.hx_json.specs.declared.fault.JsonFault.TheVariants as faults
@@ -35,6 +37,7 @@ use Rattle.hx_json.proofs.InOrder.{canonical_object, metadata, plain_whole, shal
 use Rattle.hx_json.proofs.Normal.{compact_ordered}
 use Rattle.hx_json.proofs.Orders.{ordered_read}
 use Rattle.hx_json.proofs.RoundTrip.{read-compact_text}
+use Rattle.hx_json.proofs.Statuses.{reported_typed, still_sound}
 use Rattle.hx_json.proofs.Telling.{behind, head_taken, metadata_there, other_text, own_lacks, pairs_told}
 
 -- ---- the payload
@@ -67,6 +70,17 @@ cascade_back None true = refl
 cascade_back (Some parent) false = refl
 cascade_back (Some parent) true = refl
 
+phase_back : (terminating : Bool) → is_this (codes "Terminating") (option_and_then (counted_member (codes "phase")) (Some (object (member (codes "phase") (string (phase_of terminating)) no_members)))) ≡ terminating
+phase_back true = refl
+phase_back false = refl
+
+status_back : (status : AnchorStatus)
+    → option_and_then status_named (text_in (option_and_then (counted_member (codes "status")) (Some (object (member (codes "status") (string (anchor_text status)) no_members))))) ≡ Some status
+status_back Missing = refl
+status_back Ok = refl
+status_back Conflict = refl
+status_back Forbidden = refl
+
 plain_kind : (kind : Kind) (d : Data) → is_plain kind ≡ true → payload_of kind d ≡ plain_of kind (kept_members d)
 plain_kind of.Namespace d h = absurd (true≢false (sym h))
 plain_kind of.HncConfiguration d h = absurd (true≢false (sym h))
@@ -79,32 +93,53 @@ module _ (version kind metadata : Data) where
   abbrev whole : Members → Data
   whole own = object (put (codes "apiVersion") version (put (codes "kind") kind (put (codes "metadata") metadata own)))
 
-  spec_there : (name : List ℕ) (own : Members) → in_spec name (whole own) ≡ option_and_then (counted_member name) (unless_null (get_member (codes "spec") own))
-  spec_there name own =
-      ap (λ o. option_and_then (counted_member name) (unless_null o)) (behind (codes "spec") version kind metadata own refl
-      ∙ get_member-put_other (codes "spec") (codes "kind") kind (put (codes "metadata") metadata own) (other_text _ _ refl)
-      ∙ get_member-put_other (codes "spec") (codes "metadata") metadata own (other_text _ _ refl))
+  member_there : (name : List ℕ) (own : Members) → bytes_eq name (codes "apiVersion") ≡ false → bytes_eq name (codes "kind") ≡ false → bytes_eq name (codes "metadata") ≡ false
+      → get name (whole own) ≡ get_member name own
+  member_there name own v k m =
+      behind name version kind metadata own v
+      ∙ get_member-put_other name (codes "kind") kind (put (codes "metadata") metadata own) (other_text _ _ k)
+      ∙ get_member-put_other name (codes "metadata") metadata own (other_text _ _ m)
 
-  payload_back : (k : Kind) (payload : Payload) → IsPayloadOf k payload → is_given payload ≡ true → is_written k ≡ true → payload_of k (whole (own_members payload)) ≡ payload
-  payload_back k (Namespace false) h given written = ap (λ k. payload_of k (whole (own_members (Namespace false)))) h
-  payload_back k (Namespace true) h given written = absurd (true≢false (sym given))
-  payload_back k (Config entries) h given written =
-      ap (λ k. payload_of k (whole (own_members (Config entries)))) h
+  spec_there : (name : List ℕ) (own : Members) → in_spec name (whole own) ≡ option_and_then (counted_member name) (unless_null (get_member (codes "spec") own))
+  spec_there name own = ap (λ o. option_and_then (counted_member name) (unless_null o)) (member_there (codes "spec") own refl refl refl)
+
+  status_there : (name : List ℕ) (own : Members) → in_status name (whole own) ≡ option_and_then (counted_member name) (unless_null (get_member (codes "status") own))
+  status_there name own = ap (λ o. option_and_then (counted_member name) (unless_null o)) (member_there (codes "status") own refl refl refl)
+
+  -- what a row says, as a request's body says it and with what is reported besides
+  row_payload : Kind → Members → Payload
+  row_payload k own = reported (whole own) (payload_of k (whole own))
+
+  payload_back : (k : Kind) (payload : Payload) → IsPayloadOf k payload → is_kept payload ≡ true → is_written k ≡ true → row_payload k (own_members payload) ≡ payload
+  unfolding row_payload
+  payload_back k (Namespace terminating) h kept written =
+      let own = own_members (Namespace terminating) in
+      ap (λ k. row_payload k own) h
+      ∙ ap (λ o. Namespace (is_this (codes "Terminating") o)) (status_there (codes "phase") own)
+      ∙ ap Namespace (phase_back terminating)
+  payload_back k (Config entries) h kept written =
+      ap (λ k. row_payload k (own_members (Config entries))) h
       ∙ ap (λ o. Config (entries_of (items_in o))) (spec_there (codes "resources") (own_members (Config entries)))
-      ∙ ap Config (entries_back entries given)
-  payload_back k (Hierarchy parent cascade [] []) h given written =
+      ∙ ap Config (entries_back entries kept)
+  payload_back k (Hierarchy parent cascade [] []) h kept written =
       let own = own_members (Hierarchy parent cascade [] []) in
       let parents : _ ≡ parent = ap (λ o. unless_empty_text (text_in o)) (spec_there (codes "parent") own) ∙ parent_back parent cascade h.1 in
       let cascades : _ ≡ cascade = ap truth_in (spec_there (codes "allowCascadingDeletion") own) ∙ cascade_back parent cascade in
-      ap (λ k. payload_of k (whole own)) h.0 ∙ (λ i. Hierarchy (parents i) (cascades i) [] [])
-  payload_back k (Hierarchy parent cascade [] (c ∷ cs)) h given written = absurd (true≢false (sym given))
-  payload_back k (Hierarchy parent cascade (c ∷ cs) conditions) h given written = absurd (true≢false (sym given))
-  payload_back k (Anchor None) h given written = ap (λ k. payload_of k (whole no_members)) h
-  payload_back k (Anchor (Some status)) h given written = absurd (true≢false (sym given))
-  payload_back k (Quota hard status) h given written = absurd (true≢false (sym written ∙ ap is_written h.0))
-  payload_back k (Plain members need) h given written =
-      plain_kind k _ h.0
-      ∙ ap (plain_of k) (head_taken version kind metadata (own_members (Plain members need)) (own_lacks k (Plain members need) h) ∙ plain_whole k members need h.1)
+      ap (λ k. row_payload k own) h.0 ∙ (λ i. Hierarchy (parents i) (cascades i) [] [])
+  payload_back k (Hierarchy parent cascade [] (c ∷ cs)) h kept written = absurd (true≢false (sym kept))
+  payload_back k (Hierarchy parent cascade (c ∷ cs) conditions) h kept written = absurd (true≢false (sym kept))
+  payload_back k (Anchor None) h kept written =
+      ap (λ k. row_payload k no_members) h
+      ∙ ap (λ o. Anchor (option_and_then status_named (text_in o))) (status_there (codes "status") no_members)
+  payload_back k (Anchor (Some status)) h kept written =
+      let own = own_members (Anchor (Some status)) in
+      ap (λ k. row_payload k own) h
+      ∙ ap (λ o. Anchor (option_and_then status_named (text_in o))) (status_there (codes "status") own)
+      ∙ ap Anchor (status_back status)
+  payload_back k (Quota hard status) h kept written = absurd (true≢false (sym written ∙ ap is_written h.0))
+  payload_back k (Plain members need) h kept written =
+      ap (reported (whole (own_members (Plain members need)))) (plain_kind k _ h.0
+      ∙ ap (plain_of k) (head_taken version kind metadata (own_members (Plain members need)) (own_lacks k (Plain members need) h) ∙ plain_whole k members need h.1))
       ∙ (λ i. Plain (sym h.1.text i) (sym h.1.says i))
 
 -- ---- the pairs
@@ -126,18 +161,23 @@ annotations_back (member k d annotations) labels name ns version = refl
 
 -- ---- the object
 
-object_back : (x : Object) → IsServed x → said_object x.id x.version (object_data x) ≡ x
+-- the object of an identity that the value of a row says
+abbrev row_object : Id → ℕ → Data → Object
+row_object id version d = with_status d (said_object id version d)
+
+object_back : (x : Object) → IsServed x → row_object x.id x.version (object_data x) ≡ x
+unfolding row_payload
 object_back x served =
     let there : metadata_in (object_data x) ≡ object (metadata_of x) = ap (λ o. unwrap_or o null) (metadata_there x) in
     let a = pairs_members x.annotations in
     let l = pairs_members x.labels in
     let labels = ap (λ d. pairs_in (counted_member (codes "labels") d)) there ∙ labels_back a l x.id.name x.id.ns (decimal x.version) ∙ pairs_told x.labels in
     let annotations = ap (λ d. pairs_in (counted_member (codes "annotations") d)) there ∙ annotations_back a l x.id.name x.id.ns (decimal x.version) ∙ pairs_told x.annotations in
-    let payload = payload_back _ _ _ x.id.kind x.payload served.legal.payload served.given.payload served.written in
+    let payload = payload_back _ _ _ x.id.kind x.payload served.legal.payload served.kept.payload served.written in
     λ i. record { id = x.id; labels = labels i; annotations = annotations i; payload = payload i; version = x.version }
 
 canonical : (x : Object) → IsServed x → IsCanonical (object_data x)
-canonical x served = canonical_object x served.legal (record { labels = served.given.labels; annotations = served.given.annotations })
+canonical x served = canonical_object x served.legal (record { labels = served.kept.labels; annotations = served.kept.annotations })
 
 -- its text has a tree that is read as it stands
 pub tree_back : (x : Object) → IsServed x → IsOrdered x.id.kind (object_text x)
@@ -149,11 +189,11 @@ unfolding object_text
 value_back x served = read-compact_text (object_data x) (canonical x served) (shallow_object x served.legal)
 
 -- a tree of its text says it
-pub said_back : (x : Object) (j : Json) → IsServed x → tree_of (object_text x) ≡ Some j → is_ordered x.id.kind j ≡ true → said_object x.id x.version (data_of j) ≡ x
+pub said_back : (x : Object) (j : Json) → IsServed x → tree_of (object_text x) ≡ Some j → is_ordered x.id.kind j ≡ true → row_object x.id x.version (data_of j) ≡ x
 said_back x j served is ordered =
     let found : Some (data_of j) ≡ Some (object_data x) = sym (ordered_read (object_text x) x.id.kind j is ordered) ∙ value_back x served in
     let same : data_of j ≡ object_data x = cc in
-    ap (said_object x.id x.version) same ∙ object_back x served
+    ap (row_object x.id x.version) same ∙ object_back x served
 
 -- ---- its row
 
@@ -176,22 +216,28 @@ module _ (id : Id) (version : ℕ) (text : List ℕ) (x : Object) (h : IsTextOf 
       let same : text_ordered.0 ≡ j = cc in
       true≢false (sym text_ordered.2 ∙ ap (is_ordered id.kind) same ∙ other)
 
-  pub told : (j : Json) → tree_of text ≡ Some j → is_ordered id.kind j ≡ true → said_object id version (data_of j) ≡ x
+  pub told : (j : Json) → tree_of text ≡ Some j → is_ordered id.kind j ≡ true → with_status (data_of j) (said_object id version (data_of j)) ≡ x
   told j is ordered =
-      (λ i. said_object (sym h.id_is i) (sym h.version_is i) (data_of j))
+      (λ i. row_object (sym h.id_is i) (sym h.version_is i) (data_of j))
       ∙ said_back x j h.served (ap tree_of (sym h.text_is) ∙ is) (ap (λ (id : Id). is_ordered id.kind j) h.id_is ∙ ordered)
 
   -- nor is one of a Secret whose type is no text
   pub untyped : (j : Json) → tree_of text ≡ Some j → is_ordered id.kind j ≡ true → IsCanonical (data_of j) → depth (data_of j) ≤ max_depth → has_type id.kind (data_of j) ≡ false → ⊥
   untyped j is ordered canonical shallow other =
-      let typed = subst (λ (y : Object). is_typed y.id.kind y.payload ≡ true) (sym (told j is ordered)) h.served.given.typed in
-      true≢false (sym typed ∙ typed_is id.kind (data_of j) canonical shallow ∙ other)
+      let typed = subst (λ (y : Object). is_typed y.id.kind y.payload ≡ true) (sym (told j is ordered)) h.served.kept.typed in
+      true≢false (sym typed ∙ reported_typed (data_of j) id.kind (payload_of id.kind (data_of j)) ∙ typed_is id.kind (data_of j) canonical shallow ∙ other)
 
   -- and it has no fault of an object
   pub faultless : (j : Json) (f : JsonFault) → tree_of text ≡ Some j → is_ordered id.kind j ≡ true → IsUnsound (said_object id version (data_of j)) f → Gives (Err (row_fault f)) x
-  faultless j f is ordered unsound = by f (subst (λ y. IsUnsound y f) (told j is ordered) unsound)
+  faultless j f is ordered unsound = by f unsound
     where
-      by : (f : JsonFault) → IsUnsound x f → Gives (Err (row_fault f)) x
+      said : Object
+      said = said_object id version (data_of j)
+
+      sound : object_fault said ≡ None
+      sound = sym (still_sound (data_of j) said) ∙ ap object_fault (told j is ordered) ∙ h.served.legal.sound
+
+      by : (f : JsonFault) → IsUnsound said f → Gives (Err (row_fault f)) x
       by faults.NotJson h = h
       by faults.NotWhole h = h
       by faults.WrongKind h = h
@@ -199,7 +245,7 @@ module _ (id : Id) (version : ℕ) (text : List ℕ) (x : Object) (h : IsTextOf 
       by (faults.WrongType m) h = h
       by (faults.BadQuantity m) h = h
       by faults.WrongPlace h = h
-      by (faults.Object fault) unsound = let clash : Some fault ≡ None = sym unsound ∙ h.served.legal.sound in cc
+      by (faults.Object fault) unsound = let clash : Some fault ≡ None = sym unsound ∙ sound in cc
       by faults.NoMemory h = tt
 
 -- the kinds whose objects may be stored are read
@@ -207,5 +253,4 @@ pub written_read : (kind : Kind) → is_written kind ≡ true → is_read kind �
 written_read of.HierarchicalResourceQuota h = h
 written_read of.Pod h = h
 written_read of.PersistentVolumeClaim h = h
-written_read of.SubnamespaceAnchor h = refl
 written_read kind h = refl

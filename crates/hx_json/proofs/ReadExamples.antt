@@ -1,15 +1,17 @@
 -- Worked bodies: each fault once, which of two comes first, and what a body says.
-use Rattle.std.proofs.Common.{◌≡◌, ℕ, List, [], ◌∷◌, true, Option, Some, None, codes, refl}
+use Rattle.std.proofs.Common.{◌≡◌, ℕ, List, [], ◌∷◌, true, false, Option, Some, None, codes, refl}
 use Rattle.serde_json.specs.Data.{Data, null, boolean, number, unsigned, string, array, object, Items, no_items, item, Members, no_members, member}
 use Rattle.hx_object.specs.Faults.{object_fault, has_legal_names}
 use Rattle.hx_object.specs.Names.{is_dns_label}
 use Rattle.hx_object.specs.declared.kind.Kind.TheVariants.{Namespace, HncConfiguration, HierarchyConfiguration, Secret, ConfigMap}
+use Rattle.hx_object.specs.declared.object.AnchorStatus.TheVariants.{Conflict}
 use Rattle.hx_object.specs.declared.object.Mode.TheVariants.{Propagate}
-use Rattle.hx_object.specs.declared.object.Payload.TheVariants.{Config, Hierarchy}
+use Rattle.hx_object.specs.declared.object.Payload.TheVariants.{Namespace as NamespaceOf, Config, Hierarchy, Anchor}
 use Rattle.hx_object.specs.declared.object.ObjectFault.TheVariants.{BadName}
 use Rattle.hx_json.specs.declared.fault.JsonFault.{JsonFault}
 use Rattle.hx_json.specs.declared.fault.JsonFault.TheVariants.{WrongKind, MissingMember, WrongType, WrongPlace, Object as ObjectFaultOf}
 use Rattle.hx_json.specs.Reading.{Target, target_at, expected_of, fault_of, member_fault, kept_members, object_of, payload_of, version_in}
+use Rattle.hx_json.specs.Rows.{reported}
 
 -- ---- bodies
 
@@ -180,3 +182,17 @@ greatest_version = refl
 
 too_great : version_in (codes "9223372036854775808") ≡ 0
 too_great = refl
+
+-- ---- what rows say besides
+
+terminating_said : reported (one (codes "status") (one (codes "phase") (text (codes "Terminating")))) (NamespaceOf false) ≡ NamespaceOf true
+terminating_said = refl
+
+active_said : reported (one (codes "status") (one (codes "phase") (text (codes "Active")))) (NamespaceOf false) ≡ NamespaceOf false
+active_said = refl
+
+status_said : reported (one (codes "status") (one (codes "status") (text (codes "Conflict")))) (Anchor None) ≡ Anchor (Some Conflict)
+status_said = refl
+
+no_status_said : reported (one (codes "status") null) (Anchor None) ≡ Anchor None
+no_status_said = refl

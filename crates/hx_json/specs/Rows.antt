@@ -6,12 +6,14 @@
 --     may_lie_in k ns    a key of the kind may name the namespace
 --     IsKeyOf key id     the key of an identity whose object may be stored
 --     said_object        the object of an identity that a value says
+--     reported d p       a payload, with the phase or the status that a value says
+--     with_status d x    the same of an object
 --     IsUnsound x f      the fault is that of an object
 --     IsTextOf id v t x  the text is that of an object that may be stored, of an identity and a version
 --     row_fault f        why a row isn't read, by why its body isn't
 --     Gives r x          an answer is this value, or want of memory
 --     GivesId, GivesTextOf, GivesRow    it is what a key, a text or a row is of, if that is of any
-use Rattle.std.specs.Prelude.{◌≡◌, ℕ, Bool, true, false, not, ◌==◌, ◌&&◌, ◌||◌, List, [], ◌∷◌, ◌++◌, codes, find, Option, Result, Ok, Err, IsUtf8, Some}
+use Rattle.std.specs.Prelude.{◌≡◌, ℕ, Bool, true, false, not, ◌==◌, ◌&&◌, ◌||◌, List, [], ◌∷◌, ◌++◌, codes, find, Option, option_and_then, Result, Ok, Err, IsUtf8, Some, None, if◌then◌else◌}
 use Rattle.std.specs.List.{AllByRecursion}
 use Rattle.std.specs.Str.{bytes_eq}
 use Rattle.serde_json.specs.Data.{Data}
@@ -20,11 +22,15 @@ use Rattle.hx_object.specs.Json.{object_text}
 use Rattle.hx_object.specs.Kinds.{all_kinds, is_in_cluster, number_of}
 use Rattle.hx_object.specs.Names.{slash}
 use Rattle.hx_object.specs.declared.kind.Kind.{Kind}
+use Rattle.hx_object.specs.declared.object.AnchorStatus.{AnchorStatus}
+use Rattle.hx_object.specs.declared.object.AnchorStatus.TheVariants as anchor
 use Rattle.hx_object.specs.declared.object.Id.{Id}
 use Rattle.hx_object.specs.declared.object.Object.{Object}
+use Rattle.hx_object.specs.declared.object.Payload.{Payload}
+use Rattle.hx_object.specs.declared.object.Payload.TheVariants.{Namespace as NamespaceOf, Anchor}
 use Rattle.hx_model.specs.Serving.{IsServed, is_written}
 use Rattle.hx_model.specs.Texts.{key_text, stored_entry, two_digits}
-use Rattle.hx_json.specs.Reading.{counted_member, metadata_in, pairs_in, payload_of}
+use Rattle.hx_json.specs.Reading.{counted_member, is_this, metadata_in, pairs_in, payload_of, text_in}
 use Rattle.hx_json.specs.declared.fault.JsonFault.{JsonFault}
 use Rattle.hx_json.specs.declared.fault.JsonFault.TheVariants as of
 use Rattle.hx_json.specs.declared.fault.RowFault.{RowFault}
@@ -81,6 +87,36 @@ said_object id version d = record {
   payload = payload_of id.kind d;
   version = version;
 }
+
+-- a member of `status`
+abbrev pub in_status : List ℕ → Data → Option Data
+in_status name d = option_and_then (counted_member name) (counted_member (codes "status") d)
+
+-- the phase of a namespace that is on its way out
+abbrev pub says_terminating : Data → Bool
+says_terminating d = is_this (codes "Terminating") (in_status (codes "phase") d)
+
+-- the status of an anchor that a text names
+abbrev pub status_named : List ℕ → Option AnchorStatus
+status_named text =
+    if bytes_eq text (codes "Missing") then Some anchor.Missing
+    else (if bytes_eq text (codes "Ok") then Some anchor.Ok
+    else (if bytes_eq text (codes "Conflict") then Some anchor.Conflict
+    else (if bytes_eq text (codes "Forbidden") then Some anchor.Forbidden else None)))
+
+-- the status of an anchor, where a value says one
+abbrev pub anchor_status : Data → Option AnchorStatus
+anchor_status d = option_and_then status_named (text_in (in_status (codes "status") d))
+
+-- a payload, with the phase or the status that a value says, where its kind has one
+abbrev pub reported : Data → Payload → Payload
+reported d (NamespaceOf terminating) = NamespaceOf (says_terminating d)
+reported d (Anchor status) = Anchor (anchor_status d)
+reported d payload = payload
+
+-- the same of an object
+abbrev pub with_status : Data → Object → Object
+with_status d x = record x { payload = reported d x.payload }
 
 -- the fault is that of an object, or want of memory
 abbrev pub IsUnsound : Object → JsonFault → Type 0

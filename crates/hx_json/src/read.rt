@@ -18,6 +18,7 @@ mod member_checks;
 mod members;
 mod number;
 mod parts;
+mod reported;
 mod row;
 mod shapes;
 mod tree;

@@ -9,6 +9,7 @@ ghost use Rattle.hx_model.specs.Serving.{IsServed, is_written};
 ghost use Rattle.hx_json.specs.Rows.{GivesId, GivesRow, GivesTextOf, HasNoObject, IsCutAt, IsKeyOf, IsOnlyOf, IsRowOf, kind_in, may_lie_in, row_fault};
 
 use super::parts::has_type;
+use super::reported::with_status;
 use super::tree::{is_ordered, read_tree};
 use super::{BodyReader, object_at};
 use crate::write::push_object;
@@ -102,7 +103,7 @@ fn read_body(
         return Err(RowFault::NoObject);
     }
     match object_at(alloc, room, &value, id, version) {
-        Ok(object) => Ok(object),
+        Ok(object) => Ok(with_status(object, &value)),
         Err(fault) => Err(row_fault(fault)),
     }
 }
@@ -166,6 +167,7 @@ fn kind_in(digits: &str) -> Option<Kind>
         "01" => Some(Kind::Namespace),
         "02" => Some(Kind::HncConfiguration),
         "03" => Some(Kind::HierarchyConfiguration),
+        "04" => Some(Kind::SubnamespaceAnchor),
         "06" => Some(Kind::Role),
         "07" => Some(Kind::RoleBinding),
         "08" => Some(Kind::ConfigMap),

@@ -1,7 +1,8 @@
-use Rattle.std.proofs.Common.{◌∙◌, sym, subst, Err}
+use Rattle.std.proofs.Common.{◌∙◌, ap, sym, subst, Err}
 use Rattle.hx_object.specs.declared.object.Object.{Object}
 use Rattle.json.specs.Value.{value_view}
-use Rattle.hx_json.specs.Rows.{Gives}
+use Rattle.hx_json.specs.Rows.{Gives, with_status}
+use Rattle.hx_json.specs.Trees.{said}
 use Rattle.hx_json.proofs.Orders.{ordered_canonical, ordered_shallow}
 use Rattle.hx_json.proofs.ReadBack.{faultless, told, treeless, unordered, untyped}
 use Rattle.hx_json.proofs.read.row.read_body.Goals as goal
@@ -28,7 +29,8 @@ object_at-requires-clause-shallow c = ordered_shallow c.args.text.now c.args.id.
 
 pub returns-in-Ok-object_at-clause-back : goal.returns-in-Ok-object_at-clause-back
 returns-in-Ok-object_at-clause-back c = λ x h.
-    c.in-Ok-object_at.ensures.object
+    c.with_status.ensures.object
+    ∙ ap (with_status (said c.in-Ok.value)) c.in-Ok-object_at.ensures.object
     ∙ told c.args.id c.args.version c.args.text.now x h (value_view c.in-Ok.value) c.in-Ok.ensures.ok (sym c.is_ordered.ensures ∙ c.if-not-is_ordered.false)
 
 pub returns-clause-back : goal.returns-clause-back
