@@ -13,7 +13,7 @@ use Rattle.hx_object.specs.declared.kind.Kind.{Kind}
 use Rattle.hx_object.specs.declared.object.Id.{Id}
 use Rattle.hx_object.specs.declared.object.Object.{Object}
 use Rattle.hx_model.specs.State.{same_id, object_at}
-use Rattle.hx_store.specs.Places.{entries_of, AreShelves, IsBoard, found, place_in, place_of, of_place, objects_in, objects_of}
+use Rattle.hx_store.specs.Places.{entries_of, AreShelves, AreDistinct, found, place_in, place_of, of_place, objects_in, objects_of}
 use Rattle.hx_store.specs.declared.board.Board.{Board}
 use Rattle.hx_store.specs.declared.shelves.Shelves.{Shelves}
 use Rattle.hx_store.proofs.Finding.{none_among, each, level, id_of, apart_in, apart_of, own_in}
@@ -54,7 +54,7 @@ module _ {Y V : Type 0} (f : V → List Object) where
           level f x.id (key x.id) es (IsDistinct-tail string_eq e.0 (keys_of es) distinct) (others x.id).1
           ∙ ap (option_and_then (λ v. object_at (f v) x.id)) (none_among e.0 (key x.id) es ((bytes_eq-Decides (key x.id) (string_bytes e.0)).1 same) (IsDistinct-head string_eq e.0 (keys_of es) distinct))
 
-module _ (kind : Kind) (ns : List ℕ) (board : Board) (distinct : IsBoard board) (own : (m : List ℕ) (x : Object) → found (place_in board m) ≡ Some x → x.id ≡ id_of kind ns m) where
+module _ (kind : Kind) (ns : List ℕ) (board : Board) (distinct : AreDistinct board) (own : (m : List ℕ) (x : Object) → found (place_in board m) ≡ Some x → x.id ≡ id_of kind ns m) where
   named : (m : List ℕ) (v : Option Object) → place_in board m ≡ Some v → AllByRecursion (λ x. x.id.name ≡ m) (of_place v)
   named m None e = tt
   named m (Some x) e = (ap (λ (i : Id). i.name) (own m x (ap found e)), tt)
@@ -79,6 +79,6 @@ module _ (kind : Kind) (ns : List ℕ) (board : Board) (distinct : IsBoard board
 module _ (kind : Kind) (shelves : Shelves) (distinct : AreShelves shelves) (own : (n m : List ℕ) (x : Object) → found (place_of shelves n m) ≡ Some x → x.id ≡ id_of kind n m) where
   pub shelves_apart : AreApart (objects_of shelves)
   shelves_apart = flat_apart objects_in (λ i. i.ns) shelves.shelves.entries distinct.0
-      (each (λ n board. AreApart (objects_in board)) shelves.shelves.entries distinct.0 (λ n board e. board_apart kind n board (distinct.1 n board e).0 (own_in kind shelves distinct own n board e)))
-      (each (λ n board. AllByRecursion (λ x. x.id.ns ≡ n) (objects_in board)) shelves.shelves.entries distinct.0 (λ n board e. lies_in kind n board (distinct.1 n board e).0 (own_in kind shelves distinct own n board e)))
+      (each (λ n board. AreApart (objects_in board)) shelves.shelves.entries distinct.0 (λ n board e. board_apart kind n board (distinct.1 n board e).0.0 (own_in kind shelves distinct own n board e)))
+      (each (λ n board. AllByRecursion (λ x. x.id.ns ≡ n) (objects_in board)) shelves.shelves.entries distinct.0 (λ n board e. lies_in kind n board (distinct.1 n board e).0.0 (own_in kind shelves distinct own n board e)))
       (λ q. each (λ n board. bytes_eq q.ns n ≡ false → object_at (objects_in board) q ≡ None) shelves.shelves.entries distinct.0 (apart_of kind shelves distinct own q))

@@ -79,10 +79,10 @@ same_shelves old new same =
 
 pub empty_board : IsBoard Empty
 unfolding IsDistinct
-empty_board = tt
+empty_board = (tt, tt)
 
 pub one_board : (name : String Global) (place : Option Object) → IsBoard (One name place)
-one_board name place = IsDistinct-cons string_eq name [] tt empty_board
+one_board name place = (IsDistinct-cons string_eq name [] tt empty_board.0, tt)
 
 -- ---- places that stay
 
@@ -187,3 +187,19 @@ none_but shelves ns full sound = (sound.0, λ n board there. ((sound.1 n board t
     by : (n : List ℕ) (board : Board) → board_in shelves n ≡ Some board → (b : Bool) → bytes_eq ns n ≡ b → IsFull board
     by n board there true same = full board (ap (board_in shelves) ((bytes_eq-Decides ns n).0 same) ∙ there)
     by n board there false other = (sound.1 n board there).1 other
+
+-- ---- places that stay
+
+-- a choice between a place and itself
+pub either_same : (b : Bool) (p : Place) → p ≡ cond b p p
+either_same true p = refl
+either_same false p = refl
+
+pub stay_board : (old new : Board) (name : List ℕ) → ((q : List ℕ) → place_in new q ≡ place_in old q) → EditsBoard unchanged old new name
+stay_board old new name same q = same q ∙ either_same (bytes_eq name q) (place_in old q)
+
+pub stay_full : (old new : Board) → ((q : List ℕ) → place_in new q ≡ place_in old q) → IsFull old → IsFull new
+stay_full old new same = full_edits unchanged old new [] (stay_board old new [] same) (λ p some. some)
+
+pub stay_shelves : (old new : Shelves) (ns name : List ℕ) → EditsShelves unchanged old new ns name → (n m : List ℕ) → place_of new n m ≡ place_of old n m
+stay_shelves old new ns name edits n m = edits n m ∙ sym (either_same (bytes_eq ns n && bytes_eq name m) (place_of old n m))

@@ -19,7 +19,7 @@ use Rattle.hx_object.specs.declared.object.Object.{Object}
 use Rattle.hx_model.specs.State.{same_id, object_at}
 use Rattle.hx_model.proofs.Objects.{object_at-objects_from}
 use Rattle.hx_store.proofs.ByKind.{number_of-least}
-use Rattle.hx_store.specs.Places.{entries_of, Place, AreShelves, IsBoard, IsSound, found, place_in, place_of, place_at, board_in, of_place, objects_in, objects_of, all_objects, objects_at}
+use Rattle.hx_store.specs.Places.{entries_of, Place, AreShelves, AreDistinct, IsSound, found, place_in, place_of, place_at, board_in, of_place, objects_in, objects_of, all_objects, objects_at}
 use Rattle.hx_store.specs.declared.board.Board.{Board}
 use Rattle.hx_store.specs.declared.shelves.Shelves.{Shelves}
 use Rattle.hx_store.specs.declared.places.Places.{Places}
@@ -81,7 +81,7 @@ pub and_true : (b : Bool) → (b && true) ≡ b
 and_true true = refl
 and_true false = refl
 
-module _ (kind : Kind) (ns : List ℕ) (board : Board) (distinct : IsBoard board) (own : (m : List ℕ) (x : Object) → found (place_in board m) ≡ Some x → x.id ≡ id_of kind ns m) where
+module _ (kind : Kind) (ns : List ℕ) (board : Board) (distinct : AreDistinct board) (own : (m : List ℕ) (x : Object) → found (place_in board m) ≡ Some x → x.id ≡ id_of kind ns m) where
   pub apart_in : (q : Id) (m : List ℕ) (v : Option Object) → place_in board m ≡ Some v → bytes_eq q.name m ≡ false → object_at (of_place v) q ≡ None
   apart_in q m None e other = refl
   apart_in q m (Some x) e other =
@@ -116,7 +116,7 @@ module _ (kind : Kind) (shelves : Shelves) (distinct : AreShelves shelves) (own 
 
   pub apart_of : (q : Id) (n : List ℕ) (board : Board) → board_in shelves n ≡ Some board → bytes_eq q.ns n ≡ false → object_at (objects_in board) q ≡ None
   apart_of q n board e other =
-      found_in kind n board (distinct.1 n board e).0 (own_in n board e) q
+      found_in kind n board (distinct.1 n board e).0.0 (own_in n board e) q
       ∙ ap (λ b. cond (number_of q.kind == number_of kind && b) (found (place_in board q.name)) None) other
       ∙ ap (λ b. cond {A = Option Object} b (found (place_in board q.name)) None) (and_false (number_of q.kind == number_of kind))
 
@@ -130,7 +130,7 @@ module _ (kind : Kind) (shelves : Shelves) (distinct : AreShelves shelves) (own 
           none true = refl
           none false = refl
       by (Some board) e =
-          found_in kind q.ns board (distinct.1 q.ns board e).0 (own_in q.ns board e) q
+          found_in kind q.ns board (distinct.1 q.ns board e).0.0 (own_in q.ns board e) q
           ∙ ap (λ b. cond (number_of q.kind == number_of kind && b) (found (place_in board q.name)) None) (text_itself q.ns)
           ∙ ap (λ b. cond {A = Option Object} b (found (place_in board q.name)) None) (and_true (number_of q.kind == number_of kind))
 

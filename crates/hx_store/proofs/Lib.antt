@@ -1,8 +1,11 @@
 pub mod Apart
 pub mod ByKind
+pub mod Descending
 pub mod Edits
 pub mod Finding
+pub mod InNamespace
 pub mod Indexing
+pub mod Least
 pub mod Listing
 pub mod Named
 pub mod Waiting

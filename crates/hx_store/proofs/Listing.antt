@@ -178,7 +178,7 @@ module _ (places : Places) (sound : IsSound places) (kind : Kind) where
       by : (o : Option Board) → board_in s ns ≡ o → object_at (option_map_or objects_in o []) q ≡ cond (number_of q.kind == number_of kind && bytes_eq q.ns ns) (found (place_at places q)) None
       by None at = none_then (number_of q.kind == number_of kind && bytes_eq q.ns ns) (found (place_at places q)) (λ t. ap found (here t None at))
       by (Some board) at =
-          found_in kind ns board ((sound.distinct.1 (number_of kind - 1) s e).1 ns board at).0 (own_in kind s (sound.distinct.1 (number_of kind - 1) s e) (own_kind s e) ns board at) q
+          found_in kind ns board ((sound.distinct.1 (number_of kind - 1) s e).1 ns board at).0.0 (own_in kind s (sound.distinct.1 (number_of kind - 1) s e) (own_kind s e) ns board at) q
           ∙ same_then (number_of q.kind == number_of kind && bytes_eq q.ns ns) (found (place_in board q.name)) (found (place_at places q)) (λ t. ap found (sym (here t (Some board) at)))
 
   are_apart : (ns : Option (List ℕ)) (o : Option Shelves) → kind_at places kind ≡ o → AreApart (option_map_or (objects_under ns) o [])
@@ -188,7 +188,7 @@ module _ (places : Places) (sound : IsSound places) (kind : Kind) where
     where
       by : (o : Option Board) → board_in s ns ≡ o → AreApart (option_map_or objects_in o [])
       by None at = tt
-      by (Some board) at = board_apart kind ns board ((sound.distinct.1 (number_of kind - 1) s e).1 ns board at).0 (own_in kind s (sound.distinct.1 (number_of kind - 1) s e) (own_kind s e) ns board at)
+      by (Some board) at = board_apart kind ns board ((sound.distinct.1 (number_of kind - 1) s e).1 ns board at).0.0 (own_in kind s (sound.distinct.1 (number_of kind - 1) s e) (own_kind s e) ns board at)
 
   -- what lies under the kind and the namespace is what a filter keeps
   kept : (ns : Option (List ℕ)) (q : Id) (o : Option Object) → found (place_at places q) ≡ o → cond (is_under kind ns q) o None ≡ option_filter (is_listed kind ns) o

@@ -1,15 +1,16 @@
 -- Which places are empty: those of writes that are staged, and no others.
 use Rattle.std.proofs.Common.{◌≡◌, ◌≢◌, ◌<◌, ◌+◌, ◌==◌, ◌||◌, ℕ, zero, suc, Bool, true, false, cond, Some, None, List, [], ◌∷◌, length, get_or, refl, sym, ap, subst, ◌∙◌, true≢false, eqb-true, eq-eqb, arith}
-use Rattle.std.specs.Prelude.{is_some, slice_get, slice_set, Result, Ok, Err, MatchResult}
+use Rattle.std.specs.Prelude.{is_some, IsSome, slice_get, slice_set, Result, Ok, Err, MatchResult}
 use Rattle.std.proofs.lemmas.Option.{get_or_from_slice_get}
 use Rattle.hx_object.specs.declared.object.Id.{Id}
 use Rattle.hx_model.specs.State.{same_id}
 use Rattle.hx_model.specs.declared.key.Write.{Write}
+use Rattle.hx_model.specs.declared.key.Write.TheVariants.{Put, Cut}
 use Rattle.hx_model.proofs.Objects.{is_same_id}
 use Rattle.hx_store.specs.Changes.{id_of}
-use Rattle.hx_store.specs.Places.{Place, EditsPlaces, AreAwaited, AreSwept, IsReady, IsSound, KeepsOthers, is_written, made, swept, unchanged, place_at}
+use Rattle.hx_store.specs.Places.{ArePlaces, HasPlace, Place, EditsPlaces, found, AreAwaited, AreSwept, IsReady, IsSound, KeepsOthers, is_written, made, swept, unchanged, place_at}
 use Rattle.hx_store.specs.declared.places.Places.{Places}
-use Rattle.hx_store.proofs.Writing.{flip_same, same_itself}
+use Rattle.hx_store.proofs.Writing.{flip_same, same_itself, sound_by}
 
 or_false : (a b : Bool) → (a || b) ≡ false → (a ≡ false) × (b ≡ false)
 or_false true b e = absurd (true≢false e)
@@ -99,3 +100,15 @@ none_ready places ws none sound awaited = record {
   there = λ i w e. absurd (true≢false (sym (ap is_some (sym (ap (λ l. slice_get l i) none) ∙ e))));
   awaited = λ id e. absurd (true≢false (sym (awaited id e)));
 }
+
+-- where each place stays, a store stays ready
+pub stay_ready : (old new : Places) (ws : List Write) → ArePlaces new → ((id : Id) → place_at new id ≡ place_at old id) → IsReady old ws → IsReady new ws
+stay_ready old new ws distinct same ready = record {
+  sound = sound_by old new ready.sound distinct (λ id. ap found (same id));
+  there = λ i w e. by w (ready.there i w e);
+  awaited = λ id e. ready.awaited id (sym (same id) ∙ e);
+}
+  where
+    by : (w : Write) → HasPlace old w → HasPlace new w
+    by (Put x) there = subst IsSome (sym (same x.id)) there
+    by (Cut id) there = tt

@@ -25,6 +25,7 @@ use Rattle.hx_model.specs.State.{Objects, objects_from, same_id}
 use Rattle.hx_model.specs.declared.key.Write.{Write}
 use Rattle.hx_model.specs.declared.key.Write.TheVariants.{Put, Cut}
 use Rattle.hx_store.specs.Changes.{id_of}
+use Rattle.hx_store.specs.Least.{Descends}
 use Rattle.hx_store.specs.declared.board.Board.{Board}
 use Rattle.hx_store.specs.declared.board.Board.TheVariants.{Empty, One, Many}
 use Rattle.hx_store.specs.declared.shelf.Shelf.{Shelf}
@@ -111,12 +112,25 @@ EditsPlaces g old new id = (q : Id) → place_at new q ≡ cond (same_id id q) (
 
 -- ---- what is kept true
 
--- no two places have one name: on a shelf, and on a board
+-- the names descend, if the shelf says so: on a shelf, and on a board
+abbrev pub IsInOrder : Shelf → Type 0
+IsInOrder shelf = shelf.descends ≡ true → Descends (keys_of shelf.places.entries)
+
+abbrev pub AreInOrder : Board → Type 0
+AreInOrder Empty = Unit {0}
+AreInOrder (One name place) = Unit {0}
+AreInOrder (Many shelf) = IsInOrder shelf.value
+
+-- no two places of a board have one name
+abbrev pub AreDistinct : Board → Type 0
+AreDistinct board = IsDistinct string_eq (keys_of (entries_of board))
+
+-- so it is, and the names descend if that is said: on a shelf, and on a board
 abbrev pub IsShelf : Shelf → Type 0
-IsShelf shelf = IsDistinct string_eq (keys_of shelf.places.entries)
+IsShelf shelf = IsDistinct string_eq (keys_of shelf.places.entries) × IsInOrder shelf
 
 abbrev pub IsBoard : Board → Type 0
-IsBoard board = IsDistinct string_eq (keys_of (entries_of board))
+IsBoard board = AreDistinct board × AreInOrder board
 
 -- a place is there
 abbrev pub IsFull : Board → Type 0

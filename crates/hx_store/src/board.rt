@@ -1,5 +1,6 @@
 // The objects of one kind in one namespace: one by itself, or a shelf of them.
 ghost use Rattle.std.specs.Prelude.{◌≡◌, ◌++◌, ◌↔◌, ℕ, List, IfOk, OnOk, IsTrue, [], MatchResult, option_copied};
+ghost use Rattle.hx_store.specs.Least.{IsLeast};
 ghost use Rattle.hx_store.specs.Places.{IsBoard, IsShelf, place_in, place_on, place_alone, entries_of, found, EditsBoard, made, filled, swept, unchanged, objects_in, IsNewBoard};
 
 use crate::shelf::Shelf;
@@ -134,6 +135,27 @@ impl Board {
                 Ok(())
             }
             Board::Many(shelf) => shelf.as_ref().list(listed),
+        }
+    }
+
+    /// Puts the names in descending order where there are several. Where there is no memory for it, they stay as they are.
+    pub(crate) fn sort(&mut self)
+        ensures board { IsBoard self.old → IsBoard self.new }
+        ensures places { (q : List ℕ) → place_in self.new q ≡ place_in self.old q }
+    {
+        if let Board::Many(shelf) = self {
+            shelf.as_mut().sort();
+        }
+    }
+
+    /// The object of the least name.
+    pub(crate) fn least(&self) -> Option<&Shared>
+        ensures { IsBoard self.now → IsLeast (λ name. found (place_in self.now name)) (option_copied result) }
+    {
+        match self {
+            Board::Empty => None,
+            Board::One { place, .. } => place.as_ref(),
+            Board::Many(shelf) => shelf.as_ref().least(),
         }
     }
 }

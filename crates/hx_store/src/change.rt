@@ -1,10 +1,11 @@
 // Writes that are ready to be made.
 ghost use Rattle.std.specs.Prelude.{◌≡◌, Some, IfOk, is_some, option_copied};
 ghost use Rattle.hx_store.specs.Changes.{id_of, object_of};
-ghost use Rattle.hx_store.specs.Sources.{source_in};
+ghost use Rattle.hx_store.specs.Sources.{indexed_in, is_indexed, may_be_indexed};
+ghost use Rattle.hx_object.specs.Kinds.{is_anchor};
 
 use hx_model::{Write, is_source};
-use hx_object::{Id, NoMemory, Object, Shared};
+use hx_object::{Id, Kind, NoMemory, Object, Shared};
 use std::marker::Model;
 
 /// A write, with the identity that it is of.
@@ -12,8 +13,8 @@ use std::marker::Model;
 pub struct Change {
     key: Id,
     object: Option<Shared>,
-    /// The object once more, if it is a source.
-    source: Option<Shared>,
+    /// The object once more, if it is a source or an anchor.
+    entry: Option<Shared>,
 }
 
 impl Model for Change {
@@ -26,7 +27,7 @@ impl Model for Change {
 
     ghost view = { λ c. write_of c.key c.object };
 
-    ghost invariant = { λ c. IsChange c.key c.object c.source };
+    ghost invariant = { λ c. IsChange c.key c.object c.entry };
 }
 
 impl Change {
@@ -36,7 +37,7 @@ impl Change {
     {
         Ok(Change {
             key: object.object().id.clone()?,
-            source: share_source(&object)?,
+            entry: share_indexed(&object)?,
             object: Some(object),
         })
     }
@@ -48,7 +49,7 @@ impl Change {
         Change {
             key: id,
             object: None,
-            source: None,
+            entry: None,
         }
     }
 
@@ -66,29 +67,50 @@ impl Change {
         self.object.as_ref()
     }
 
-    /// Whether the object that is stored is a source.
-    pub(crate) fn puts_source(&self) -> bool
-        ensures { result ≡ is_some (source_in (object_of self.now)) }
+    /// Whether the object that is stored is a source or an anchor.
+    pub(crate) fn puts_indexed(&self) -> bool
+        ensures { result ≡ is_some (indexed_in (object_of self.now)) }
     {
-        self.source.is_some()
+        self.entry.is_some()
     }
 
-    /// Takes the object out, and once more if it is a source, which leaves a write that takes the object of the identity away.
+    /// Takes the object out, and once more if it is a source or an anchor, which leaves a write that takes the object of the identity away.
     pub(crate) fn take(&mut self) -> (Option<Shared>, Option<Shared>)
         ensures object { result.0 ≡ object_of self.old }
-        ensures source { result.1 ≡ source_in (object_of self.old) }
+        ensures entry { result.1 ≡ indexed_in (object_of self.old) }
         ensures rest { self.new ≡ Write.Cut (id_of self.old) }
     {
-        (self.object.take(), self.source.take())
+        (self.object.take(), self.entry.take())
     }
 }
 
-/// One more owner of an object, if it is a source.
-fn share_source(object: &Shared) -> Result<Option<Shared>, NoMemory>
-    ensures { IfOk result (λ source. source ≡ source_in (Some object.now)) }
+/// One more owner of an object, if it is a source or an anchor.
+fn share_indexed(object: &Shared) -> Result<Option<Shared>, NoMemory>
+    ensures { IfOk result (λ entry. entry ≡ indexed_in (Some object.now)) }
 {
-    if is_source(object.object()) {
+    if is_indexed(object.object()) {
         return Ok(Some(object.share()?));
     }
     Ok(None)
+}
+
+/// Whether an object is a source or an anchor.
+fn is_indexed(object: &Object) -> bool
+    ensures { result ≡ is_indexed object.now }
+{
+    is_source(object) || is_anchor(object.id.kind)
+}
+
+/// Whether objects of a kind are sources or anchors, or some of them are.
+pub(crate) fn may_be_indexed(kind: Kind) -> bool
+    ensures { result ≡ may_be_indexed kind }
+{
+    kind.can_be_copied() || is_anchor(kind)
+}
+
+/// Whether objects of a kind are anchors.
+fn is_anchor(kind: Kind) -> bool
+    ensures { result ≡ is_anchor kind }
+{
+    matches!(kind, Kind::SubnamespaceAnchor)
 }

@@ -5,12 +5,12 @@
 #![tactic(auto)]
 
 mod board;
+mod by_name;
 mod change;
 mod map;
 mod places;
 mod shelf;
 mod shelves;
-mod sources;
 mod store;
 mod writes;
 

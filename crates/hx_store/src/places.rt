@@ -1,7 +1,8 @@
 // The places of the objects of all kinds.
 ghost use Rattle.std.specs.Prelude.{◌≡◌, ◌++◌, ◌-◌, ◌<◌, ℕ, [], Some, OnOk, MatchResult, length, option_copied, slice_get};
 ghost use Rattle.hx_object.specs.Kinds.{number_of};
-ghost use Rattle.hx_store.specs.Places.{AreShelves, ArePlaces, place_at, found, EditsPlaces, made, filled, swept, unchanged, objects_listed};
+ghost use Rattle.hx_model.specs.State.{least_in};
+ghost use Rattle.hx_store.specs.Places.{AreShelves, ArePlaces, IsSound, objects_at, place_at, found, EditsPlaces, made, filled, swept, unchanged, objects_listed};
 
 use crate::shelves::Shelves;
 use hx_object::{Id, Kind, NoMemory, Shared, Text};
@@ -9,10 +10,16 @@ use std::alloc::Global;
 use std::array;
 use std::hash::RandomState;
 
+/// How many kinds there are.
+const KINDS: usize = 14;
+
+/// Where the first kind lies whose objects lie in namespaces. Those of the kinds before it lie in the cluster.
+const FIRST_NAMESPACED: usize = 2;
+
 /// The places of the objects of all kinds, kind by kind in the order of their numbers.
 #[derive(Drop)]
 pub(crate) struct Places {
-    kinds: [Shelves; 14],
+    kinds: [Shelves; KINDS],
 }
 
 impl Places {
@@ -55,6 +62,28 @@ impl Places {
         ensures swept { EditsPlaces swept self.old self.new id.now }
     {
         self.kinds[index_of(id.kind)].sweep(id.ns.as_str(), id.name.as_str());
+    }
+
+    /// Puts the objects of each kind that lie in a namespace in descending order of their names. Where there is no memory for it, they stay as they are.
+    pub(crate) fn sort(&mut self, ns: &str)
+        ensures places { ArePlaces self.old → ArePlaces self.new }
+        ensures same { ArePlaces self.old → (id : Id) → place_at self.new id ≡ place_at self.old id }
+    {
+        for index in FIRST_NAMESPACED..KINDS {
+            self.kinds[index].sort(ns);
+        }
+    }
+
+    /// The first object that lies in a namespace, in the order of identities.
+    pub(crate) fn least(&self, ns: &str) -> Option<&Shared>
+        ensures { IsSound self.now → option_copied result ≡ least_in (objects_at self.now) ns.now }
+    {
+        for index in FIRST_NAMESPACED..KINDS {
+            if let Some(object) = self.kinds[index].least(ns) {
+                return Some(object);
+            }
+        }
+        None
     }
 
     /// Adds the objects of a kind, in one namespace or in all, to those that are listed.

@@ -1,5 +1,13 @@
 // The objects of one kind in one namespace.
-ghost use Rattle.std.specs.Prelude.{◌≡◌, ◌++◌, ◌↔◌, IfOk, OnOk, IsTrue, [], MatchResult, option_copied};
+ghost use Rattle.std.specs.Prelude.{◌≡◌, ◌++◌, ◌↔◌, ℕ, List, cond, Some, None, IfSome, IfOk, OnOk, IsTrue, [], MatchResult, option_copied};
+ghost use Rattle.std.specs.HashMap.{get_by_text};
+ghost use Rattle.std.specs.List.{IsDistinct};
+ghost use Rattle.std.specs.Map.{keys_of};
+ghost use Rattle.std.specs.Map.Iter.{deref_pair};
+ghost use Rattle.std.specs.Str.{bytes_eq};
+ghost use Rattle.std.specs.String.{string_eq};
+ghost use Rattle.std.specs.Option.{option_map};
+ghost use Rattle.hx_store.specs.Least.{Descends, IsLeast, lesser, least_entry};
 ghost use Rattle.hx_store.specs.Places.{IsShelf, place_on, found, EditsShelf, made, filled, swept, unchanged, objects_on, IsNewShelf};
 
 use crate::map::{TextMap, empty_map};
@@ -13,6 +21,8 @@ use std::hash::RandomState;
 #[derive(Drop)]
 pub(crate) struct Shelf {
     places: TextMap<Option<Shared>>,
+    /// Whether the names are known to lie in descending order, so that the last one is the least.
+    descends: bool,
 }
 
 impl Shelf {
@@ -23,7 +33,10 @@ impl Shelf {
     {
         let mut places = empty_map(alloc, keys);
         let _none = places.insert(String::from_str(alloc, name)?, None)?;
-        Ok(Shelf { places })
+        Ok(Shelf {
+            places,
+            descends: false,
+        })
     }
 
     /// The object of a name.
@@ -45,6 +58,7 @@ impl Shelf {
             return Ok(());
         }
         let key = String::from_str(*self.places.allocator(), name)?;
+        self.descends = false;
         let _none = self.places.insert(key, None)?;
         Ok(())
     }
@@ -66,7 +80,31 @@ impl Shelf {
         ensures places { EditsShelf swept self.old self.new name.now }
     {
         if let Some(None) = self.places.get(name) {
-            let _place = self.places.swap_remove(name);
+            self.remove(name);
+        }
+    }
+
+    /// Takes a place away. Names that descend still do where it is the last place.
+    fn remove(&mut self, name: &str)
+        ensures shelf { IsShelf self.old → IsShelf self.new }
+        ensures places { (q : List ℕ) → place_on self.new q ≡ cond (bytes_eq name.now q) None (place_on self.old q) }
+    {
+        let Some((index, _name, _place)) = self.places.swap_remove_full(name) else {
+            return;
+        };
+        self.descends = self.descends && index == self.places.len();
+    }
+
+    /// Puts the names in descending order, so that the least is the last, and taking it away moves none. Where there is no memory for it, they stay as they are.
+    pub(crate) fn sort(&mut self)
+        ensures shelf { IsShelf self.old → IsShelf self.new }
+        ensures places { (q : List ℕ) → place_on self.new q ≡ place_on self.old q }
+    {
+        if self.descends {
+            return;
+        }
+        if let Ok(()) = sort(&mut self.places) {
+            self.descends = true;
         }
     }
 
@@ -87,5 +125,69 @@ impl Shelf {
             }
         }
         Ok(())
+    }
+
+    /// The object of the least name.
+    pub(crate) fn least(&self) -> Option<&Shared>
+        ensures { IsShelf self.now → IsLeast (λ name. found (place_on self.now name)) (option_copied result) }
+    {
+        if let Some(object) = self.last() {
+            return Some(object);
+        }
+        match self.walk() {
+            Some((_, object)) => Some(object),
+            None => None,
+        }
+    }
+
+    /// The object in the last place, where the names descend.
+    fn last(&self) -> Option<&Shared>
+        ensures { IsShelf self.now → IfSome (option_copied result) (λ x. IsLeast (λ name. found (place_on self.now name)) (Some x)) }
+    {
+        if !self.descends {
+            return None;
+        }
+        match self.places.last() {
+            Some((_, place)) => place.as_ref(),
+            None => None,
+        }
+    }
+
+    /// The object of the least name, with the name. It looks at every place.
+    fn walk(&self) -> Option<(&String, &Shared)>
+        ensures { option_map deref_pair result ≡ least_entry None self.now.places.entries }
+    {
+        let mut least = None;
+        for (name, place) in self.places.iter() {
+            least = lesser(least, name, place);
+        }
+        least
+    }
+}
+
+/// Sorts places by their names, in descending order.
+fn sort(places: &mut TextMap<Option<Shared>>) -> Result<(), NoMemory>
+    ensures distinct { IsDistinct string_eq (keys_of places.new.entries) }
+    ensures descends { OnOk result (Descends (keys_of places.new.entries)) }
+    ensures places { (q : List ℕ) → get_by_text places.new q ≡ get_by_text places.old q }
+{
+    places.sort_unstable_by(|a, _, b, _| b.cmp(a))?;
+    Ok(())
+}
+
+/// The one of the lesser name: of an object that was found before, and what a place holds.
+fn lesser<'a>(
+    best: Option<(&'a String, &'a Shared)>,
+    name: &'a String,
+    place: &'a Option<Shared>,
+) -> Option<(&'a String, &'a Shared)>
+    ensures { option_map deref_pair result ≡ lesser (option_map deref_pair best.entry) (name.now, place.now) }
+{
+    let Some(object) = place else {
+        return best;
+    };
+    match best {
+        Some((least, _)) if name >= least => best,
+        _ => Some((name, object)),
     }
 }

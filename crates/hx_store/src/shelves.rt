@@ -1,6 +1,7 @@
 // The objects of one kind.
 ghost use Rattle.std.specs.Prelude.{◌≡◌, ◌++◌, ℕ, List, [], None, OnOk, IsTrue, ◌↔◌, MatchResult, option_copied};
 ghost use Rattle.std.specs.Option.{option_map_or};
+ghost use Rattle.hx_store.specs.Least.{IsLeast};
 ghost use Rattle.hx_store.specs.Places.{AreShelves, AreShelvesBut, board_in, place_of, found, EditsShelves, made, filled, swept, unchanged, objects_in, objects_of};
 
 use crate::board::Board;
@@ -98,6 +99,26 @@ impl Shelves {
             if board.is_empty() {
                 let _board = self.shelves.swap_remove(ns);
             }
+        }
+    }
+
+    /// Puts the objects of a namespace in descending order of their names. Where there is no memory for it, they stay as they are.
+    pub(crate) fn sort(&mut self, ns: &str)
+        ensures shelves { AreShelves self.old → AreShelves self.new }
+        ensures places { (n m : List ℕ) → place_of self.new n m ≡ place_of self.old n m }
+    {
+        if let Some(board) = self.shelves.get_mut(ns) {
+            board.sort();
+        }
+    }
+
+    /// The object of the least name in a namespace.
+    pub(crate) fn least(&self, ns: &str) -> Option<&Shared>
+        ensures { AreShelves self.now → IsLeast (λ name. found (place_of self.now ns.now name)) (option_copied result) }
+    {
+        match self.board(ns) {
+            Some(board) => board.least(),
+            None => None,
         }
     }
 

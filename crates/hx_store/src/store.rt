@@ -2,13 +2,13 @@
 ghost use Rattle.std.specs.Prelude.{◌≡◌, [], filter, IfOk, OnOk, OnErr, option_copied};
 ghost use Rattle.std.specs.List.Sorted.{IsPermutation, IsSortedByKey};
 ghost use Rattle.hx_object.specs.Order.{id_cmp};
-ghost use Rattle.hx_model.specs.State.{object_at, after_writes};
+ghost use Rattle.hx_model.specs.State.{object_at, after_writes, least_in};
 ghost use Rattle.hx_model.specs.Answers.{is_listed};
-ghost use Rattle.hx_store.specs.Sources.{is_source_of};
+ghost use Rattle.hx_store.specs.Sources.{is_source_of, is_anchor_of, is_indexed_of};
 
+use crate::by_name::ByName;
 use crate::change::Change;
 use crate::places::Places;
-use crate::sources::Sources;
 use crate::writes::{make_places, make_writes, sweep_places};
 use hx_object::{Id, Kind, NoMemory, Shared, Text};
 use std::alloc::Global;
@@ -18,11 +18,11 @@ use std::mem;
 
 /// Objects by kind, namespace and name, and the version of the last write.
 ///
-/// An object is found in constant time on average, and a list looks at nothing but what it gives. Sources, which copies are made of, lie by kind, name and namespace as well. Writes are staged, which makes room for them, and then made without taking memory.
+/// An object is found in constant time on average, and a list looks at nothing but what it gives. Sources, which copies are made of, and anchors lie by kind, name and namespace as well. Writes are staged, which makes room for them, and then made without taking memory.
 #[derive(Drop)]
 pub struct Store {
     places: Places,
-    sources: Sources,
+    by_name: ByName,
     version: u64,
     staged: Vec<Change>,
     alloc: Global,
@@ -39,7 +39,7 @@ impl Model for Store {
 
     ghost view = { λ s. record { objects = objects_at s.places; version = s.version; staged = s.staged.items } };
 
-    ghost invariant = { λ s. IsKept s.places s.sources s.staged.items };
+    ghost invariant = { λ s. IsKept s.places s.by_name s.staged.items };
 }
 
 impl Store {
@@ -51,7 +51,7 @@ impl Store {
     {
         Store {
             places: Places::new(alloc, keys),
-            sources: Sources::new(alloc, keys),
+            by_name: ByName::new(alloc, keys),
             version,
             staged: Vec::new(alloc),
             alloc,
@@ -100,10 +100,47 @@ impl Store {
     pub fn sources(&self, kind: Kind, name: &str) -> Result<Vec<Shared>, NoMemory>
         ensures { IfOk result (λ objects. objects.items ≡ filter (is_source_of kind name.now) self.now.objects) }
     {
+        if !kind.can_be_copied() {
+            return Ok(Vec::new(self.alloc));
+        }
+        self.indexed(kind, name)
+    }
+
+    /// The anchors of a name in all namespaces, in ascending order of identities: by each, its namespace asks for a subnamespace of the name.
+    ///
+    /// It looks at nothing but what it gives.
+    pub fn anchors(&self, name: &str) -> Result<Vec<Shared>, NoMemory>
+        ensures { IfOk result (λ objects. objects.items ≡ filter (is_anchor_of name.now) self.now.objects) }
+    {
+        self.indexed(Kind::SubnamespaceAnchor, name)
+    }
+
+    /// The sources of a kind and a name, or the anchors of a name, in ascending order of identities.
+    fn indexed(&self, kind: Kind, name: &str) -> Result<Vec<Shared>, NoMemory>
+        ensures { IfOk result (λ objects. objects.items ≡ filter (is_indexed_of kind name.now) self.now.objects) }
+    {
         let mut listed = Vec::new(self.alloc);
-        self.sources.list(kind, name, &mut listed)?;
+        self.by_name.list(kind, name, &mut listed)?;
         sort(&mut listed);
         Ok(listed)
+    }
+
+    /// Puts the objects of a namespace into an order in which `least` finds one in constant time. Taking away what `least` gives keeps them so, and any other object that is stored anew or taken away there may end it.
+    ///
+    /// Where they lie in that order it takes constant time itself. Where there is no memory for it, they stay as they are.
+    pub fn sort(&mut self, ns: &Text)
+        ensures { self.new ≡ self.old }
+    {
+        self.places.sort(ns.as_str());
+    }
+
+    /// The first object that lies in a namespace, in the order of identities. It takes no memory.
+    ///
+    /// Unless `sort` was called, it looks at all objects there of the first kind that has any.
+    pub fn least(&self, ns: &Text) -> Option<&Shared>
+        ensures { option_copied result ≡ least_in self.now.objects ns.now }
+    {
+        self.places.least(ns.as_str())
     }
 
     /// The writes that are staged.
@@ -121,7 +158,7 @@ impl Store {
         ensures err { OnErr result (self.new.staged ≡ []) }
     {
         self.discard();
-        make_places(&mut self.places, &mut self.sources, &changes)?;
+        make_places(&mut self.places, &mut self.by_name, &changes)?;
         self.staged = changes;
         Ok(())
     }
@@ -133,8 +170,8 @@ impl Store {
         ensures staged { self.new.staged ≡ [] }
     {
         let mut changes = mem::replace(&mut self.staged, Vec::new(self.alloc));
-        make_writes(&mut self.places, &mut self.sources, &mut changes);
-        sweep_places(&mut self.places, &mut self.sources, &changes);
+        make_writes(&mut self.places, &mut self.by_name, &mut changes);
+        sweep_places(&mut self.places, &mut self.by_name, &changes);
         self.version = version;
     }
 
@@ -145,7 +182,7 @@ impl Store {
         ensures staged { self.new.staged ≡ [] }
     {
         let changes = mem::replace(&mut self.staged, Vec::new(self.alloc));
-        sweep_places(&mut self.places, &mut self.sources, &changes);
+        sweep_places(&mut self.places, &mut self.by_name, &changes);
     }
 }
 

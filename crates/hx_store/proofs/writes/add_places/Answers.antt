@@ -1,8 +1,8 @@
 use Rattle.std.proofs.Common.{[], ◌∷◌, refl, subst, ◌∙◌, arith}
 use Rattle.std.proofs.lemmas.Option.{slice_get_within}
 use Rattle.hx_store.specs.Places.{HasPlace, KeepsOthers}
-use Rattle.hx_store.specs.ByName.{HasSource}
-use Rattle.hx_store.proofs.Indexing.{index_places, index_sources}
+use Rattle.hx_store.specs.ByName.{HasEntry}
+use Rattle.hx_store.proofs.Indexing.{index_places, index_entries}
 use Rattle.hx_store.proofs.Waiting.{more_others}
 use Rattle.hx_store.proofs.Writing.{more_hold}
 use Rattle.hx_store.proofs.writes.add_places.Goals as goal
@@ -13,8 +13,8 @@ loop-change-init c = record { sound = c.requires.sound; index = c.requires.index
 pub add_place-requires : goal.add_place-requires
 add_place-requires c = c.loop-change.invariant.sound
 
-pub add_source-requires : goal.add_source-requires
-add_source-requires c = c.loop-change.invariant.index.distinct
+pub add_entry-requires : goal.add_entry-requires
+add_entry-requires c = c.loop-change.invariant.index.distinct
 
 pub returns-in_err-add_place-clause-same : goal.returns-in_err-add_place-clause-same
 returns-in_err-add_place-clause-same c id = c.add_place.ensures.same id ∙ c.loop-change.invariant.same id
@@ -25,33 +25,33 @@ returns-in_err-add_place-clause-others c =
     (subst (λ w. KeepsOthers (w ∷ []) c.loop-change.places c.add_place.new.places) c.change-item.is c.add_place.ensures.others)
 
 pub returns-in_err-add_place-clause-index : goal.returns-in_err-add_place-clause-index
-returns-in_err-add_place-clause-index c = index_places c.loop-change.sources c.loop-change.places c.add_place.new.places c.add_place.ensures.same c.loop-change.invariant.index
+returns-in_err-add_place-clause-index c = index_places c.loop-change.by_name c.loop-change.places c.add_place.new.places c.add_place.ensures.same c.loop-change.invariant.index
 
-pub returns-in_err-add_source-clause-same : goal.returns-in_err-add_source-clause-same
-returns-in_err-add_source-clause-same c id = c.add_place.ensures.same id ∙ c.loop-change.invariant.same id
+pub returns-in_err-add_entry-clause-same : goal.returns-in_err-add_entry-clause-same
+returns-in_err-add_entry-clause-same c id = c.add_place.ensures.same id ∙ c.loop-change.invariant.same id
 
-pub returns-in_err-add_source-clause-others : goal.returns-in_err-add_source-clause-others
-returns-in_err-add_source-clause-others c =
+pub returns-in_err-add_entry-clause-others : goal.returns-in_err-add_entry-clause-others
+returns-in_err-add_entry-clause-others c =
     more_others c.args.changes.now c.args.changes.now c.loop-change.change-index c.change-item.result c.args.places.now c.loop-change.places c.add_place.new.places c.loop-change-test.true (λ id. refl) c.loop-change.invariant.others
     (subst (λ w. KeepsOthers (w ∷ []) c.loop-change.places c.add_place.new.places) c.change-item.is c.add_place.ensures.others)
 
-pub returns-in_err-add_source-clause-index : goal.returns-in_err-add_source-clause-index
-returns-in_err-add_source-clause-index c =
-    index_sources c.loop-change.sources c.add_source.new.sources c.add_place.new.places c.add_source.ensures.distinct c.add_source.ensures.same
-    (index_places c.loop-change.sources c.loop-change.places c.add_place.new.places c.add_place.ensures.same c.loop-change.invariant.index)
+pub returns-in_err-add_entry-clause-index : goal.returns-in_err-add_entry-clause-index
+returns-in_err-add_entry-clause-index c =
+    index_entries c.loop-change.by_name c.add_entry.new.by_name c.add_place.new.places c.add_entry.ensures.distinct c.add_entry.ensures.same
+    (index_places c.loop-change.by_name c.loop-change.places c.add_place.new.places c.add_place.ensures.same c.loop-change.invariant.index)
 
 pub loop-change-preserved : goal.loop-change-preserved
 loop-change-preserved c = record {
   sound = c.add_place.ensures.sound;
-  index = index_sources c.loop-change.sources c.add_source.new.sources c.add_place.new.places c.add_source.ensures.distinct c.add_source.ensures.same
-      (index_places c.loop-change.sources c.loop-change.places c.add_place.new.places c.add_place.ensures.same c.loop-change.invariant.index);
+  index = index_entries c.loop-change.by_name c.add_entry.new.by_name c.add_place.new.places c.add_entry.ensures.distinct c.add_entry.ensures.same
+      (index_places c.loop-change.by_name c.loop-change.places c.add_place.new.places c.add_place.ensures.same c.loop-change.invariant.index);
   same = λ id. c.add_place.ensures.same id ∙ c.loop-change.invariant.same id;
   others = more_others c.args.changes.now c.args.changes.now c.loop-change.change-index c.change-item.result c.args.places.now c.loop-change.places c.add_place.new.places c.loop-change-test.true (λ id. refl) c.loop-change.invariant.others
       (subst (λ w. KeepsOthers (w ∷ []) c.loop-change.places c.add_place.new.places) c.change-item.is c.add_place.ensures.others);
   there = more_hold (HasPlace c.loop-change.places) (HasPlace c.add_place.new.places) c.args.changes.now c.loop-change.change-index c.change-item.result c.add_place.ensures.kept c.loop-change.invariant.there
       (subst (HasPlace c.add_place.new.places) c.change-item.is c.in_ok-add_place.ensures.there);
-  awaited = more_hold (HasSource c.loop-change.sources) (HasSource c.add_source.new.sources) c.args.changes.now c.loop-change.change-index c.change-item.result c.add_source.ensures.kept c.loop-change.invariant.awaited
-      (subst (HasSource c.add_source.new.sources) c.change-item.is c.in_ok-add_source.ensures.there);
+  awaited = more_hold (HasEntry c.loop-change.by_name) (HasEntry c.add_entry.new.by_name) c.args.changes.now c.loop-change.change-index c.change-item.result c.add_entry.ensures.kept c.loop-change.invariant.awaited
+      (subst (HasEntry c.add_entry.new.by_name) c.change-item.is c.in_ok-add_entry.ensures.there);
 }
 
 pub returns-clause-sound : goal.returns-clause-sound

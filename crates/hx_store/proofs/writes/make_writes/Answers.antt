@@ -3,7 +3,7 @@ use Rattle.std.proofs.lemmas.Option.{slice_get-get_or}
 use Rattle.std.proofs.Math.ListN.{drop_of_length-le}
 use Rattle.hx_model.specs.State.{after_writes}
 use Rattle.hx_store.specs.Places.{HasPlace, objects_at}
-use Rattle.hx_store.specs.ByName.{HasSource}
+use Rattle.hx_store.specs.ByName.{HasEntry}
 use Rattle.hx_store.proofs.Waiting.{more_others, same_written}
 use Rattle.hx_store.proofs.Writing.{left_hold, left_writes}
 use Rattle.hx_store.proofs.writes.make_writes.Goals as goal
@@ -33,7 +33,7 @@ loop-change-preserved c =
     record {
       sound = c.make_write.ensures.sound;
       index = c.make_write.ensures.index;
-      awaited = left_hold (HasSource c.loop-change.sources) (HasSource c.make_write.new.sources) c.loop-change.changes c.loop-change.change-index c.make_write.new.change c.make_write.ensures.kept_sources c.loop-change.invariant.awaited;
+      awaited = left_hold (HasEntry c.loop-change.by_name) (HasEntry c.make_write.new.by_name) c.loop-change.changes c.loop-change.change-index c.make_write.new.change c.make_write.ensures.kept_entries c.loop-change.invariant.awaited;
       there = left_hold (HasPlace c.loop-change.places) (HasPlace c.make_write.new.places) c.loop-change.changes c.loop-change.change-index c.make_write.new.change c.make_write.ensures.kept c.loop-change.invariant.there;
       others = more_others c.args.changes.now c.loop-change.changes c.loop-change.change-index c.change-item.result c.args.places.now c.loop-change.places c.make_write.new.places within c.loop-change.invariant.ids c.loop-change.invariant.others c.make_write.ensures.others;
       ids = λ id. same_written c.loop-change.changes c.loop-change.change-index c.change-item.result c.make_write.new.change id c.make_write.ensures.id ∙ c.loop-change.invariant.ids id;

@@ -19,7 +19,7 @@ this_id c = c.id.ensures ∙ ap id_of c.change-item.is
 pub loop-change-preserved : goal.loop-change-preserved
 loop-change-preserved c = record {
   sound = sound_by c.loop-change.places c.sweep.new.self c.loop-change.invariant.sound (c.sweep.ensures.places c.loop-change.invariant.sound.distinct) (same c);
-  index = index_sweep c.loop-change.sources c.sweep-in-loop-change.new.self c.loop-change.places c.sweep.new.self c.id-in-loop-change.result.now (same c) c.sweep-in-loop-change.ensures.places c.sweep-in-loop-change.ensures.swept c.loop-change.invariant.index;
+  index = index_sweep c.loop-change.by_name c.sweep-in-loop-change.new.self c.loop-change.places c.sweep.new.self c.id-in-loop-change.result.now (same c) c.sweep-in-loop-change.ensures.places c.sweep-in-loop-change.ensures.swept c.loop-change.invariant.index;
   same = λ id. same c id ∙ c.loop-change.invariant.same id;
   others = more_others c.args.changes.now c.args.changes.now c.loop-change.change-index c.change-item.result c.args.places.now c.loop-change.places c.sweep.new.self c.loop-change-test.true (λ id. refl) c.loop-change.invariant.others
       (edit_others swept c.loop-change.places c.sweep.new.self (get_or c.args.changes.now c.loop-change.change-index c.change-item.result) c.id.result.now (this_id c) c.sweep.ensures.swept);

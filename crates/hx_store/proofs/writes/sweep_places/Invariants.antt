@@ -10,7 +10,7 @@ use Rattle.hx_store.proofs.writes.sweep_places.Given as goal
 abbrev pub invariant-loop-change : goal.invariant-loop-change
 invariant-loop-change l = record {
   sound : IsSound l.places;
-  index : IsIndex l.sources l.places;
+  index : IsIndex l.by_name l.places;
   same : HasSame l.fn.places l.places;
   others : KeepsOthers l.changes l.fn.places l.places;
   swept : (i : ℕ) (w : Write) → i < l.change-index → slice_get l.changes i ≡ Some w → place_at l.places (id_of w) ≢ Some None;

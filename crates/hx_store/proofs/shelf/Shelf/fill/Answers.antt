@@ -11,5 +11,5 @@ returns-in-Some-clause-places c =
     let old = c.args.self.now in
     let was : place_on old c.args.name.now ≡ Some c.in-Some.place.now = sym c.get_mut.ensures.value ∙ ap option_copied_mut c.in-Some.is in
     let updates = (c.get_mut.follows.holds c.args.object).3 (ap is_some was) in
-    set_edits (filled c.args.object) (place_on old) (place_on (record { places = c.get_mut.follows.lender c.args.object })) c.args.name.now (Some c.args.object)
+    set_edits (filled c.args.object) (place_on old) (place_on (record { places = c.get_mut.follows.lender c.args.object; descends = old.descends })) c.args.name.now (Some c.args.object)
     (hash_map_updates_text c.args.name.now old.places (c.get_mut.follows.lender c.args.object) (Some c.args.object) updates) (ap (filled c.args.object) (sym was))

@@ -28,5 +28,5 @@ invariant_of-self c =
           (none_awaited c.make_writes.new.places c.sweep_places.new.places c.deref_mut.result.now c.deref.result.now (λ id. ap (λ ws. is_written ws id) swept ∙ c.make_writes.ensures.ids id)
           awaited c.sweep_places.ensures.others c.sweep_places.ensures.swept);
       index = c.sweep_places.ensures.index;
-      awaited = none_staged c.sweep_places.new.sources c.replace-changes.new.dest.items none;
+      awaited = none_staged c.sweep_places.new.by_name c.replace-changes.new.dest.items none;
     }

@@ -17,5 +17,5 @@ invariant_of-self c =
           (none_awaited c.self.inside.places c.sweep_places.new.places c.self.inside.staged.items c.deref.result.now (λ id. ap (λ ws. is_written ws id) all)
           c.self.invariant.ready.awaited c.sweep_places.ensures.others c.sweep_places.ensures.swept);
       index = c.sweep_places.ensures.index;
-      awaited = none_staged c.sweep_places.new.sources c.replace-changes.new.dest.items none;
+      awaited = none_staged c.sweep_places.new.by_name c.replace-changes.new.dest.items none;
     }

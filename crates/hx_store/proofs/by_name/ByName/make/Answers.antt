@@ -1,16 +1,16 @@
 use Rattle.std.proofs.Common.{rules}
 use Rattle.hx_store.specs.Places.{made, unchanged}
-use Rattle.hx_store.specs.ByName.{by_name, turned}
+use Rattle.hx_store.specs.ByName.{turned_places, turned}
 use Rattle.hx_store.proofs.Edits.{either_way}
 use Rattle.hx_store.proofs.ByKind.{set_edits, set_places}
-use Rattle.hx_store.proofs.sources.Sources.make.Goals as goal
+use Rattle.hx_store.proofs.by_name.ByName.make.Goals as goal
 
 pub returns-clause-places : goal.returns-clause-places
-returns-clause-places c = set_places (by_name c.args.self.now) c.index_of.result c.index-self-index_of.result c.make.new.self (turned c.args.id.now) (search rules) c.index_of.ensures.small c.index_of.ensures.value c.make.ensures.shelves
+returns-clause-places c = set_places (turned_places c.args.self.now) c.index_of.result c.index-self-index_of.result c.make.new.self (turned c.args.id.now) (search rules) c.index_of.ensures.small c.index_of.ensures.value c.make.ensures.shelves
 
 pub returns-clause-made : goal.returns-clause-made
 returns-clause-made c =
-    let edits = set_edits (by_name c.args.self.now) c.index_of.result c.index-self-index_of.result c.make.new.self (turned c.args.id.now) (search rules) c.index_of.ensures.small c.index_of.ensures.value in
+    let edits = set_edits (turned_places c.args.self.now) c.index_of.result c.index-self-index_of.result c.make.new.self (turned c.args.id.now) (search rules) c.index_of.ensures.small c.index_of.ensures.value in
     either_way c.make.result c.make.ensures.places
     (edits made c.as_str.result.now c.as_str-2.result.now c.as_str.ensures.value c.as_str-2.ensures.value)
     (edits unchanged c.as_str.result.now c.as_str-2.result.now c.as_str.ensures.value c.as_str-2.ensures.value)
