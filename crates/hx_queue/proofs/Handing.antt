@@ -12,7 +12,7 @@ use Rattle.hx_rules.specs.Briefs.{hand_by}
 use Rattle.hx_queue.specs.Tied.{hand_in, hands_of}
 use Rattle.hx_queue.specs.declared.workers.Handed.{Handed}
 use Rattle.hx_queue.proofs.Finding.{first_of, others_of, all_at_found, inside, none_kept, rest_is}
-use Rattle.hx_queue.proofs.Keys.{exact_key, same_itself, same_turned}
+use Rattle.hx_model.proofs.SameKeys.{same_key_is, same_key_itself, same_turned}
 
 abbrev pub AreWorkersApart : List Hand → Type 0
 AreWorkersApart hands = AllPairs (λ (a b : Hand). (a.worker == b.worker) ≡ false) hands
@@ -121,7 +121,7 @@ sole w k (x ∷ xs) apart h = by (x.worker == w) refl (same_key k x.key) refl h 
     by : (b : Bool) → (x.worker == w) ≡ b → (c : Bool) → same_key k x.key ≡ c → (c && b || list_any (λ (h : Hand). same_key k h.key && (h.worker == w)) xs) ≡ true
         → (list_any (λ (h : Hand). same_key k h.key && (h.worker == w)) xs ≡ true → IsSomeAnd (hand_of w xs) (λ hand. hand.key ≡ k))
         → IsSomeAnd (cond b (Some x) (hand_of w xs)) (λ hand. hand.key ≡ k)
-    by true own true is h rest = sym (exact_key k x.key is)
+    by true own true is h rest = sym (same_key_is k x.key is)
     by true own false is h rest = absurd (true≢false (sym h ∙ later xs own (first_of (λ (a b : Hand). (a.worker == b.worker) ≡ false) x xs apart)))
     by false own true is h rest = rest h
     by false own false is h rest = rest h
@@ -146,6 +146,6 @@ only_there w hand (x ∷ xs) apart keys e =
         → AllByRecursion (λ (h : Hand). (h.worker == w) ≡ same_key hand.key h.key) (x ∷ xs)
     by true own e rest first first_key =
         let is : x ≡ hand = inside x hand e in
-        (own ∙ sym (ap (λ (z : Hand). same_key z.key x.key) (sym is) ∙ same_itself x.key), later xs own is first first_key)
+        (own ∙ sym (ap (λ (z : Hand). same_key z.key x.key) (sym is) ∙ same_key_itself x.key), later xs own is first first_key)
     by false own e rest first first_key =
         (own ∙ sym (same_turned hand.key x.key ∙ all_at_found (λ (y : Hand). same_key x.key y.key ≡ false) (λ (h : Hand). h.worker == w) xs hand first_key e), rest e)

@@ -16,7 +16,7 @@ use Rattle.hx_model.specs.declared.key.Key.{Key}
 use Rattle.hx_queue.specs.Kept.{Held, again_in, held_without}
 use Rattle.hx_queue.specs.Slots.{held_of, held_by}
 use Rattle.hx_queue.specs.declared.slots.Slot.{Slot}
-use Rattle.hx_queue.proofs.Keys.{key_laws, exact_key}
+use Rattle.hx_model.proofs.SameKeys.{key_laws, same_key_is}
 
 abbrev pub Entries : Type 0
 Entries = List (Key × Slot)
@@ -90,7 +90,7 @@ again_set k s (e ∷ es) d h = by (same_key k e.0) refl (again_set k s es (IsDis
     by true is rest =
         let own : e.1 ≡ s = ap (λ o. unwrap_or o s) (sym (ap (λ b. cond b (Some e.1) (lookup (same_key k) es)) is) ∙ h) in
         let others : again_in k (held_of es) ≡ held_of es
-        = again_absent k es (ap (λ q. lookup (same_key q) es) (exact_key k e.0 is) ∙ none_later e.0 es (IsDistinct-head same_key e.0 (keys_of es) d)) in
+        = again_absent k es (ap (λ q. lookup (same_key q) es) (same_key_is k e.0 is) ∙ none_later e.0 es (IsDistinct-head same_key e.0 (keys_of es) d)) in
         ap (λ b. held_of (cond b ((e.0, w) ∷ es) (e ∷ set_value (same_key k) es w))) is
         ∙ (λ i. record { key = e.0; worker = (sym own i).worker; again = sym is i || e.1.again } ∷ sym others i)
     by false is rest =
@@ -117,11 +117,11 @@ pub let_go_held : {S : Type 0} (k : Key) (m n : HashMap Key Slot S) → IsDistin
     → IsPermutation (held_of n.entries) (held_without k (held_of m.entries))
 let_go_held {S} k m n c d h =
     let rest = filter (λ e. not (same_key k e.0)) m.entries in
-    let moved = hash_map_IsPermutation_from_get key_laws n (with_entries m rest) d (IsDistinct-keys_filter same_key (λ e. not (same_key k e.0)) m.entries c) (λ q. h q ∙ by q (same_key k q) refl ∙ sym (at q)) (λ x. x) exact_key in
+    let moved = hash_map_IsPermutation_from_get key_laws n (with_entries m rest) d (IsDistinct-keys_filter same_key (λ e. not (same_key k e.0)) m.entries c) (λ q. h q ∙ by q (same_key k q) refl ∙ sym (at q)) (λ x. x) same_key_is in
     subst (IsPermutation (held_of n.entries)) (held_filter k m.entries) (IsPermutation-map held_by n.entries rest (subst (λ l. IsPermutation l rest) (keys_kept n.entries) (subst (IsPermutation (map_keys (λ x. x) n.entries)) (keys_kept rest) moved)))
   where
     at : (q : Key) → lookup (same_key q) (filter (λ e. not (same_key k e.0)) m.entries) ≡ cond (not (same_key k q)) (lookup (same_key q) m.entries) None
-    at q = lookup-filter-keys (same_key q) (λ x. not (same_key k x)) (not (same_key k q)) (λ x is. ap (λ y. not (same_key k y)) (sym (exact_key q x is))) m.entries
+    at q = lookup-filter-keys (same_key q) (λ x. not (same_key k x)) (not (same_key k q)) (λ x is. ap (λ y. not (same_key k y)) (sym (same_key_is q x is))) m.entries
 
     by : (q : Key) (b : Bool) → same_key k q ≡ b → cond (same_key k q) None (lookup (same_key q) m.entries) ≡ cond (not (same_key k q)) (lookup (same_key q) m.entries) None
     by q true is = ap (λ b. cond b None (lookup (same_key q) m.entries)) is ∙ sym (ap (λ b. cond (not b) (lookup (same_key q) m.entries) None) is)
@@ -129,7 +129,7 @@ let_go_held {S} k m n c d h =
 
 -- the stored key is the one that was looked up
 pub stored_is : (k q : Key) (es : Entries) → lookup_key (same_key k) es ≡ Some q → q ≡ k
-stored_is k q es h = sym (exact_key k q (lookup_key_passes (same_key k) es q h))
+stored_is k q es h = sym (same_key_is k q (lookup_key_passes (same_key k) es q h))
 
 -- ---- answers
 

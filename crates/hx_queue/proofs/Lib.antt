@@ -1,4 +1,3 @@
-pub mod Keys
 pub mod Sets
 pub mod Lining
 pub mod Holding

@@ -15,7 +15,7 @@ use Rattle.hx_model.specs.Keys.{same_key, is_among}
 use Rattle.hx_model.specs.declared.key.Key.{Key}
 use Rattle.hx_queue.specs.Kept.{waiting_without}
 use Rattle.hx_queue.specs.Line.{in_line, IsLine}
-use Rattle.hx_queue.proofs.Keys.{key_laws, same_itself, same_turned}
+use Rattle.hx_model.proofs.SameKeys.{key_laws, same_key_itself, same_turned}
 use Rattle.hx_queue.proofs.Sets.{among_without, distinct_filter, same_keys, line_without, line_permutes, among_line, head_absent}
 
 pub no_keys : IsLine [] []
@@ -63,7 +63,7 @@ distinct_after k old new d p = IsDistinct-IsPermutation same_key same_turned (wa
 
 -- the place of a last key
 place_last : (k : Key) (init : List Key) → is_among k init ≡ false → position_or_len (same_key k) (init ++ k ∷ []) ≡ length init
-place_last k [] h = ap (λ b. cond (not b) (1 + 0) 0) (same_itself k)
+place_last k [] h = ap (λ b. cond (not b) (1 + 0) 0) (same_key_itself k)
 place_last k (x ∷ xs) h = by (same_key k x) refl (place_last k xs)
   where
     by : (b : Bool) → same_key k x ≡ b → (is_among k xs ≡ false → position_or_len (same_key k) (xs ++ k ∷ []) ≡ length xs) → position_or_len (same_key k) (x ∷ (xs ++ k ∷ [])) ≡ length (x ∷ xs)

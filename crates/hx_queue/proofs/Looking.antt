@@ -11,7 +11,7 @@ use Rattle.indexmap.proofs.MapLemmas.{lookup_permutation}
 use Rattle.hx_model.specs.Keys.{same_key, is_among}
 use Rattle.hx_model.specs.declared.key.Key.{Key}
 use Rattle.hx_queue.specs.Kept.{Held, QueueView, AreApart, Marks, Holds, Releases, again_in, held_without, keys_held, waiting_without, is_waiting, is_held, holding_of, marked_again}
-use Rattle.hx_queue.proofs.Keys.{key_laws, exact_key, same_turned}
+use Rattle.hx_model.proofs.SameKeys.{key_laws, same_key_is, same_turned}
 use Rattle.hx_queue.proofs.Sets.{among_without}
 use Rattle.hx_queue.proofs.Queueing.{is_held_among, keys_again, keys_without}
 
@@ -36,7 +36,7 @@ among_push q k keys = list_any-append (same_key q) keys (k ∷ []) ∙ ap (λ b.
 
 -- the same key has the same answers
 one_key : (f : Key → Bool) (q k : Key) (b : Bool) → same_key q k ≡ b → (b && f k) ≡ (b && f q)
-one_key f q k true e = ap f (sym (exact_key q k e))
+one_key f q k true e = ap f (sym (same_key_is q k e))
 one_key f q k false e = refl
 
 -- a key is held and was marked since
@@ -94,7 +94,7 @@ module _ (k : Key) (old new : QueueView) (m : Marks k old new) where
           ∙ there (same_key q k) refl ∙ sym (ap (λ t. is_waiting old q || (same_key q k && not t)) e)
         where
           there : (t : Bool) → same_key q k ≡ t → is_waiting old q ≡ (is_waiting old q || (same_key q k && true))
-          there true is = let w = ap (is_waiting old) (exact_key q k is) ∙ f in w ∙ sym (ap (λ t. t || (same_key q k && true)) w)
+          there true is = let w = ap (is_waiting old) (same_key_is q k is) ∙ f in w ∙ sym (ap (λ t. t || (same_key q k && true)) w)
           there false is = sym (ap (λ t. is_waiting old q || (t && true)) is ∙ or_false (is_waiting old q))
       by false e false f =
           (λ i. is_among q (if e i || f i then old.waiting else old.waiting ++ k ∷ [])) ∙ among_push q k old.waiting
@@ -136,7 +136,7 @@ module _ (k : Key) (old new : QueueView) (m : Marks k old new) where
       through (h ∷ hs) =
           ap (λ t. (same_key q h.key && (same_key k h.key || h.again)) || t) (through hs)
           ∙ step (same_key q h.key) (same_key k h.key) (same_key q k) h.again (list_any (λ (h : Held). same_key q h.key && h.again) hs) (is_among q (keys_held hs))
-          (λ e. ap (same_key k) (sym (exact_key q h.key e)) ∙ same_turned k q)
+          (λ e. ap (same_key k) (sym (same_key_is q h.key e)) ∙ same_turned k q)
 
 -- ---- after a hold
 
@@ -170,7 +170,7 @@ module _ (worker : ℕ) (k : Key) (old new : QueueView) (m : Holds worker k old 
 
       by : (b : Bool) → same_key q k ≡ b → cond (is_held old q) (holding_of old q) (cond (same_key q k) (Some (record { key = k; worker = worker; again = false })) None) ≡ (if same_key q k then Some (record { key = k; worker = worker; again = false }) else holding_of old q)
       by true e =
-          ap (λ b. cond b (holding_of old q) (cond (same_key q k) (Some (record { key = k; worker = worker; again = false })) None)) (ap (is_held old) (exact_key q k e) ∙ free)
+          ap (λ b. cond b (holding_of old q) (cond (same_key q k) (Some (record { key = k; worker = worker; again = false })) None)) (ap (is_held old) (same_key_is q k e) ∙ free)
           ∙ ap (λ b. cond b (Some (record { key = k; worker = worker; again = false })) None) e
           ∙ sym (ap (λ b. if b then Some (record { key = k; worker = worker; again = false }) else holding_of old q) e)
       by false e =
@@ -219,9 +219,9 @@ module _ (k : Key) (again : Bool) (old new : QueueView) (m : Releases k again ol
       ∙ through old.held ∙ ap (λ b. b && not (same_key q k)) (sym (was_marked q old.held))
     where
       own : (h : Held) (s t : Bool) → same_key k h.key ≡ s → same_key q h.key ≡ t → (cond (not s) (t && h.again) false) ≡ ((t && h.again) && not (same_key q k))
-      own h true true e f = sym (ap (λ b. h.again && not b) (ap (same_key q) (exact_key k h.key e) ∙ f) ∙ and_turned h.again false)
+      own h true true e f = sym (ap (λ b. h.again && not b) (ap (same_key q) (same_key_is k h.key e) ∙ f) ∙ and_turned h.again false)
       own h true false e f = refl
-      own h false true e f = and_turned true h.again ∙ sym (ap (λ b. h.again && not b) (same_turned q k ∙ ap (same_key k) (exact_key q h.key f) ∙ e))
+      own h false true e f = and_turned true h.again ∙ sym (ap (λ b. h.again && not b) (same_turned q k ∙ ap (same_key k) (same_key_is q h.key f) ∙ e))
       own h false false e f = refl
 
       spread : (a b c : Bool) → ((a && c) || (b && c)) ≡ ((a || b) && c)
@@ -249,9 +249,9 @@ module _ (k : Key) (again : Bool) (old new : QueueView) (m : Releases k again ol
       ∙ by_keys q (held_without k old.held) ∙ through old.held
     where
       own : (h : Held) (s t : Bool) (rest : Option Held) → same_key k h.key ≡ s → same_key q h.key ≡ t → cond (not s) (cond t (Some h) (if same_key q k then None else rest)) (if same_key q k then None else rest) ≡ (if same_key q k then None else cond t (Some h) rest)
-      own h true true rest e f = let is = ap (same_key q) (exact_key k h.key e) ∙ f in ap (λ b. if b then None else rest) is ∙ sym (ap (λ b. if b then None else Some h) is)
+      own h true true rest e f = let is = ap (same_key q) (same_key_is k h.key e) ∙ f in ap (λ b. if b then None else rest) is ∙ sym (ap (λ b. if b then None else Some h) is)
       own h true false rest e f = refl
-      own h false true rest e f = sym (ap (λ b. if b then None else Some h) (same_turned q k ∙ ap (same_key k) (exact_key q h.key f) ∙ e))
+      own h false true rest e f = sym (ap (λ b. if b then None else Some h) (same_turned q k ∙ ap (same_key k) (same_key_is q h.key f) ∙ e))
       own h false false rest e f = refl
 
       same_none : (b : Bool) → find (λ (h : Held). same_key q h.key) [] ≡ (if b then None else None)

@@ -8,7 +8,7 @@ use Rattle.hx_model.specs.declared.key.Key.{Key}
 use Rattle.hx_queue.specs.Kept.{Held, QueueView, Marks, again_in, is_held, is_waiting, marked_again, waiting_with}
 use Rattle.hx_queue.specs.Tied.{MarksEach, any_held}
 use Rattle.hx_queue.proofs.Finding.{some_any, any_alike, any_map, any_kept, any_either, any_where}
-use Rattle.hx_queue.proofs.Keys.{exact_key, same_turned}
+use Rattle.hx_model.proofs.SameKeys.{same_key_is, same_turned}
 
 -- ---- look-ups
 
@@ -61,7 +61,7 @@ marked_then k j h = by (same_key j h.key) refl
 
     by : (b : Bool) → same_key j h.key ≡ b → ((same_key k h.key || h.again) && b) ≡ (h.again && b || same_key j k && b)
     by true is =
-        let turned : same_key k h.key ≡ same_key j k = ap (same_key k) (sym (exact_key j h.key is)) ∙ same_turned k j in
+        let turned : same_key k h.key ≡ same_key j k = ap (same_key k) (sym (same_key_is j h.key is)) ∙ same_turned k j in
         ap (λ b. (b || h.again) && true) turned ∙ yes (same_key j k) h.again
     by false is = no (same_key k h.key) h.again (same_key j k)
 
@@ -80,7 +80,7 @@ mark_one k old new m = record {
     waiting : (j : Key) → is_among j (waiting_with old k) ≡ (is_among j old.waiting || ((same_key j k || false) && not (is_held old j)))
     waiting j =
         split j (is_held old k || is_waiting old k)
-        ∙ waits_then (is_among j old.waiting) (same_key j k) (is_held old j) (is_held old k) (is_waiting old k) (λ is. ap (is_held old) (exact_key j k is)) (λ is. ap (is_waiting old) (exact_key j k is))
+        ∙ waits_then (is_among j old.waiting) (same_key j k) (is_held old j) (is_held old k) (is_waiting old k) (λ is. ap (is_held old) (same_key_is j k is)) (λ is. ap (is_waiting old) (same_key_is j k is))
 
     again : (j : Key) → is_among j (map (λ (h : Held). h.key) (filter (λ (h : Held). h.again) (again_in k old.held))) ≡ (is_among j (marked_again old) || ((same_key j k || false) && is_held old j))
     again j =

@@ -14,7 +14,7 @@ use Rattle.hx_queue.specs.Kept.{Held, QueueView, AreApart, again_in, held_withou
 use Rattle.hx_queue.specs.Line.{LineView}
 use Rattle.hx_queue.specs.Slots.{held_of, held_by, view, seen, IsQueue}
 use Rattle.hx_queue.specs.declared.slots.Slot.{Slot}
-use Rattle.hx_queue.proofs.Keys.{key_laws, exact_key, same_turned}
+use Rattle.hx_model.proofs.SameKeys.{key_laws, same_key_is, same_turned}
 use Rattle.hx_queue.proofs.Sets.{among_without, head_absent}
 use Rattle.hx_queue.proofs.Lining.{distinct_after}
 
@@ -97,7 +97,7 @@ pushed_queue k a b es fs q is keys room more absent free =
   where
     by : (p : Key) → is_among p (keys_held (held_of fs)) ≡ true → (t : Bool) → same_key p k ≡ t → is_among p a.keys ≡ false → (is_among p a.keys || same_key p k) ≡ false
     by p held true e out =
-        absurd (true≢false (sym held ∙ ap (is_among p) (ap keys_held is ∙ keys_again k (held_of es)) ∙ ap (λ x. is_among x (keys_held (held_of es))) (exact_key p k e) ∙ sym (is_held_among k (held_of es)) ∙ free))
+        absurd (true≢false (sym held ∙ ap (is_among p) (ap keys_held is ∙ keys_again k (held_of es)) ∙ ap (λ x. is_among x (keys_held (held_of es))) (same_key_is p k e) ∙ sym (is_held_among k (held_of es)) ∙ free))
     by p held false e out = (λ i. out i || e i)
 
 -- ---- a key is held
@@ -197,7 +197,7 @@ marked_is k b (x ∷ xs) d h = by x.again refl (same_key k x.key) refl (marked_i
     found t is = sym (ap (λ t. option_map (λ (h : Held). h.again) (cond t (Some x) (find (λ (h : Held). same_key k h.key) xs))) is) ∙ h
 
     later : same_key k x.key ≡ true → is_among k (map (λ (h : Held). h.key) (filter (λ (h : Held). h.again) xs)) ≡ false
-    later is = none_marked k xs (ap (λ y. is_among y (keys_held xs)) (exact_key k x.key is) ∙ head_absent x.key (keys_held xs) (IsDistinct-head same_key x.key (keys_held xs) d))
+    later is = none_marked k xs (ap (λ y. is_among y (keys_held xs)) (same_key_is k x.key is) ∙ head_absent x.key (keys_held xs) (IsDistinct-head same_key x.key (keys_held xs) d))
 
     by : (a : Bool) → x.again ≡ a → (t : Bool) → same_key k x.key ≡ t
         → (option_map (λ (h : Held). h.again) (find (λ (h : Held). same_key k h.key) xs) ≡ Some b → is_among k (map (λ (h : Held). h.key) (filter (λ (h : Held). h.again) xs)) ≡ b)

@@ -11,7 +11,7 @@ use Rattle.std.proofs.lemmas.Map.Views.{any-filter_same}
 use Rattle.hx_model.specs.Keys.{same_key, is_among}
 use Rattle.hx_model.specs.declared.key.Key.{Key}
 use Rattle.hx_queue.specs.Kept.{waiting_without}
-use Rattle.hx_queue.proofs.Keys.{exact_key, same_itself, same_turned}
+use Rattle.hx_model.proofs.SameKeys.{same_key_is, same_key_itself, same_turned}
 
 -- ---- without a key
 
@@ -26,7 +26,7 @@ without_absent k (x ∷ xs) h = by (same_key k x) refl (without_absent k xs)
 
 -- which keys are there then
 pub among_without : (k q : Key) (xs : List Key) → is_among q (waiting_without xs k) ≡ (not (same_key k q) && is_among q xs)
-among_without k q xs = any-filter_same (same_key q) (λ other. not (same_key k other)) (not (same_key k q)) (λ x h. ap (λ y. not (same_key k y)) (sym (exact_key q x h))) xs
+among_without k q xs = any-filter_same (same_key q) (λ other. not (same_key k other)) (not (same_key k q)) (λ x h. ap (λ y. not (same_key k y)) (sym (same_key_is q x h))) xs
 
 all_filter : (P : Key → Type 0) (t : Key → Bool) (xs : List Key) → AllByRecursion P xs → AllByRecursion P (filter t xs)
 all_filter P t [] h = h
@@ -52,7 +52,7 @@ pulled k (y ∷ ys) d h = by (same_key k y) refl (pulled k ys (IsDistinct-tail s
   where
     by : (b : Bool) → same_key k y ≡ b → (is_among k ys ≡ true → IsPermutation ys (k ∷ waiting_without ys k)) → IsPermutation (y ∷ ys) (k ∷ waiting_without (y ∷ ys) k)
     by true e rest =
-        let is = exact_key k y e in
+        let is = same_key_is k y e in
         let others : waiting_without (y ∷ ys) k ≡ ys
         = ap (λ b. cond (not b) (y ∷ waiting_without ys k) (waiting_without ys k)) e ∙ without_absent k ys (ap (λ x. is_among x ys) is ∙ head_absent y ys (IsDistinct-head same_key y ys d)) in
         subst (IsPermutation (y ∷ ys)) (λ i. sym is i ∷ sym others i) (IsPermutation-refl (y ∷ ys))
@@ -64,15 +64,15 @@ pulled k (y ∷ ys) d h = by (same_key k y) refl (pulled k ys (IsDistinct-tail s
 -- distinct keys that are the same keys
 pub same_keys : (xs ys : List Key) → IsDistinct same_key xs → IsDistinct same_key ys → ((q : Key) → is_among q xs ≡ is_among q ys) → IsPermutation xs ys
 same_keys [] [] c d h = IsPermutation-refl []
-same_keys [] (y ∷ ys) c d h = absurd (true≢false (sym (h y ∙ ap (λ b. b || is_among y ys) (same_itself y))))
+same_keys [] (y ∷ ys) c d h = absurd (true≢false (sym (h y ∙ ap (λ b. b || is_among y ys) (same_key_itself y))))
 same_keys (x ∷ xs) ys c d h =
-    let there : is_among x ys ≡ true = sym (h x) ∙ ap (λ b. b || is_among x xs) (same_itself x) in
+    let there : is_among x ys ≡ true = sym (h x) ∙ ap (λ b. b || is_among x xs) (same_key_itself x) in
     let rest = same_keys xs (waiting_without ys x) (IsDistinct-tail same_key x xs c) (distinct_filter (λ other. not (same_key x other)) ys d) (λ q. by q (same_key x q) refl) in
     IsPermutation-trans _ _ _ (IsPermutation-cons x _ _ rest) (IsPermutation-sym _ _ (pulled x ys d there))
   where
     by : (q : Key) (b : Bool) → same_key x q ≡ b → is_among q xs ≡ is_among q (waiting_without ys x)
     by q true e =
-        ap (λ y. is_among y xs) (sym (exact_key x q e)) ∙ head_absent x xs (IsDistinct-head same_key x xs c)
+        ap (λ y. is_among y xs) (sym (same_key_is x q e)) ∙ head_absent x xs (IsDistinct-head same_key x xs c)
         ∙ sym (among_without x q ys ∙ ap (λ b. not b && is_among q ys) e)
     by q false e =
         sym (ap (λ b. b || is_among q xs) (same_turned q x ∙ e)) ∙ h q

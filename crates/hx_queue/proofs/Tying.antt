@@ -18,7 +18,7 @@ use Rattle.hx_queue.specs.Tied.{IsTied, MarksEach, any_held}
 use Rattle.hx_queue.specs.Workers.{WorkersView, AreApart, IsMarkedBy, IsTakenBy, IsLetGo}
 use Rattle.hx_queue.proofs.Finding.{some_any, any_same, any_kept, any_by_found, found_passes, none_at}
 use Rattle.hx_queue.proofs.Handing.{only_there, sole}
-use Rattle.hx_queue.proofs.Keys.{exact_key, same_itself, same_turned}
+use Rattle.hx_model.proofs.SameKeys.{same_key_is, same_key_itself, same_turned}
 use Rattle.hx_queue.proofs.Marking.{among_again, held_any}
 
 -- what is seen of hands and a queue
@@ -33,7 +33,7 @@ held_in_hands k hands q tied = tied.same (λ key worker. same_key k key) ∙ sym
 
 -- the key of a hand is held
 pub key_held : (w : ℕ) (hand : Hand) (hands : List Hand) (q : QueueView) → IsTied hands q → hand_of w hands ≡ Some hand → is_held q hand.key ≡ true
-key_held w hand hands q tied e = sym (held_in_hands hand.key hands q tied) ∙ any_by_found (λ (h : Hand). h.worker == w) (λ (h : Hand). same_key hand.key h.key) hands hand e (same_itself hand.key)
+key_held w hand hands q tied e = sym (held_in_hands hand.key hands q tied) ∙ any_by_found (λ (h : Hand). h.worker == w) (λ (h : Hand). same_key hand.key h.key) hands hand e (same_key_itself hand.key)
 
 -- who holds a key in the queue has a hand with it
 pub holder_some : (k : Key) (hands : List Hand) (q : QueueView) → IsTied hands q → IfSome (option_map (λ (h : Held). h.worker) (holding_of q k)) (λ w. IsSomeAnd (hand_of w hands) (λ hand. hand.key ≡ k))
@@ -84,7 +84,7 @@ pub seen_by_take : (hand : Hand) (k : Key) (hands : List Hand) (old new : QueueV
 seen_by_take hand k hands old new is h = record {
   hands = refl;
   waiting = λ j. list_any-IsPermutation (same_key j) new.waiting (waiting_without old.waiting k) h.waiting
-      ∙ any-filter_same (same_key j) (λ other. not (same_key k other)) (not (same_key k j)) (λ x e. ap (λ y. not (same_key k y)) (sym (exact_key j x e))) old.waiting
+      ∙ any-filter_same (same_key j) (λ other. not (same_key k other)) (not (same_key k j)) (λ x e. ap (λ y. not (same_key k y)) (sym (same_key_is j x e))) old.waiting
       ∙ and_comm (not (same_key k j)) (is_among j old.waiting)
       ∙ ap (λ b. is_among j old.waiting && not b) (same_turned k j ∙ ap (same_key j) (sym is));
   again = λ j. among_again j new.held ∙ ap (list_any (λ (x : Held). x.again && same_key j x.key)) h.held
@@ -117,7 +117,7 @@ seen_by_release w k waits hands old new r = record {
   waiting = λ j. ap (is_among j) r.waiting ∙ waiting j (waits || is_among k (marked_again old));
   again = λ j. among_again j new.held
       ∙ list_any-IsPermutation (λ (h : Held). h.again && same_key j h.key) new.held (held_without k old.held) r.held
-      ∙ any-filter_same (λ (h : Held). h.again && same_key j h.key) (λ (h : Held). not (same_key k h.key)) (not (same_key k j)) (λ h e. ap (λ y. not (same_key k y)) (sym (exact_key j h.key (right_of h.again (same_key j h.key) e)))) old.held
+      ∙ any-filter_same (λ (h : Held). h.again && same_key j h.key) (λ (h : Held). not (same_key k h.key)) (not (same_key k j)) (λ h e. ap (λ y. not (same_key k y)) (sym (same_key_is j h.key (right_of h.again (same_key j h.key) e)))) old.held
       ∙ and_comm (not (same_key k j)) (list_any (λ (h : Held). h.again && same_key j h.key) old.held)
       ∙ (λ i. sym (among_again j old.held) i && not (same_turned k j i));
 }
@@ -147,7 +147,7 @@ or_true false b h = h
 
 each_among : (P : Key → Type 0) (xs : List Key) → ((k : Key) → is_among k xs ≡ true → P k) → AllByRecursion P xs
 each_among P [] h = tt
-each_among P (x ∷ xs) h = (h x (ap (λ b. b || is_among x xs) (same_itself x)), each_among P xs (λ k is. h k (or_true (same_key k x) (is_among k xs) is)))
+each_among P (x ∷ xs) h = (h x (ap (λ b. b || is_among x xs) (same_key_itself x)), each_among P xs (λ k is. h k (or_true (same_key k x) (is_among k xs) is)))
 
 -- what waits isn't held
 pub waits_free : (k : Key) (hands : List Hand) (q : QueueView) → IsTied hands q → IsQueueApart q → is_among k q.waiting ≡ true → is_in_hands k hands ≡ false
@@ -179,7 +179,7 @@ all_apart hands q tied apart = record {
 -- the first that waits
 pub first_waits : (k : Key) (xs : List Key) → slice_get xs 0 ≡ Some k → is_among k xs ≡ true
 first_waits k [] e = absurd (true≢false (sym (ap is_some e)))
-first_waits k (x ∷ xs) e = ap (λ b. b || is_among k xs) (ap (same_key k) (ap (λ (o : Option Key). elim o [ Some z ↦ z | None ↦ x ]) e) ∙ same_itself k)
+first_waits k (x ∷ xs) e = ap (λ b. b || is_among k xs) (ap (same_key k) (ap (λ (o : Option Key). elim o [ Some z ↦ z | None ↦ x ]) e) ∙ same_key_itself k)
 
 pub none_waits : (xs : List Key) → slice_get xs 0 ≡ None → xs ≡ []
 none_waits [] e = refl

@@ -1,22 +1,26 @@
 -- Plans, computed. Each expected value is written out.
 --     acme over team over app: Roles r of acme and of team, the second of other contents
+--     acme holds an anchor of team
 use Rattle.std.specs.Prelude.{codes}
-use Rattle.std.proofs.Common.{◌≡◌, ℕ, Bool, true, false, List, [], ◌∷◌, Option, None, Some, refl}
+use Rattle.std.proofs.Common.{◌≡◌, ℕ, Bool, true, false, List, [], ◌∷◌, ◌++◌, Option, None, Some, refl}
 use Rattle.std.specs.Fmt.{digits}
 use Rattle.hx_object.specs.Names.{is_dns_label, is_key, is_qualified_part}
 use Rattle.hx_object.specs.Sizes.{is_tree_key}
 use Rattle.hx_object.specs.declared.kind.Kind.TheVariants.{Role}
+use Rattle.hx_object.specs.declared.object.AnchorStatus.{AnchorStatus}
+use Rattle.hx_object.specs.declared.object.AnchorStatus.TheVariants.{Missing, Ok as Fine, Conflict, Forbidden}
 use Rattle.hx_object.specs.declared.object.Mode.{Mode}
 use Rattle.hx_object.specs.declared.object.Mode.TheVariants.{Propagate, Remove, Ignore}
 use Rattle.hx_object.specs.declared.object.Need.{Need}
 use Rattle.hx_object.specs.declared.object.Object.{Object}
-use Rattle.hx_object.specs.declared.object.Payload.TheVariants.{Hierarchy, Plain}
+use Rattle.hx_object.specs.declared.object.Payload.TheVariants.{Anchor, Hierarchy, Namespace as NamespaceOf, Plain}
 use Rattle.hx_select.specs.Selectors.{selector_of}
 use Rattle.hx_select.specs.TreeSelects.{tree_select_of}
 use Rattle.hx_model.specs.Answers.{same_object}
 use Rattle.hx_model.specs.Limits.{is_copy}
 use Rattle.hx_model.specs.Propagation.{id_in}
-use Rattle.hx_model.specs.State.{State, with_version}
+use Rattle.hx_model.specs.State.{State, namespace_id, with_version}
+use Rattle.hx_model.specs.Subnamespaces.{anchor_id}
 use Rattle.hx_model.specs.Texts.{new_namespace}
 use Rattle.hx_model.specs.Tree.{hierarchy_id}
 use Rattle.hx_model.specs.declared.config.RunConfig.{RunConfig}
@@ -196,6 +200,99 @@ right_labels = refl
 halted_labels : labels_of moved_app false ≡ None
 unfolding is_tree_key same_object digits
 halted_labels = refl
+
+-- ---- subnamespaces
+
+-- acme with an anchor of team, and these objects of team
+abbrev anchors : Option AnchorStatus → List (List ℕ) → List Object → State
+anchors status excluded rest = record {
+  objects = with_version (new_namespace acme) 1 ∷ rest ++ record { id = anchor_id acme team; labels = []; annotations = pair (codes "note") (codes "x"); payload = Anchor status; version = 4 } ∷ [];
+  last = 5;
+  config = config excluded;
+}
+
+abbrev child_in : State → Option Write
+child_in s = planned (key.Child acme team) (facts_of s (key.Child acme team))
+
+abbrev team_of : List ℕ → Object
+team_of parent = record { id = namespace_id team; labels = []; annotations = pair (codes "hnc.x-k8s.io/subnamespace-of") parent; payload = NamespaceOf false; version = 0 }
+
+made : child_in (anchors None [] []) ≡ Some (Put (team_of acme))
+made = refl
+
+taken : child_in (anchors None [] (with_version (new_namespace team) 2 ∷ [])) ≡ None
+taken = refl
+
+excluded_name : child_in (anchors None (team ∷ []) []) ≡ None
+excluded_name = refl
+
+excluded_parent : child_in (anchors None (acme ∷ []) []) ≡ None
+excluded_parent = refl
+
+-- team asks for nothing in acme
+not_anchored : planned (key.Child team acme) (facts_of (tree []) (key.Child team acme)) ≡ None
+not_anchored = refl
+
+-- ---- statuses of anchors
+
+abbrev status_in : State → Option Write
+status_in s = planned (key.Anchor acme team) (facts_of s (key.Anchor acme team))
+
+abbrev reported : AnchorStatus → Option Write
+reported status = Some (Put (record { id = anchor_id acme team; labels = []; annotations = pair (codes "note") (codes "x"); payload = Anchor (Some status); version = 0 }))
+
+missing_child : status_in (anchors None [] []) ≡ reported Missing
+unfolding same_object
+missing_child = refl
+
+own_child : status_in (anchors (Some Missing) [] (with_version (team_of acme) 2 ∷ [])) ≡ reported Fine
+unfolding same_object
+own_child = refl
+
+right_status : status_in (anchors (Some Fine) [] (with_version (team_of acme) 2 ∷ [])) ≡ None
+unfolding same_object
+right_status = refl
+
+-- another namespace names team its own
+foreign_child : status_in (anchors (Some Fine) [] (with_version (team_of app) 2 ∷ [])) ≡ reported Conflict
+unfolding same_object
+foreign_child = refl
+
+-- also where team isn't a subnamespace
+no_child : status_in (anchors None [] (with_version (new_namespace team) 2 ∷ [])) ≡ reported Conflict
+unfolding same_object
+no_child = refl
+
+forbidden_child : status_in (anchors None (team ∷ []) (with_version (team_of acme) 2 ∷ [])) ≡ reported Forbidden
+unfolding same_object
+forbidden_child = refl
+
+-- ---- removals
+
+-- team, on its way out or not, beside acme, and these objects
+abbrev with_team : Bool → List Object → State
+with_team terminating rest = record {
+  objects = with_version (new_namespace acme) 1 ∷ record (with_version (new_namespace team) 2) { payload = NamespaceOf terminating } ∷ rest;
+  last = 9;
+  config = config [];
+}
+
+abbrev removal_in : State → Option Write
+removal_in s = planned (key.Purge team) (facts_of s (key.Purge team))
+
+-- what lies in it goes first, in order
+hierarchy_first : removal_in (with_team true (under team acme 3 ∷ far [] ∷ near ∷ [])) ≡ Some (Cut (hierarchy_id team))
+hierarchy_first = refl
+
+role_next : removal_in (with_team true (far [] ∷ near ∷ [])) ≡ Some (Cut (id_in Role (codes "r") team))
+role_next = refl
+
+-- and then itself, whatever lies in acme
+then_itself : removal_in (with_team true (far [] ∷ [])) ≡ Some (Cut (namespace_id team))
+then_itself = refl
+
+staying : removal_in (with_team false (far [] ∷ near ∷ [])) ≡ None
+staying = refl
 
 -- ---- other keys
 

@@ -1,5 +1,6 @@
 -- Keys and values of the labels that reconcilers write.
---     label_value            a DNS label is the value of a label
+--     label_length           a DNS label isn't long
+--     label_value            it is the value of a label
 --     tree_key_legal         with the suffix of the tree it is the key of one
 --     tree_key_of_tree       and that is a label of the tree
 --     depth_legal            a number that a machine counts to is the value of a label
@@ -81,6 +82,9 @@ dns_label_parts n e =
     let q = and_parts (list_all is_dns_byte n) (has_ends is_dns_end n) p.1 in
     let r = and_parts (nat_le 1 (length n)) (nat_le (length n) 63) p.0 in
     record { short = p.0; bytes = q.0; ends = q.1; least = leb-true 1 (length n) r.0; most = leb-true (length n) 63 r.1 }
+
+pub label_length : (n : List ℕ) → is_dns_label n ≡ true → length n ≤ 63
+label_length n e = (dns_label_parts n e).most
 
 pub label_value : (n : List ℕ) → is_dns_label n ≡ true → is_label_value n ≡ true
 unfolding is_qualified_part

@@ -2,26 +2,32 @@
 --     legal_names          a legal object has legal names
 --     copy_served          the copy of a source that may be stored, in a namespace of a legal name
 --     labelled_served      a namespace that may be stored, with the labels that a short chain of such names prescribes
+--     subnamespace_served  a subnamespace, where its name and its parent's are legal
+--     status_served        an anchor that may be stored, with another status
 use Rattle.std.proofs.Common.{◌≡◌, ℕ, suc, ◌+◌, ◌<◌, ◌≤◌, ◌^◌, Bool, true, false, not, ◌||◌, List, [], ◌∷◌, length, sum_by, codes, Option, None, Some, decimal, nat_lt, refl, sym, ap, ◌∙◌, true≢false, arith, if◌then◌else◌}
 use Rattle.std.specs.List.{list_all, AllByRecursion}
 use Rattle.std.proofs.lemmas.Bool.{and_parts, and_from, leb-true, le-leb}
-use Rattle.hx_object.specs.Faults.{IsLegal, object_fault, has_legal_names, has_legal_labels, has_legal_namespace, is_legal_label, is_legal_annotation, most_labels}
-use Rattle.hx_object.specs.Kinds.{can_be_copied, is_in_cluster}
+use Rattle.hx_object.specs.Faults.{IsLegal, IsPayloadOf, object_fault, has_legal_names, has_legal_labels, has_legal_namespace, is_legal_label, is_legal_annotation, most_labels}
+use Rattle.hx_object.specs.Kinds.{can_be_copied, is_in_cluster, is_plain}
 use Rattle.hx_object.specs.Names.{is_dns_label, is_name_of, is_key, is_subdomain, is_dns_part, is_qualified_part}
 use Rattle.hx_object.specs.Pairs.{has_ascending_keys, with_pair}
 use Rattle.hx_object.specs.Sizes.{counted, greatest_size, is_counted, is_tree_key, is_reconciled_key, pair_size, size_of, specified_size}
-use Rattle.hx_object.specs.WellKnown.{inherited_from, included_namespace}
+use Rattle.hx_object.specs.WellKnown.{inherited_from, included_namespace, subnamespace_of}
 use Rattle.hx_object.specs.declared.kind.Kind.{Kind}
 use Rattle.hx_object.specs.declared.kind.Kind.TheVariants.{Namespace, HncConfiguration, HierarchyConfiguration, SubnamespaceAnchor, HierarchicalResourceQuota, Role, RoleBinding, ConfigMap, Secret, NetworkPolicy, LimitRange, Pod, Service, PersistentVolumeClaim}
+use Rattle.hx_object.specs.declared.object.AnchorStatus.{AnchorStatus}
 use Rattle.hx_object.specs.declared.object.Object.{Object}
 use Rattle.hx_object.specs.declared.object.ObjectFault.{ObjectFault}
 use Rattle.hx_object.specs.declared.object.ObjectFault.TheVariants.{BadName, BadLabel, TooManyLabels, TooLarge}
+use Rattle.hx_object.specs.declared.object.Payload.{Payload}
+use Rattle.hx_object.specs.declared.object.Payload.TheVariants.{Namespace as NamespaceOf, Config, Hierarchy, Anchor, Quota, Plain}
 use Rattle.hx_object.proofs.Putting.{ascending-with_pair, ascending-filter}
 use Rattle.hx_model.specs.Propagation.{copy_of, is_hnc_key}
-use Rattle.hx_model.specs.Serving.{IsServed}
+use Rattle.hx_model.specs.Serving.{IsServed, is_typed}
+use Rattle.hx_model.specs.State.{namespace_id}
 use Rattle.hx_model.specs.TreeLabels.{own_labels, tree_key, tree_labels_from, with_pairs}
-use Rattle.hx_model.specs.Wanted.{labelled}
-use Rattle.hx_rules.proofs.LabelNames.{label_value, tree_key_legal, tree_key_of_tree, depth_legal}
+use Rattle.hx_model.specs.Wanted.{labelled, subnamespace, with_status_of}
+use Rattle.hx_rules.proofs.LabelNames.{label_length, label_value, tree_key_legal, tree_key_of_tree, depth_legal}
 use Rattle.hx_rules.proofs.Labels.{all-with_pair, all-filter, same-with_pair, tree_uncounted, counted-own, sum-filter}
 
 -- ---- faults
@@ -61,17 +67,17 @@ still_small most a b le e = by (nat_lt most a) refl
     by false h = refl
     by true h = let more : suc most ≤ a = leb-true (suc most) a h in absurd (true≢false (sym (le-leb (suc most) b (omega arith)) ∙ e))
 
--- the labels that count are the same, and the annotations aren't more
+-- the labels that count are the same, the annotations aren't more, and what a request gave takes as much
 record IsNoLarger (x y : Object) : Type 0 where
   counted_same : counted y.labels ≡ counted x.labels
   annotations : sum_by pair_size y.annotations ≤ sum_by pair_size x.annotations
-  payload : y.payload ≡ x.payload
+  specified : specified_size y.payload ≡ specified_size x.payload
 
 size-no_larger : (x y : Object) → IsNoLarger x y → size_of y ≤ size_of x
 unfolding size_of
 size-no_larger x y less =
     let l = ap (sum_by pair_size) less.counted_same in
-    let p = ap specified_size less.payload in
+    let p = less.specified in
     let a = less.annotations in
     omega arith
 
@@ -143,18 +149,18 @@ copy_served x n served copied label =
         sound = no_new_fault x (copy_of x n) (record {
           counted_same = same-with_pair is_counted inherited_from x.id.ns x.labels inherited_uncounted;
           annotations = sum-filter pair_size (λ pair. not (is_hnc_key pair.0)) x.annotations;
-          payload = refl;
+          specified = refl;
         }) (copy_names x n label outside none.names) (labels_from (copy_of x n) (all-with_pair is_legal_label inherited_from x.id.ns x.labels (inherited_legal x.id.ns (home_label x outside none.names)) legal.0)
             (all-filter is_legal_annotation (λ pair. not (is_hnc_key pair.0)) x.annotations legal.1)) served.legal.sound;
         home = λ inside. absurd (true≢false (sym inside ∙ outside));
         payload = served.legal.payload;
       };
       written = served.written;
-      given = record {
-        labels = ascending-with_pair inherited_from x.id.ns x.labels served.given.labels;
-        annotations = ascending-filter (λ pair. not (is_hnc_key pair.0)) x.annotations served.given.annotations;
-        payload = served.given.payload;
-        typed = served.given.typed;
+      kept = record {
+        labels = ascending-with_pair inherited_from x.id.ns x.labels served.kept.labels;
+        annotations = ascending-filter (λ pair. not (is_hnc_key pair.0)) x.annotations served.kept.annotations;
+        payload = served.kept.payload;
+        typed = served.kept.typed;
       };
     }
 
@@ -200,7 +206,7 @@ labelled_served x chain served names short =
         sound = no_new_fault x (labelled chain x) (record {
           counted_same = counted-tree 0 chain taking names ∙ (same-with_pair is_counted included_namespace (codes "true") own included_uncounted ∙ counted-own x.labels);
           annotations = omega arith;
-          payload = refl;
+          specified = refl;
         }) none.names (labels_from (labelled chain x)
             (legal-tree 0 chain taking names (omega arith) (all-with_pair is_legal_label included_namespace (codes "true") own included_legal (all-filter is_legal_label (λ pair. not (is_tree_key pair.0)) x.labels legal.0)))
             legal.1) served.legal.sound;
@@ -208,10 +214,68 @@ labelled_served x chain served names short =
         payload = served.legal.payload;
       };
       written = served.written;
-      given = record {
-        labels = ascending-tree 0 chain taking (ascending-with_pair included_namespace (codes "true") own (ascending-filter (λ pair. not (is_tree_key pair.0)) x.labels served.given.labels));
-        annotations = served.given.annotations;
-        payload = served.given.payload;
-        typed = served.given.typed;
+      kept = record {
+        labels = ascending-tree 0 chain taking (ascending-with_pair included_namespace (codes "true") own (ascending-filter (λ pair. not (is_tree_key pair.0)) x.labels served.kept.labels));
+        annotations = served.kept.annotations;
+        payload = served.kept.payload;
+        typed = served.kept.typed;
       };
+    }
+
+-- ---- subnamespaces
+
+-- the annotation that names the parent has a legal key
+parent_legal : (n : List ℕ) → is_legal_annotation (subnamespace_of, n) ≡ true
+unfolding is_key is_subdomain is_dns_part is_qualified_part
+parent_legal n = refl
+
+subnamespace_names : (m : List ℕ) → is_dns_label m ≡ true → has_legal_names (namespace_id m) ≡ true
+unfolding has_legal_names
+subnamespace_names m e = e
+
+subnamespace_size : (n m : List ℕ) → length n ≤ 63 → size_of (subnamespace n m) ≤ 100
+unfolding size_of
+subnamespace_size n m short = omega arith
+
+pub subnamespace_served : (n m : List ℕ) → is_dns_label n ≡ true → is_dns_label m ≡ true → IsServed (subnamespace n m)
+subnamespace_served n m parent name =
+    record {
+      legal = record {
+        sound = sound_of (subnamespace n m) (record {
+          names = subnamespace_names m name;
+          labels = labels_from (subnamespace n m) refl (and_from (is_legal_annotation (subnamespace_of, n)) true (parent_legal n) refl);
+          few = refl;
+          small = still_small greatest_size (size_of (subnamespace n m)) 100 (subnamespace_size n m (label_length n parent)) refl;
+        });
+        home = λ inside. refl;
+        payload = refl;
+      };
+      written = refl;
+      kept = record { labels = refl; annotations = refl; payload = refl; typed = refl };
+    }
+
+-- ---- statuses of anchors
+
+-- a status counts for nothing in the size
+anchor_size : (kind : Kind) (p : Payload) → kind ≡ SubnamespaceAnchor → IsPayloadOf kind p → specified_size p ≡ 2
+anchor_size kind (NamespaceOf terminating) e is = refl
+anchor_size kind (Anchor status) e is = refl
+anchor_size kind (Config entries) e is = absurd (let h : SubnamespaceAnchor ≡ HncConfiguration = sym e ∙ is in cc)
+anchor_size kind (Hierarchy parent cascade children conditions) e is = absurd (let h : SubnamespaceAnchor ≡ HierarchyConfiguration = sym e ∙ is.0 in cc)
+anchor_size kind (Quota hard status) e is = absurd (let h : SubnamespaceAnchor ≡ HierarchicalResourceQuota = sym e ∙ is.0 in cc)
+anchor_size kind (Plain members need) e is = absurd (true≢false (sym is.0 ∙ ap is_plain e))
+
+pub status_served : (status : AnchorStatus) (x : Object) → IsServed x → x.id.kind ≡ SubnamespaceAnchor → IsServed (with_status_of status x)
+status_served status x served kind =
+    let none = no_fault x served.legal.sound in
+    let legal = label_parts x none.labels in
+    record {
+      legal = record {
+        sound = no_new_fault x (with_status_of status x) (record { counted_same = refl; annotations = omega arith; specified = sym (anchor_size x.id.kind x.payload kind served.legal.payload) }) none.names
+            (labels_from (with_status_of status x) legal.0 legal.1) served.legal.sound;
+        home = served.legal.home;
+        payload = kind;
+      };
+      written = served.written;
+      kept = record { labels = served.kept.labels; annotations = served.kept.annotations; payload = refl; typed = ap (λ k. is_typed k (Anchor (Some status))) kind };
     }

@@ -2,19 +2,22 @@
 --     made_of, made_otherwise      an object without its version is one of these parts;  or it isn't
 --     put_where_new                what is put where it isn't there yet
 --     labels_stand, labels_differ  a namespace that has the prescribed labels isn't written;  one that hasn't is
+--     status_stands, status_differs  the same of an anchor and its status
 use Rattle.std.proofs.Common.{◌≡◌, ℕ, Bool, true, false, not, List, Option, Some, None, refl, sym, ap, ◌∙◌, true≢false}
 use Rattle.std.specs.Bool.{Decides}
 use Rattle.std.specs.Cmp.{both_ways}
 use Rattle.hx_object.proofs.Sameness.{same_object_from}
+use Rattle.hx_object.specs.declared.object.AnchorStatus.{AnchorStatus}
 use Rattle.hx_object.specs.declared.object.Id.{Id}
 use Rattle.hx_object.specs.declared.object.Object.{Object}
 use Rattle.hx_object.specs.declared.object.Payload.{Payload}
+use Rattle.hx_object.specs.declared.object.Payload.TheVariants.{Anchor}
 use Rattle.hx_model.specs.Answers.{same_object}
 use Rattle.hx_model.specs.First.{so}
 use Rattle.hx_model.specs.Propagation.{copy_of}
 use Rattle.hx_model.specs.State.{with_version}
 use Rattle.hx_model.specs.TreeLabels.{prescribed_labels}
-use Rattle.hx_model.specs.Wanted.{labelled, placed}
+use Rattle.hx_model.specs.Wanted.{labelled, placed, with_status_of}
 use Rattle.hx_model.specs.declared.key.Write.TheVariants.{Put}
 use Rattle.hx_rules.specs.Briefs.{is_placed}
 
@@ -69,3 +72,13 @@ pub labels_differ : (chain : List (List ℕ)) (x : Object) (id : Id) (labels ann
 labels_differ chain x id labels annotations payload p q r s apart =
     (λ i. Some (Put (made (p i) (q i) (r i) (s i))))
     ∙ put_where_new (labelled chain x) (Some x) (differ (with_version x 0) (labelled chain x) (λ e. apart (q ∙ sym (ap (λ (o : Object). o.labels) e))))
+
+pub status_stands : (status : AnchorStatus) (x : Object) → x.payload ≡ Anchor (Some status) → None ≡ placed (with_status_of status x) (Some x)
+status_stands status x same =
+    kept_where_placed (with_status_of status x) (Some x) ((same_object-Decides (with_version x 0) (with_status_of status x)).1 (λ i. made x.id x.labels x.annotations (same i)))
+
+pub status_differs : (status : AnchorStatus) (x : Object) (id : Id) (labels annotations : List (List ℕ × List ℕ)) → id ≡ x.id → labels ≡ x.labels → annotations ≡ x.annotations → (x.payload ≡ Anchor (Some status) → ⊥)
+    → Some (Put (made id labels annotations (Anchor (Some status)))) ≡ placed (with_status_of status x) (Some x)
+status_differs status x id labels annotations p q r apart =
+    (λ i. Some (Put (made (p i) (q i) (r i) (Anchor (Some status)))))
+    ∙ put_where_new (with_status_of status x) (Some x) (differ (with_version x 0) (with_status_of status x) (λ e. apart (ap (λ (o : Object). o.payload) e)))

@@ -30,6 +30,9 @@ planned_is_wanted brief write is s valid stands = is.planned ∙ facts_want s br
 pub short_none : (facts : Facts) → IsShort facts None
 short_none (found.Copy ns takes_part place mode sources) = tt
 short_none (found.Tree ns takes_part chain) = tt
+short_none (found.Child takes_part anchored excluded taken) = tt
+short_none (found.Anchor live anchor status) = tt
+short_none (found.Purge leaving least) = tt
 short_none found.Unserved = tt
 
 pub short_copy : (r : Result (Option Write) NoMemory) (facts : Facts) (ns : Option Object) (takes_part : Bool) (place : Option Object) (mode : Mode) (sources : List Object) → facts ≡ found.Copy ns takes_part place mode sources

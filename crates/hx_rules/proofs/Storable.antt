@@ -8,22 +8,25 @@ use Rattle.hx_object.specs.Kinds.{can_be_copied}
 use Rattle.hx_object.specs.Names.{is_dns_label, is_name_of}
 use Rattle.hx_object.specs.declared.kind.Kind.{Kind}
 use Rattle.hx_object.specs.declared.kind.Kind.TheVariants.{Namespace}
+use Rattle.hx_object.specs.declared.object.AnchorStatus.{AnchorStatus}
 use Rattle.hx_object.specs.declared.object.Id.{Id}
 use Rattle.hx_object.specs.declared.object.Mode.{Mode}
 use Rattle.hx_object.specs.declared.object.Mode.TheVariants.{Propagate, AllowPropagate, Remove, Ignore}
 use Rattle.hx_object.specs.declared.object.Object.{Object}
 use Rattle.hx_model.specs.Answers.{same_object}
+use Rattle.hx_model.specs.Cases.{is_leaving}
 use Rattle.hx_model.specs.First.{so}
-use Rattle.hx_model.specs.Forest.{chain_of, is_in, tail_of}
+use Rattle.hx_model.specs.Forest.{chain_of, is_in, is_live, tail_of}
 use Rattle.hx_model.specs.Limits.{is_copy}
 use Rattle.hx_model.specs.Modes.{mode_of}
 use Rattle.hx_model.specs.Propagation.{as_list, copy_of, goes_to, id_in, is_source, source_at, sources_above, sources_along, top_of}
 use Rattle.hx_model.specs.Serving.{IsServed}
 use Rattle.hx_model.specs.State.{State, Objects, namespace_id, object_at, with_version}
+use Rattle.hx_model.specs.Subnamespaces.{anchor_id}
 use Rattle.hx_model.specs.Tree.{forest_of}
 use Rattle.hx_model.specs.TreeLabels.{is_open}
 use Rattle.hx_model.specs.Valid.{IsStored}
-use Rattle.hx_model.specs.Wanted.{copied_in, copy_write, labelled, placed, tree_write, without_copy}
+use Rattle.hx_model.specs.Wanted.{anchor_status, anchor_write, child_write, copied_in, copy_write, labelled, least_id, placed, purge_write, subnamespace, tree_write, with_status_of, without_copy}
 use Rattle.hx_model.specs.declared.key.Key.{Key}
 use Rattle.hx_model.specs.declared.key.Key.TheVariants as key
 use Rattle.hx_model.specs.declared.key.Write.{Write}
@@ -37,7 +40,7 @@ use Rattle.hx_rules.specs.Briefs.{IsPlanned, IsShort, IsStorable, IsStorableFor,
 use Rattle.hx_rules.specs.declared.brief.Brief.{Brief}
 use Rattle.hx_rules.specs.declared.brief.Facts.{Facts}
 use Rattle.hx_rules.specs.declared.brief.Facts.TheVariants as facts
-use Rattle.hx_rules.proofs.Legal.{AreLabels, copy_served, labelled_served, legal_names}
+use Rattle.hx_rules.proofs.Legal.{AreLabels, copy_served, labelled_served, legal_names, status_served, subnamespace_served}
 
 -- ---- what a write puts
 
@@ -88,6 +91,22 @@ tree_storable acts chain None served names short = tt
 tree_storable false chain (Some y) served names short = tt
 tree_storable true chain (Some y) served names short = placed_storable (labelled chain y) (Some y) (labelled_served y chain (served y refl) names short) refl
 
+child_storable : (acts anchored excluded taken : Bool) (n m : List ℕ) → (anchored ≡ true → IsServed (subnamespace n m)) → IsStorable (child_write acts anchored excluded taken n m)
+child_storable true true false false n m served = (served refl, refl)
+child_storable true true false true n m served = tt
+child_storable true true true taken n m served = tt
+child_storable true false excluded taken n m served = tt
+child_storable false anchored excluded taken n m served = tt
+
+anchor_storable : (live : Bool) (status : AnchorStatus) (anchor : Option Object) → ((y : Object) → anchor ≡ Some y → IsServed (with_status_of status y)) → IsStorable (anchor_write live status anchor)
+anchor_storable live status None served = tt
+anchor_storable false status (Some y) served = tt
+anchor_storable true status (Some y) served = placed_storable (with_status_of status y) (Some y) (served y refl) refl
+
+purge_storable : (leaves : Bool) (least : Option Id) (n : List ℕ) → IsStorable (purge_write leaves least n)
+purge_storable true least n = tt
+purge_storable false least n = tt
+
 -- ---- what a valid state has
 
 all_served : (last : ℕ) (objects : Objects) → AllByRecursion (IsStored last) objects → AllByRecursion IsServed objects
@@ -100,6 +119,24 @@ unfolding has_legal_names
 named_there objects n y all e =
     let names : has_legal_names (namespace_id n) ≡ true = ap has_legal_names (found_id objects (namespace_id n) y e) ∙ legal_names y (All-found IsServed (namespace_id n) y objects all e).legal in
     (and_parts (has_legal_namespace (namespace_id n)) (is_name_of Namespace n) names).1
+
+there_is : (o : Option Object) → is_some o ≡ true → (y : Object) × (o ≡ Some y)
+there_is (Some y) e = (y, refl)
+there_is None e = absurd (true≢false (sym e))
+
+-- a subnamespace of an anchor that is there has legal names
+child_served : (objects : Objects) (n m : List ℕ) → AllByRecursion IsServed objects → is_some (object_at objects (anchor_id n m)) ≡ true → IsServed (subnamespace n m)
+unfolding has_legal_names
+child_served objects n m all e =
+    let found = there_is (object_at objects (anchor_id n m)) e in
+    let y = found.0 in
+    let names : has_legal_names (anchor_id n m) ≡ true = ap has_legal_names (found_id objects (anchor_id n m) y found.1) ∙ legal_names y (All-found IsServed (anchor_id n m) y objects all found.1).legal in
+    let labels = and_parts (is_dns_label n) (is_dns_label m) names in
+    subnamespace_served n m labels.0 labels.1
+
+-- an anchor that is there, with another status
+anchor_served : (objects : Objects) (n m : List ℕ) (status : AnchorStatus) (y : Object) → AllByRecursion IsServed objects → object_at objects (anchor_id n m) ≡ Some y → IsServed (with_status_of status y)
+anchor_served objects n m status y all e = status_served status y (All-found IsServed (anchor_id n m) y objects all e) (sym (ap (λ (id : Id). id.kind) (found_id objects (anchor_id n m) y e)))
 
 all_append : (P : Object → Type 0) (xs ys : List Object) → AllByRecursion P xs → AllByRecursion P ys → AllByRecursion P (xs ++ ys)
 all_append P [] ys p q = q
@@ -127,10 +164,6 @@ each_in P (n ∷ names) holds = (holds n (ap (λ b. b || is_in n names) (same_it
     later true c e = refl
     later false c e = e
 
-there_is : (o : Option Object) → is_some o ≡ true → (y : Object) × (o ≡ Some y)
-there_is (Some y) e = (y, refl)
-there_is None e = absurd (true≢false (sym e))
-
 -- each member of a chain has a legal name
 chain_named : (s : State) (n : List ℕ) → AllByRecursion IsServed s.objects → AreLabels (chain_of (forest_of s) n)
 chain_named s n all =
@@ -154,10 +187,15 @@ planned_storable s (key.Copy n kind name) found write all e short is =
 planned_storable s (key.Tree n) found write all e short is =
     planned_tree s n write all (subst (λ (f : Facts). IsShort f write) e short) (is ∙ ap (planned (key.Tree n)) e)
 planned_storable s (key.Report n) found write all e short is = subst IsStorable (sym (is ∙ ap (planned (key.Report n)) e)) tt
-planned_storable s (key.Child n name) found write all e short is = subst IsStorable (sym (is ∙ ap (planned (key.Child n name)) e)) tt
-planned_storable s (key.Anchor n name) found write all e short is = subst IsStorable (sym (is ∙ ap (planned (key.Anchor n name)) e)) tt
+planned_storable s (key.Child n name) found write all e short is =
+    subst IsStorable (sym (is ∙ ap (planned (key.Child n name)) e))
+    (child_storable (is_open (forest_of s) n) (is_some (object_at s.objects (anchor_id n name))) (is_in name s.config.excluded) (is_some (object_at s.objects (namespace_id name))) n name (child_served s.objects n name all))
+planned_storable s (key.Anchor n name) found write all e short is =
+    subst IsStorable (sym (is ∙ ap (planned (key.Anchor n name)) e))
+    (anchor_storable (is_live (forest_of s) n) (anchor_status s n name) (object_at s.objects (anchor_id n name)) (λ y there. anchor_served s.objects n name (anchor_status s n name) y all there))
 planned_storable s (key.Used n name) found write all e short is = subst IsStorable (sym (is ∙ ap (planned (key.Used n name)) e)) tt
-planned_storable s (key.Purge n) found write all e short is = subst IsStorable (sym (is ∙ ap (planned (key.Purge n)) e)) tt
+planned_storable s (key.Purge n) found write all e short is =
+    subst IsStorable (sym (is ∙ ap (planned (key.Purge n)) e)) (purge_storable (is_leaving (forest_of s) n) (least_id s n) n)
 
 pub storable : (brief : Brief) (write : Option Write) → IsPlanned brief write → IsStorableFor brief write
 storable brief write is s valid stands = planned_storable s brief.key brief.facts write (all_served s.last s.objects valid.stored) stands.facts is.short is.planned

@@ -2,7 +2,7 @@
 ghost use Rattle.std.specs.Prelude.{◌≡◌, IfOk};
 
 use hx_model::{Guard, Key};
-use hx_object::{List, Mode, NoMemory, Shared, Text};
+use hx_object::{AnchorStatus, Id, List, Mode, NoMemory, Shared, Text};
 use std::alloc::Global;
 use std::marker::Model;
 use std::sync::Arc;
@@ -43,7 +43,34 @@ pub enum Facts {
         /// The namespace, its parent, the parent's parent and so on.
         chain: List<Text>,
     },
-    /// Of the keys that want nothing yet: those of reports, subnamespaces, anchors, quotas and removals.
+    /// Of the subnamespace that an anchor asks for.
+    Child {
+        /// Whether the namespace of the anchor takes part: it is there, not on its way out, not excluded and not halted.
+        is_open: bool,
+        /// Whether it holds the anchor.
+        is_anchored: bool,
+        /// Whether the anchor's name is excluded from trees.
+        is_excluded: bool,
+        /// Whether a namespace has that name.
+        is_taken: bool,
+    },
+    /// Of the status of an anchor.
+    Anchor {
+        /// Whether the namespace of the anchor is there, and not on its way out.
+        is_live: bool,
+        /// The anchor, where it is there.
+        anchor: Option<Shared>,
+        /// The status that it is to have.
+        status: AnchorStatus,
+    },
+    /// Of the removal of a namespace.
+    Purge {
+        /// Whether the namespace is there, and on its way out.
+        is_leaving: bool,
+        /// The identity of the first object that lies in it.
+        least: Option<Id>,
+    },
+    /// Of the keys that want nothing yet: those of reports and of quotas.
     Unserved,
 }
 

@@ -1,17 +1,21 @@
 // Plans are made.
-ghost use Rattle.std.specs.Prelude.{◌≡◌, IfErr, IfOk};
-ghost use Rattle.hx_rules.specs.Briefs.{IsShort, IsStorableFor, IsWanted, planned_by};
+ghost use Rattle.std.specs.Prelude.{◌≡◌, ℕ, List, IfErr, IfOk};
+ghost use Rattle.hx_object.specs.declared.kind.Kind.{Kind as kind_of};
+ghost use Rattle.hx_model.specs.declared.key.Key.TheVariants as key;
+ghost use Rattle.hx_rules.specs.Briefs.{IsShort, IsStorableFor, IsWanted, planned, planned_by};
 
 use crate::copies::wanted_copy;
+use crate::removals::next_to_go;
+use crate::subnamespaces::{subnamespace, wanted_status};
 use crate::tree_labels::wanted_labels;
 use crate::{Brief, Facts, Plan, SharedBrief};
 use hx_model::{Key, Write};
-use hx_object::NoMemory;
+use hx_object::{NoMemory, Text};
 use std::alloc::Global;
 
 /// The plan of a brief. Where no memory is left, the brief comes back.
 ///
-/// The write is that of HNC's reconcilers (HNC user guide, concepts): in a namespace that takes part, a place of copies holds the copy of the farthest source that goes there, and the namespace's labels tell its ancestors.
+/// The write is that of HNC's reconcilers (HNC user guide, concepts): in a namespace that takes part, a place of copies holds the copy of the farthest source that goes there, the namespace's labels tell its ancestors, and each anchor has its subnamespace. An anchor tells its status. Of a namespace that is on its way out, what lies in it goes object by object, and then the namespace.
 pub fn plan(alloc: Global, brief: SharedBrief) -> Result<Plan, SharedBrief>
     ensures brief { IfOk result (λ planned. planned.brief ≡ brief) }
     ensures planned { IfOk result (λ planned. planned.write ≡ planned_by brief) }
@@ -30,32 +34,101 @@ fn write_of(alloc: Global, brief: &Brief) -> Result<Option<Write>, NoMemory>
     ensures planned { IfOk result (λ write. write ≡ planned_by brief.now) }
     ensures short { IfOk result (λ write. IsShort brief.now.facts write) }
 {
-    match (&brief.key, &brief.facts) {
-        (
-            Key::Copy { ns: name, .. },
-            Facts::Copy {
-                ns: Some(namespace),
-                is_open,
-                place,
-                mode,
-                sources,
-            },
-        ) if *is_open => wanted_copy(
+    match &brief.key {
+        Key::Copy { ns, .. } => write_of_copy(alloc, ns, &brief.facts),
+        Key::Tree { .. } => write_of_tree(alloc, &brief.facts),
+        Key::Child { ns, name } => write_of_child(alloc, ns, name, &brief.facts),
+        Key::Anchor { .. } => write_of_anchor(&brief.facts),
+        Key::Purge { ns } => write_of_purge(alloc, ns, &brief.facts),
+        Key::Report { .. } | Key::Used { .. } => Ok(None),
+    }
+}
+
+/// The write of a place of copies in a namespace.
+fn write_of_copy(alloc: Global, ns: &Text, facts: &Facts) -> Result<Option<Write>, NoMemory>
+    ensures planned { IfOk result (λ write. (kind : kind_of) (name : List ℕ) → write ≡ planned (key.Copy ns.now kind name) facts.now) }
+    ensures short { IfOk result (λ write. IsShort facts.now write) }
+{
+    match facts {
+        Facts::Copy {
+            ns: Some(namespace),
+            is_open,
+            place,
+            mode,
+            sources,
+        } if *is_open => wanted_copy(
             alloc,
-            name,
+            ns,
             namespace.object(),
             *mode,
             sources.as_slice(),
             place,
         ),
-        (
-            Key::Tree { .. },
-            Facts::Tree {
-                ns: Some(namespace),
-                is_open,
-                chain,
-            },
-        ) if *is_open => wanted_labels(alloc, chain.as_slice(), namespace.object()),
+        _ => Ok(None),
+    }
+}
+
+/// The write of a namespace's tree labels.
+fn write_of_tree(alloc: Global, facts: &Facts) -> Result<Option<Write>, NoMemory>
+    ensures planned { IfOk result (λ write. (ns : List ℕ) → write ≡ planned (key.Tree ns) facts.now) }
+    ensures short { IfOk result (λ write. IsShort facts.now write) }
+{
+    match facts {
+        Facts::Tree {
+            ns: Some(namespace),
+            is_open,
+            chain,
+        } if *is_open => wanted_labels(alloc, chain.as_slice(), namespace.object()),
+        _ => Ok(None),
+    }
+}
+
+/// The write of the subnamespace that an anchor asks for.
+fn write_of_child(
+    alloc: Global,
+    ns: &Text,
+    name: &Text,
+    facts: &Facts,
+) -> Result<Option<Write>, NoMemory>
+    ensures planned { IfOk result (λ write. write ≡ planned (key.Child ns.now name.now) facts.now) }
+    ensures short { IfOk result (λ write. IsShort facts.now write) }
+{
+    match facts {
+        Facts::Child {
+            is_open: true,
+            is_anchored: true,
+            is_excluded: false,
+            is_taken: false,
+        } => Ok(Some(Write::Put(subnamespace(alloc, ns, name)?))),
+        _ => Ok(None),
+    }
+}
+
+/// The write of an anchor's status.
+fn write_of_anchor(facts: &Facts) -> Result<Option<Write>, NoMemory>
+    ensures planned { IfOk result (λ write. (ns name : List ℕ) → write ≡ planned (key.Anchor ns name) facts.now) }
+    ensures short { IfOk result (λ write. IsShort facts.now write) }
+{
+    match facts {
+        Facts::Anchor {
+            is_live: true,
+            anchor: Some(anchor),
+            status,
+        } => wanted_status(*status, anchor.object()),
+        _ => Ok(None),
+    }
+}
+
+/// The write of a namespace that is on its way out.
+fn write_of_purge(alloc: Global, ns: &Text, facts: &Facts) -> Result<Option<Write>, NoMemory>
+    ensures planned { IfOk result (λ write. write ≡ planned (key.Purge ns.now) facts.now) }
+    ensures short { IfOk result (λ write. IsShort facts.now write) }
+{
+    match facts {
+        Facts::Purge {
+            is_leaving: true,
+            least,
+        } => Ok(Some(Write::Cut(next_to_go(alloc, least, ns)?))),
         _ => Ok(None),
     }
 }
