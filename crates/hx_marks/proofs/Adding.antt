@@ -1,15 +1,15 @@
 -- What a function adds to a list, by what its calls add.
 --     grown           an equal list
+--     grown_on        something behind what another call adds
 --     nothing         none
 --     none_sent       nothing is sent of a kind that isn't propagated
 --     no_kind_marks   where a kind is ignored and propagated as before, nothing is marked
---     by_move, by_hierarchy      by which way a write goes
+--     by_move         by which way a namespace moves
 use Rattle.std.specs.Prelude.{flat_map, OnOk}
 use Rattle.std.proofs.Common.{◌≡◌, ℕ, Bool, true, false, cond, not, ◌&&◌, Option, None, List, [], ◌∷◌, ◌++◌, filter, map, Result, Ok, Err, refl, sym, ap, ◌∙◌, append-nil, if◌then◌else◌}
 use Rattle.std.proofs.lemmas.Bool.{and_parts}
-use Rattle.hx_object.specs.Kinds.{is_namespace, is_hierarchy}
+use Rattle.std.proofs.lemmas.List.{append_assoc}
 use Rattle.hx_object.specs.declared.kind.Kind.{Kind}
-use Rattle.hx_object.specs.declared.object.Id.{Id}
 use Rattle.hx_object.specs.declared.object.Mode.{Mode}
 use Rattle.hx_object.specs.declared.object.Object.{Object}
 use Rattle.hx_model.specs.Answers.{is_listed}
@@ -19,19 +19,19 @@ use Rattle.hx_model.specs.Forest.{Forest, parent_of}
 use Rattle.hx_model.specs.Limits.{is_copy}
 use Rattle.hx_model.specs.Moves.{mode_at}
 use Rattle.hx_model.specs.Propagation.{is_propagated, is_source, stays_home}
-use Rattle.hx_model.specs.State.{State, Objects, object_at}
+use Rattle.hx_model.specs.State.{State, Objects}
 use Rattle.hx_model.specs.Tree.{forest_of}
 use Rattle.hx_model.specs.TreeLabels.{is_open}
-use Rattle.hx_model.specs.Writes.{id_written}
-use Rattle.hx_model.specs.declared.key.Write.{Write}
-use Rattle.hx_model.specs.declared.key.Write.TheVariants.{Put, Cut}
-use Rattle.hx_store.specs.Changes.{id_of, object_of}
-use Rattle.hx_marks.specs.Before.{hierarchy_marks, marks_before, move_marks_to, namespace_marks_by, opens_under}
-use Rattle.hx_marks.specs.Law.{apart, copy_marks, differ, is_ignored, is_modes, is_sent, key_for, kind_marks, listed_in, mode_marks, moved_by, object_marks, object_written, open_below, sent_from, source_marks}
+use Rattle.hx_marks.specs.Before.{move_marks_to, opens_under}
+use Rattle.hx_marks.specs.Law.{apart, copy_marks, differ, is_ignored, is_sent, key_for, kind_marks, listed_in, moved_by, open_below, sent_from, source_marks}
 
 pub grown : {A T E : Type 0} (r : Result T E) (new old xs ys : List A) → xs ≡ ys → OnOk r (new ≡ old ++ xs) → OnOk r (new ≡ old ++ ys)
 grown (Ok x) new old xs ys same h = h ∙ ap (λ zs. old ++ zs) same
 grown (Err e) new old xs ys same h = tt
+
+pub grown_on : {A T E : Type 0} (r : Result T E) (new mid old xs ys zs : List A) → mid ≡ old ++ xs → xs ++ ys ≡ zs → OnOk r (new ≡ mid ++ ys) → OnOk r (new ≡ old ++ zs)
+grown_on (Ok x) new mid old xs ys zs first same h = h ∙ ap (λ all. all ++ ys) first ∙ append_assoc old xs ys ∙ ap (λ all. old ++ all) same
+grown_on (Err e) new mid old xs ys zs first same h = tt
 
 pub nothing : {A : Type 0} (old xs : List A) → xs ≡ [] → old ≡ old ++ xs
 nothing old xs none = sym (append-nil old) ∙ ap (λ zs. old ++ zs) (sym none)
@@ -92,24 +92,3 @@ by_move s f n old parent a b tree named moves before after =
     sym (
     (λ i. if same_name ((sym (named ∙ ap (λ (g : Forest). parent_of g n) tree)) i) parent then [] else moved_by s n ((sym (named ∙ ap (λ (g : Forest). parent_of g n) tree)) i) parent (is_open (forest_of s) n) (opens_under (forest_of s) n parent))
     ∙ (λ i. if moves i then [] else moved_by s n old parent ((ap (λ (g : Forest). is_open g n) (sym tree) ∙ before) i) ((ap (λ (g : Forest). opens_under g n parent) (sym tree) ∙ after) i)))
-
-same_written : (write : Write) → id_of write ≡ id_written write
-same_written (Put x) = refl
-same_written (Cut id) = refl
-
-same_object : (write : Write) → object_of write ≡ object_written write
-same_object (Put x) = refl
-same_object (Cut id) = refl
-
-pub by_hierarchy : (s : State) (write : Write) (id : Id) (new : Option Object) → id ≡ id_of write → new ≡ object_of write → is_namespace id.kind ≡ false → is_hierarchy id.kind ≡ true → hierarchy_marks s id new ≡ marks_before s write
-by_hierarchy s write id new same made out_of is_one =
-    let at : id ≡ id_written write = same ∙ same_written write in
-    let out : is_namespace (id_written write).kind ≡ false = ap (λ (q : Id). is_namespace q.kind) (sym at) ∙ out_of in
-    let is : is_hierarchy (id_written write).kind ≡ true = ap (λ (q : Id). is_hierarchy q.kind) (sym at) ∙ is_one in
-    (λ i. hierarchy_marks s (at i) ((made ∙ same_object write) i))
-    ∙ sym (
-    ap (λ t. if t then namespace_marks_by s (id_written write).name (object_at s.objects (id_written write)) (object_written write) else (
-    if is_hierarchy (id_written write).kind then hierarchy_marks s (id_written write) (object_written write) else (
-    if is_modes (id_written write) then mode_marks s (object_at s.objects (id_written write)) (object_written write) else object_marks s (id_written write) (object_at s.objects (id_written write)) (object_written write)))) out
-    ∙ ap (λ t. if t then hierarchy_marks s (id_written write) (object_written write) else (
-    if is_modes (id_written write) then mode_marks s (object_at s.objects (id_written write)) (object_written write) else object_marks s (id_written write) (object_at s.objects (id_written write)) (object_written write))) is)

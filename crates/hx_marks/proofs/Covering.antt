@@ -1,86 +1,150 @@
--- The law of marks, for each write, and what comes of it for queues.
---     law                a key that a write doesn't mark wants the same before and after it
---     within             a write marks only keys that its commit may make wait
---     stays_covered      where each marked key waits or was marked again, no work is forgotten
---     stays_covered_but  the same where one key isn't marked, which wants nothing afterwards
-use Rattle.std.proofs.Common.{◌≡◌, true, false, Option, Some, None, List, [], ◌∷◌, ◌⊎◌, inl, inr, refl, ap, ◌∙◌}
-use Rattle.std.specs.Prelude.{is_some}
-use Rattle.std.proofs.lemmas.Bool.{cases_Bool}
-use Rattle.hx_object.specs.Kinds.{is_namespace, is_hierarchy}
+-- The law of marks, for each write and for the writes of a commit, and what comes of it for queues.
+--     law, law_of_commit         a key that isn't marked wants the same before and after
+--     within, within_commit      only keys that the commit may make wait are marked
+--     all_one                    the marks of one write are those of the list of it
+--     stays_covered              where each marked key waits or was marked again, no work is forgotten
+--     stays_covered_but          the same where one key isn't marked, which wants nothing afterwards
+use Rattle.std.proofs.Common.{◌≡◌, Bool, true, false, not, Option, Some, None, List, [], ◌∷◌, ◌⊎◌, inl, inr, sym, refl, ap, ◌∙◌, subst}
+use Rattle.std.proofs.lemmas.Bool.{and_parts, cases_Bool}
+use Rattle.std.proofs.lemmas.List.{append-nil}
+use Rattle.hx_object.specs.Kinds.{is_anchor, is_namespace, is_hierarchy}
 use Rattle.hx_object.specs.declared.object.Object.{Object}
 use Rattle.hx_model.specs.Covered.{IsCovered, IsSameFor}
 use Rattle.hx_model.specs.Hands.{Hand}
 use Rattle.hx_model.specs.Keys.{same_key, is_among, may_mark}
 use Rattle.hx_model.specs.State.{State, object_at, state_after}
+use Rattle.hx_model.specs.Tree.{is_terminating}
 use Rattle.hx_model.specs.Valid.{IsValid}
 use Rattle.hx_model.specs.Wanted.{wanted_write}
-use Rattle.hx_model.specs.Writes.{MayWriteAll, id_written}
+use Rattle.hx_model.specs.Writes.{HasPlace, MayWriteAll, id_written}
 use Rattle.hx_model.specs.declared.key.Key.{Key}
 use Rattle.hx_model.specs.declared.key.Write.{Write}
-use Rattle.hx_marks.specs.Law.{is_modes, marks_of}
+use Rattle.hx_model.specs.declared.key.Write.TheVariants.{Put, Cut}
+use Rattle.hx_marks.specs.Halves.{IsRegular}
+use Rattle.hx_marks.specs.Law.{begins_to_end, is_modes, marks_of, all_marks}
 use Rattle.hx_marks.proofs.Among.{same_key_is}
+use Rattle.hx_marks.proofs.AnchorLaw.{anchor_law, within_anchors}
 use Rattle.hx_marks.proofs.CreatedLaw.{created_law, within_created}
+use Rattle.hx_marks.proofs.EndingLaw.{ending_law, within_ending, leaving_law, within_leaving}
+use Rattle.hx_marks.proofs.EndingWrites.{LeavesNow}
 use Rattle.hx_marks.proofs.Labelling.{label_law, within_labels}
 use Rattle.hx_marks.proofs.ModeKeys.{within_modes}
 use Rattle.hx_marks.proofs.ModeLaw.{mode_law}
 use Rattle.hx_marks.proofs.MoveLaw.{move_law}
 use Rattle.hx_marks.proofs.MoveWithin.{within_moves}
 use Rattle.hx_marks.proofs.ObjectLaw.{object_law, within_objects}
+use Rattle.hx_marks.proofs.RemovedLaw.{removed_law, within_removed}
 use Rattle.hx_marks.proofs.StayingCovered.{HaveTheirGuards, covered_next}
+
+-- the marks of one write
+pub all_one : (s : State) (write : Write) → all_marks s (write ∷ []) ≡ marks_of s write
+all_one s write = append-nil (marks_of s write)
+
+-- ---- a namespace
+
+-- one that is there begins to leave
+begins : (s : State) (x old : Object) → is_namespace x.id.kind ≡ true → object_at s.objects x.id ≡ Some old → MayWriteAll s (Put x ∷ []) → begins_to_end old x ≡ true → LeavesNow s x
+begins s x old is there may ends =
+    let parts = and_parts (is_terminating x.payload) _ ends in
+    record {
+      kind = is;
+      old = old;
+      there = there;
+      stood = stood (is_terminating old.payload) parts.1;
+      leaves = parts.0;
+      annotation = (subst (λ (o : Option Object). HasPlace o x) there (may.each.0.place is)).annotation;
+    }
+  where
+    stood : (b : Bool) → not b ≡ true → b ≡ false
+    stood true e = sym e
+    stood false e = refl
+
+namespace_law : (s : State) (write : Write) → IsValid s → MayWriteAll s (write ∷ []) → is_namespace (id_written write).kind ≡ true → (found : Option Object) → object_at s.objects (id_written write) ≡ found
+    → (k : Key) → is_among k (marks_of s write) ≡ false → IsSameFor s (state_after s (write ∷ [])) k
+namespace_law s write valid may is None absent k out = created_law s write valid may is absent k out
+namespace_law s (Cut id) valid may is (Some old) there k out = removed_law s id valid may is k out
+namespace_law s (Put x) valid may is (Some old) there k out = elim (cases_Bool (begins_to_end old x)) [
+  | inr stays ↦ label_law s x old valid may is there stays k out
+  | inl ends ↦ leaving_law s (Put x ∷ []) valid may (begins s x old is there may ends, tt) k (ap (is_among k) (all_one s (Put x)) ∙ out)
+]
+
+namespace_within : (s : State) (write : Write) → IsValid s → MayWriteAll s (write ∷ []) → is_namespace (id_written write).kind ≡ true → (found : Option Object) → object_at s.objects (id_written write) ≡ found
+    → (k : Key) → is_among k (marks_of s write) ≡ true → may_mark s (write ∷ []) k ≡ true
+namespace_within s write valid may is None absent k mem = within_created s write valid may is absent k mem
+namespace_within s (Cut id) valid may is (Some old) there k mem = within_removed s id valid may is k mem
+namespace_within s (Put x) valid may is (Some old) there k mem = elim (cases_Bool (begins_to_end old x)) [
+  | inr stays ↦ within_labels s x old valid may is there stays k mem
+  | inl ends ↦ within_leaving s (Put x ∷ []) valid may (begins s x old is there may ends, tt) k (ap (is_among k) (all_one s (Put x)) ∙ mem)
+]
+
+-- ---- one write
 
 module _ (s : State) (write : Write) (valid : IsValid s) (may : MayWriteAll s (write ∷ [])) (k : Key) where
   pub law : is_among k (marks_of s write) ≡ false → IsSameFor s (state_after s (write ∷ [])) k
   law out = elim (cases_Bool (is_namespace (id_written write).kind)) [
-    | inl is ↦ by (object_at s.objects (id_written write)) refl is
+    | inl is ↦ namespace_law s write valid may is (object_at s.objects (id_written write)) refl k out
     | inr leaf ↦ elim (cases_Bool (is_hierarchy (id_written write).kind)) [
       | inl is ↦ move_law s write valid may is k out
       | inr plain ↦ elim (cases_Bool (is_modes (id_written write))) [
         | inl is ↦ mode_law s write valid may leaf plain is k out
-        | inr other ↦ object_law s write valid may leaf plain other k out
+        | inr other ↦ elim (cases_Bool (is_anchor (id_written write).kind)) [
+          | inl is ↦ anchor_law s write is k out
+          | inr object ↦ object_law s write valid may leaf plain other object k out
+        ]
       ]
     ]
   ]
-    where
-      by : (found : Option Object) → object_at s.objects (id_written write) ≡ found → is_namespace (id_written write).kind ≡ true → IsSameFor s (state_after s (write ∷ [])) k
-      by None absent is = created_law s write valid may is absent k out
-      by (Some old) there is = label_law s write valid may is (ap is_some there) k out
 
   pub within : is_among k (marks_of s write) ≡ true → may_mark s (write ∷ []) k ≡ true
   within mem = elim (cases_Bool (is_namespace (id_written write).kind)) [
-    | inl is ↦ by (object_at s.objects (id_written write)) refl is
+    | inl is ↦ namespace_within s write valid may is (object_at s.objects (id_written write)) refl k mem
     | inr leaf ↦ elim (cases_Bool (is_hierarchy (id_written write).kind)) [
       | inl is ↦ within_moves s write valid may is k mem
       | inr plain ↦ elim (cases_Bool (is_modes (id_written write))) [
         | inl is ↦ within_modes s write valid may leaf plain is k mem
-        | inr other ↦ within_objects s write valid may leaf plain other k mem
+        | inr other ↦ elim (cases_Bool (is_anchor (id_written write).kind)) [
+          | inl is ↦ within_anchors s write may is k mem
+          | inr object ↦ within_objects s write valid may leaf plain other object k mem
+        ]
       ]
     ]
   ]
-    where
-      by : (found : Option Object) → object_at s.objects (id_written write) ≡ found → is_namespace (id_written write).kind ≡ true → may_mark s (write ∷ []) k ≡ true
-      by None absent is = within_created s write valid may is absent k mem
-      by (Some old) there is = within_labels s write valid may is (ap is_some there) k mem
+
+-- ---- the writes of a commit
+
+module _ (s : State) (writes : List Write) (regular : IsRegular s writes) (valid : IsValid s) (may : MayWriteAll s writes) (k : Key) where
+  pub law_of_commit : is_among k (all_marks s writes) ≡ false → IsSameFor s (state_after s writes) k
+  law_of_commit out = elim regular [
+    | inr ends ↦ ending_law s writes valid may ends k out
+    | inl (write, is) ↦ subst (λ us. IsSameFor s (state_after s us) k) (sym is) (law s write valid (subst (MayWriteAll s) is may) k (sym (ap (is_among k) (ap (all_marks s) is ∙ all_one s write)) ∙ out))
+  ]
+
+  pub within_commit : is_among k (all_marks s writes) ≡ true → may_mark s writes k ≡ true
+  within_commit mem = elim regular [
+    | inr ends ↦ within_ending s writes valid may ends k mem
+    | inl (write, is) ↦ subst (λ us. may_mark s us k ≡ true) (sym is) (within s write valid (subst (MayWriteAll s) is may) k (sym (ap (is_among k) (ap (all_marks s) is ∙ all_one s write)) ∙ mem))
+  ]
 
 -- ---- queues
 
-module _ (s : State) (write : Write) (valid : IsValid s) (may : MayWriteAll s (write ∷ [])) (hands : List Hand) (guards : HaveTheirGuards s hands) (waiting again new_waiting new_again : List Key)
+module _ (s : State) (writes : List Write) (regular : IsRegular s writes) (valid : IsValid s) (may : MayWriteAll s writes) (hands : List Hand) (guards : HaveTheirGuards hands) (waiting again new_waiting new_again : List Key)
     (wait_on : (k : Key) → is_among k waiting ≡ true → is_among k new_waiting ≡ true) (mark_on : (k : Key) → is_among k again ≡ true → is_among k new_again ≡ true) where
   -- where each marked key waits or was marked again, no work is forgotten
-  pub stays_covered : ((k : Key) → is_among k (marks_of s write) ≡ true → (is_among k new_waiting ≡ true) ⊎ (is_among k new_again ≡ true))
-      → IsCovered s hands waiting again → IsCovered (state_after s (write ∷ [])) hands new_waiting new_again
-  stays_covered all covered = covered_next s (state_after s (write ∷ [])) hands waiting again new_waiting new_again guards wait_on mark_on (λ k wants. elim (cases_Bool (is_among k (marks_of s write))) [
+  pub stays_covered : ((k : Key) → is_among k (all_marks s writes) ≡ true → (is_among k new_waiting ≡ true) ⊎ (is_among k new_again ≡ true))
+      → IsCovered s hands waiting again → IsCovered (state_after s writes) hands new_waiting new_again
+  stays_covered all covered = covered_next s (state_after s writes) hands waiting again new_waiting new_again guards wait_on mark_on (λ k wants. elim (cases_Bool (is_among k (all_marks s writes))) [
     | inl marked ↦ inr (all k marked)
-    | inr out ↦ inl (law s write valid may k out)
+    | inr out ↦ inl (law_of_commit s writes regular valid may k out)
   ]) covered
 
   -- the same where one key isn't marked, which wants nothing afterwards
-  pub stays_covered_but : (own : Key) → wanted_write (state_after s (write ∷ [])) own ≡ None
-      → ((k : Key) → is_among k (marks_of s write) ≡ true → same_key k own ≡ false → (is_among k new_waiting ≡ true) ⊎ (is_among k new_again ≡ true))
-      → IsCovered s hands waiting again → IsCovered (state_after s (write ∷ [])) hands new_waiting new_again
-  stays_covered_but own none all covered = covered_next s (state_after s (write ∷ [])) hands waiting again new_waiting new_again guards wait_on mark_on (λ k wants. elim (cases_Bool (is_among k (marks_of s write))) [
-    | inr out ↦ inl (law s write valid may k out)
+  pub stays_covered_but : (own : Key) → wanted_write (state_after s writes) own ≡ None
+      → ((k : Key) → is_among k (all_marks s writes) ≡ true → same_key k own ≡ false → (is_among k new_waiting ≡ true) ⊎ (is_among k new_again ≡ true))
+      → IsCovered s hands waiting again → IsCovered (state_after s writes) hands new_waiting new_again
+  stays_covered_but own none all covered = covered_next s (state_after s writes) hands waiting again new_waiting new_again guards wait_on mark_on (λ k wants. elim (cases_Bool (is_among k (all_marks s writes))) [
+    | inr out ↦ inl (law_of_commit s writes regular valid may k out)
     | inl marked ↦ elim (cases_Bool (same_key k own)) [
-      | inl is ↦ absurd (wants (ap (wanted_write (state_after s (write ∷ []))) (same_key_is k own is) ∙ none))
+      | inl is ↦ absurd (wants (ap (wanted_write (state_after s writes)) (same_key_is k own is) ∙ none))
       | inr other ↦ inr (all k marked other)
     ]
   ]) covered

@@ -5,31 +5,46 @@
 --     same_tree                       where the tree and the namespaces stay, so do the keys of tree labels
 --     same_closed                     so do the keys of copies in a namespace that takes no part
 --     same_copied                     so do those whose place stays, where what the place is to have stays
-use Rattle.std.proofs.Common.{◌≡◌, ℕ, Bool, true, false, not, ◌&&◌, Option, Some, None, option_map, List, [], ◌∷◌, ◌++◌, refl, sym, ap, ◌∙◌, true≢false}
-use Rattle.std.specs.Prelude.{option_and_then}
-use Rattle.std.proofs.lemmas.Bool.{and_parts, false_from_ne_true}
-use Rattle.hx_object.specs.Kinds.{can_be_copied}
+--     shut_child, unanchored_child, taken_child    a subnamespace isn't wanted where its parent takes no part, where the anchor isn't there, and where a namespace has the name
+--     unanchored_status, staying_removal           no status where the anchor isn't there;  no removal where the namespace isn't on its way out
+--     same_child, same_status         where anchor and namespaces stay, so do the keys of the subnamespace and of the status
+--     same_removal                    where the first object of a namespace stays, so does the key of its removal
+--     KeepsLeast                      the first objects of namespaces stay but for that of one identity
+--     removal_beside                  so does the key of the removal of a namespace in which nothing is written
+use Rattle.std.proofs.Common.{◌≡◌, ℕ, Bool, true, false, cond, not, ◌&&◌, ◌||◌, Option, Some, None, option_map, List, [], ◌∷◌, ◌++◌, Less, Equal, Greater, inl, inr, refl, sym, ap, ◌∙◌, subst, true≢false}
+use Rattle.std.specs.Prelude.{is_some, find, option_and_then, if◌then◌else◌}
+use Rattle.std.specs.FinMap.Entries.{by_order}
+use Rattle.std.specs.Str.{bytes_eq}
+use Rattle.std.proofs.lemmas.Bool.{and_parts, cases_Bool, false_from_ne_true}
+use Rattle.hx_object.specs.Kinds.{can_be_copied, is_in_cluster, is_namespace}
+use Rattle.hx_object.specs.Order.{id_cmp}
 use Rattle.hx_object.specs.declared.kind.Kind.{Kind}
 use Rattle.hx_object.specs.declared.object.Id.{Id}
 use Rattle.hx_object.specs.declared.object.Mode.{Mode}
 use Rattle.hx_object.specs.declared.object.Mode.TheVariants.{Propagate, AllowPropagate, Remove, Ignore}
 use Rattle.hx_object.specs.declared.object.Object.{Object}
+use Rattle.hx_model.specs.Cases.{is_leaving}
 use Rattle.hx_model.specs.Covered.{IsSameFor}
 use Rattle.hx_model.specs.First.{so}
-use Rattle.hx_model.specs.Forest.{chain_of, tail_of}
+use Rattle.hx_model.specs.Forest.{is_in, is_live, chain_of, tail_of}
+use Rattle.hx_model.specs.Keys.{is_among}
 use Rattle.hx_model.specs.Limits.{is_copy}
 use Rattle.hx_model.specs.Modes.{mode_of}
 use Rattle.hx_model.specs.Propagation.{is_source, id_in, as_list, source_at, sources_along, sources_above, top_of}
-use Rattle.hx_model.specs.State.{State, Objects, object_at, namespace_id}
+use Rattle.hx_model.specs.State.{State, Objects, object_at, put, cut, same_id, namespace_id, lies_in, least_in}
+use Rattle.hx_model.specs.Subnamespaces.{anchor_id}
 use Rattle.hx_model.specs.Tree.{forest_of}
 use Rattle.hx_model.specs.TreeLabels.{is_open}
-use Rattle.hx_model.specs.Wanted.{without_copy, copied_in, copy_write, wanted_copy, tree_write, wanted_write, guards_of}
+use Rattle.hx_model.specs.Wanted.{without_copy, copied_in, copy_write, wanted_copy, tree_write, child_write, status_by, anchor_status, anchor_write, purge_write, least_id, wanted_write, purge_guards, guards_of}
 use Rattle.hx_model.specs.declared.key.Guard.{Guard}
 use Rattle.hx_model.specs.declared.key.Key.{Key}
 use Rattle.hx_model.specs.declared.key.Key.TheVariants as key
 use Rattle.hx_model.specs.declared.key.Write.TheVariants.{Cut}
-use Rattle.hx_model.proofs.Objects.{found_id}
-use Rattle.hx_marks.specs.Law.{is_ignored}
+use Rattle.hx_model.proofs.Climbing.{is_same}
+use Rattle.hx_model.proofs.Displacing.{KeepsOthers}
+use Rattle.hx_model.proofs.Objects.{found_id, is_same_id, same_from_Equal}
+use Rattle.hx_marks.specs.Law.{is_ignored, leaving_keys}
+use Rattle.hx_marks.proofs.Among.{among_here}
 
 pub none_in_both : (s t : State) (k : Key) → wanted_write s k ≡ None → wanted_write t k ≡ None → IsSameFor s t k
 none_in_both s t k before after = (before ∙ sym after, λ some. absurd (some before))
@@ -135,3 +150,139 @@ module _ (s t : State) (tree : forest_of t ≡ forest_of s) (found : (m : List �
       (copy_alike (is_open (forest_of s) n) (object_at s.objects (namespace_id n)) (mode_of s kind) (mode_of t kind) (sources_above s n kind name) (then_above n kind name) n (object_at s.objects (id_in kind name n)) (object_at s.objects (id_in kind name n)) alike
       ∙ (λ i. copy_write (is_open (sym tree i) n) (sym (found n) i) (mode_of t kind) (sources_along t.objects kind name (tail_of (chain_of (sym tree i) n))) n (sym place i)))
       (λ i. version_of (sym place i) (id_in kind name n) ∷ version_of (sym (found n) i) (namespace_id n) ∷ [])
+
+-- ---- keys of anchors
+
+pub shut_child : (s : State) (n m : List ℕ) → is_open (forest_of s) n ≡ false → wanted_write s (key.Child n m) ≡ None
+shut_child s n m shut = ap (λ b. child_write b (is_some (object_at s.objects (anchor_id n m))) (is_in m s.config.excluded) (is_some (object_at s.objects (namespace_id m))) n m) shut
+
+pub unanchored_child : (s : State) (n m : List ℕ) → object_at s.objects (anchor_id n m) ≡ None → wanted_write s (key.Child n m) ≡ None
+unanchored_child s n m absent =
+    ap (λ o. child_write (is_open (forest_of s) n) (is_some o) (is_in m s.config.excluded) (is_some (object_at s.objects (namespace_id m))) n m) absent
+    ∙ by (is_open (forest_of s) n)
+  where
+    by : (acts : Bool) → child_write acts false (is_in m s.config.excluded) (is_some (object_at s.objects (namespace_id m))) n m ≡ None
+    by true = refl
+    by false = refl
+
+pub taken_child : (s : State) (n m : List ℕ) → is_some (object_at s.objects (namespace_id m)) ≡ true → wanted_write s (key.Child n m) ≡ None
+taken_child s n m there =
+    ap (λ b. child_write (is_open (forest_of s) n) (is_some (object_at s.objects (anchor_id n m))) (is_in m s.config.excluded) b n m) there
+    ∙ by (is_open (forest_of s) n) (is_some (object_at s.objects (anchor_id n m))) (is_in m s.config.excluded)
+  where
+    by : (acts anchored excluded : Bool) → child_write acts anchored excluded true n m ≡ None
+    by true true true = refl
+    by true true false = refl
+    by true false excluded = refl
+    by false anchored excluded = refl
+
+pub unanchored_status : (s : State) (n m : List ℕ) → object_at s.objects (anchor_id n m) ≡ None → wanted_write s (key.Anchor n m) ≡ None
+unanchored_status s n m absent = ap (anchor_write (is_live (forest_of s) n) (anchor_status s n m)) absent
+
+pub staying_removal : (s : State) (n : List ℕ) → is_leaving (forest_of s) n ≡ false → wanted_write s (key.Purge n) ≡ None
+staying_removal s n stays = ap (λ b. purge_write b (least_id s n) n) stays
+
+abbrev guard_of : Option Object → Id → Guard
+guard_of o id = record { id = id; version = option_map (λ (x : Object). x.version) o }
+
+module _ (s t : State) (n m : List ℕ) (anchor : object_at t.objects (anchor_id n m) ≡ object_at s.objects (anchor_id n m)) (home : object_at t.objects (namespace_id n) ≡ object_at s.objects (namespace_id n)) where
+  -- the name's namespace stays, too
+  pub same_child : t.config ≡ s.config → is_open (forest_of t) n ≡ is_open (forest_of s) n → object_at t.objects (namespace_id m) ≡ object_at s.objects (namespace_id m) → IsSameFor s t (key.Child n m)
+  same_child config acts named =
+      same_in_both s t (key.Child n m)
+      (λ i. child_write (sym acts i) (is_some (sym anchor i)) (is_in m ((sym config i).excluded)) (is_some (sym named i)) n m)
+      (λ i. guard_of (sym anchor i) (anchor_id n m) ∷ guard_of (sym home i) (namespace_id n) ∷ guard_of (sym named i) (namespace_id m) ∷ [])
+
+  pub same_status : is_live (forest_of t) n ≡ is_live (forest_of s) n → anchor_status t n m ≡ anchor_status s n m → IsSameFor s t (key.Anchor n m)
+  same_status live status =
+      same_in_both s t (key.Anchor n m)
+      (λ i. anchor_write (sym live i) (sym status i) (sym anchor i))
+      (λ i. guard_of (sym anchor i) (anchor_id n m) ∷ guard_of (sym home i) (namespace_id n) ∷ [])
+
+-- the same status, where the namespace of the name stays
+pub status_stays : (s t : State) (n m : List ℕ) → t.config ≡ s.config → object_at t.objects (namespace_id m) ≡ object_at s.objects (namespace_id m) → anchor_status t n m ≡ anchor_status s n m
+status_stays s t n m config named i = status_by (is_in n ((config i).excluded) || is_in m ((config i).excluded)) n (named i)
+
+-- ---- keys of removals
+
+-- the first objects of namespaces stay, but for that in which the identity lies
+abbrev pub KeepsLeast : Id → Objects → Objects → Type 0
+KeepsLeast id old new = (n : List ℕ) → lies_in n id ≡ false → least_in new n ≡ least_in old n
+
+pub put_least : (x : Object) (objects : Objects) → KeepsLeast x.id objects (put x objects)
+put_least x [] n apart = ap (λ b. cond b (Some x) None) apart
+put_least x (y ∷ objects) n apart =
+    elim (id_cmp x.id y.id) as (λ o. id_cmp x.id y.id ≡ o → least_in (by_order o (x ∷ y ∷ objects) (x ∷ objects) (y ∷ put x objects)) n ≡ least_in (y ∷ objects) n) [
+      | Less ↦ λ e. ap (λ b. cond b (Some x) (least_in (y ∷ objects) n)) apart
+      | Equal ↦ λ e.
+          ap (λ b. cond b (Some x) (least_in objects n)) apart
+          ∙ sym (ap (λ b. cond b (Some y) (least_in objects n)) (ap (lies_in n) (sym (is_same_id x.id y.id (same_from_Equal x.id y.id e))) ∙ apart))
+      | Greater ↦ λ e. ap (cond (lies_in n y.id) (Some y)) (put_least x objects n apart)
+    ] refl
+
+pub cut_least : (id : Id) (objects : Objects) → KeepsLeast id objects (cut id objects)
+cut_least id [] n apart = refl
+cut_least id (y ∷ objects) n apart =
+    elim (same_id id y.id) as (λ b. same_id id y.id ≡ b → least_in (cond (not b) (y ∷ cut id objects) (cut id objects)) n ≡ least_in (y ∷ objects) n) [
+      | true ↦ λ is. cut_least id objects n apart ∙ sym (ap (λ b. cond b (Some y) (least_in objects n)) (ap (lies_in n) (sym (is_same_id id y.id is)) ∙ apart))
+      | false ↦ λ other. ap (cond (lies_in n y.id) (Some y)) (cut_least id objects n apart)
+    ] refl
+
+-- what is found first lies in the namespace
+passes : (p : Object → Bool) (objects : Objects) (x : Object) → find p objects ≡ Some x → p x ≡ true
+passes p [] x e = absurd (true≢false (sym (ap is_some e)))
+passes p (y ∷ objects) x e = elim (p y) as (λ b. p y ≡ b → cond b (Some y) (find p objects) ≡ Some x → p x ≡ true) [
+  | true ↦ λ is h. subst (λ (z : Object). p z ≡ true) (let same : y ≡ x = cc in same) is
+  | false ↦ λ _ h. passes p objects x h
+] refl e
+
+pub least_lies : (objects : Objects) (n : List ℕ) (x : Object) → least_in objects n ≡ Some x → lies_in n x.id ≡ true
+least_lies objects n x at = passes (λ (y : Object). lies_in n y.id) objects x at
+
+-- and what lies in a namespace is none
+pub lies_apart : (n m : List ℕ) (id : Id) → lies_in n id ≡ true → same_id (namespace_id m) id ≡ false
+lies_apart n m id lies = false_from_ne_true (same_id (namespace_id m) id) (λ h.
+    true≢false (sym (and_parts (not (is_in_cluster id.kind)) _ lies).0 ∙ ap (λ (q : Id). not (is_in_cluster q.kind)) (sym (is_same_id (namespace_id m) id h))))
+
+-- the guards of a removal, by what is found first
+abbrev guards_by : State → List ℕ → Option Object → List Guard
+guards_by s n least = purge_guards s (option_map (λ (x : Object). x.id) least) n
+
+-- where a namespace stays, and what lies in it
+pub same_removal : (s t : State) (n : List ℕ) → is_leaving (forest_of t) n ≡ is_leaving (forest_of s) n → least_in t.objects n ≡ least_in s.objects n
+    → ((q : Id) → lies_in n q ≡ true → object_at t.objects q ≡ object_at s.objects q) → object_at t.objects (namespace_id n) ≡ object_at s.objects (namespace_id n) → IsSameFor s t (key.Purge n)
+same_removal s t n leaves least inside home =
+    same_in_both s t (key.Purge n)
+    (λ i. purge_write (sym leaves i) (option_map (λ (x : Object). x.id) (sym least i)) n)
+    (by (least_in s.objects n) refl ∙ ap (guards_by t n) (sym least))
+  where
+    by : (o : Option Object) → least_in s.objects n ≡ o → guards_by s n (least_in s.objects n) ≡ guards_by t n (least_in s.objects n)
+    by None e = ap (guards_by s n) e ∙ (λ i. guard_of (sym home i) (namespace_id n) ∷ []) ∙ sym (ap (guards_by t n) e)
+    by (Some x) e = ap (guards_by s n) e ∙ (λ i. guard_of (sym (inside x.id (least_lies s.objects n x e)) i) x.id ∷ guard_of (sym home i) (namespace_id n) ∷ []) ∙ sym (ap (guards_by t n) e)
+
+-- a write of an identity that is no namespace's
+module _ (s t : State) (id : Id) (leaf : is_namespace id.kind ≡ false) (others : KeepsOthers id s.objects t.objects) (least : KeepsLeast id s.objects t.objects) (leaving : (n : List ℕ) → is_leaving (forest_of t) n ≡ is_leaving (forest_of s) n) where
+  -- where it doesn't lie in the namespace
+  pub removal_apart : (n : List ℕ) → lies_in n id ≡ false → IsSameFor s t (key.Purge n)
+  removal_apart n apart =
+      same_removal s t n (leaving n) (least n apart)
+      (λ q lies. others q (false_from_ne_true (same_id q id) (λ h. true≢false (sym lies ∙ ap (lies_in n) (is_same_id q id h) ∙ apart))))
+      (others (namespace_id n) (false_from_ne_true (same_id (namespace_id n) id) (λ h. true≢false (ap (λ (q : Id). is_namespace q.kind) (is_same_id (namespace_id n) id h) ∙ leaf))))
+
+  -- where the removal isn't marked
+  pub removal_beside : (n : List ℕ) → is_among (key.Purge n) (leaving_keys (forest_of s) id.ns) ≡ false → IsSameFor s t (key.Purge n)
+  removal_beside n out = elim (cases_Bool (is_leaving (forest_of s) n)) [
+    | inr stays ↦ none_in_both s t (key.Purge n) (staying_removal s n stays) (staying_removal t n (leaving n ∙ stays))
+    | inl leaves ↦ elim (cases_Bool (bytes_eq n id.ns)) [
+      | inr apart ↦ removal_apart n (ap (λ b. not (is_in_cluster id.kind) && b) apart ∙ nowhere (not (is_in_cluster id.kind)))
+      | inl same ↦
+          let is = is_same n id.ns same in
+          let marked : is_among (key.Purge n) (leaving_keys (forest_of s) id.ns) ≡ true =
+          ap (λ a. is_among (key.Purge n) (leaving_keys (forest_of s) a)) (sym is) ∙ ap (λ b. is_among (key.Purge n) (if b then key.Purge n ∷ [] else [])) leaves ∙ among_here (key.Purge n) [] in
+          absurd (true≢false (sym marked ∙ out))
+    ]
+  ]
+    where
+      nowhere : (b : Bool) → (b && false) ≡ false
+      nowhere true = refl
+      nowhere false = refl

@@ -19,7 +19,15 @@ pub mod MoveLaw
 pub mod MoveWithin
 pub mod CreatedChains
 pub mod Growing
+pub mod Asking
+pub mod Keeping
+pub mod OneMore
 pub mod CreatedLaw
+pub mod RemovedLaw
+pub mod EndingChains
+pub mod EndingWrites
+pub mod EndingLaw
+pub mod AnchorLaw
 pub mod StayingCovered
 pub mod Covering
 pub mod Making
@@ -30,3 +38,4 @@ pub mod TakingPart
 pub mod Reading
 pub mod Adding
 pub mod Promising
+pub mod Regular

@@ -2,12 +2,16 @@
 --     placed_put, taken_cut       what is put, and what is cut
 --     IsCopyWrite, IsTreeWrite    what is known of a write that a place of copies wants;  a namespace's tree labels
 --     copy_write_known, tree_write_known
---     fresh_satisfies
-use Rattle.std.proofs.Common.{◌≡◌, ℕ, ◌+◌, Bool, true, false, cond, not, Option, Some, None, List, [], ◌∷◌, ◌⊎◌, inl, inr, refl, sym, ap, ◌∙◌, subst, true≢false}
-use Rattle.std.specs.Prelude.{is_some}
+--     IsChildWrite, IsStatusWrite, IsRemovalWrite     of a subnamespace, of an anchor's status, and of a removal
+--     child_write_known, status_write_known, removal_write_known
+--     removal_marked              the write of a removal marks its key again
+--     fresh_satisfies             for all keys but those of removals, which take one object after the other
+use Rattle.std.proofs.Common.{◌≡◌, ℕ, ◌+◌, Bool, true, false, cond, not, Option, Some, None, List, [], ◌∷◌, ◌⊎◌, inl, inr, refl, sym, ap, ◌∙◌, subst, true≢false, option_map}
+use Rattle.std.specs.Prelude.{is_some, if◌then◌else◌}
 use Rattle.std.specs.Cmp.{tied_itself}
-use Rattle.std.proofs.lemmas.Bool.{false_from_ne_true}
-use Rattle.hx_object.specs.Kinds.{can_be_copied, is_namespace, is_hierarchy}
+use Rattle.std.specs.Str.{bytes_eq}
+use Rattle.std.proofs.lemmas.Bool.{false_from_ne_true, and_parts, or_right, not-true}
+use Rattle.hx_object.specs.Kinds.{can_be_copied, is_namespace, is_hierarchy, is_in_cluster}
 use Rattle.hx_object.specs.declared.kind.Kind.{Kind}
 use Rattle.hx_object.specs.declared.kind.Kind.TheVariants as of
 use Rattle.hx_object.specs.declared.object.Id.{Id}
@@ -15,29 +19,37 @@ use Rattle.hx_object.specs.declared.object.Mode.{Mode}
 use Rattle.hx_object.specs.declared.object.Mode.TheVariants.{Propagate, AllowPropagate, Remove, Ignore}
 use Rattle.hx_object.specs.declared.object.Object.{Object}
 use Rattle.hx_model.specs.Answers.{same_object}
+use Rattle.hx_model.specs.Cases.{is_leaving}
 use Rattle.hx_model.specs.First.{so}
-use Rattle.hx_model.specs.Forest.{is_in, chain_of, tail_of}
+use Rattle.hx_model.specs.Forest.{is_in, chain_of, tail_of, is_live}
 use Rattle.hx_model.specs.Hands.{versioned}
+use Rattle.hx_model.specs.Keys.{is_among}
 use Rattle.hx_model.specs.Limits.{is_copy}
 use Rattle.hx_model.specs.Modes.{config_id, mode_in, mode_of}
 use Rattle.hx_model.specs.Propagation.{copy_of, goes_to, id_in, sources_along, sources_above, top_source}
-use Rattle.hx_model.specs.State.{State, Objects, object_at, put, same_id, namespace_id, with_version, after_writes, state_after}
+use Rattle.hx_model.specs.State.{State, Objects, object_at, put, same_id, namespace_id, with_version, after_writes, state_after, least_in}
+use Rattle.hx_model.specs.Subnamespaces.{anchor_id}
 use Rattle.hx_model.specs.Tree.{forest_in, forest_of}
 use Rattle.hx_model.specs.TreeLabels.{is_open, prescribed_labels}
 use Rattle.hx_model.specs.Valid.{IsValid}
-use Rattle.hx_model.specs.Wanted.{placed, without_copy, copied, copied_in, copy_write, wanted_copy, labelled, tree_write, wanted_tree, wanted_write}
+use Rattle.hx_model.specs.Wanted.{placed, without_copy, copied, copied_in, copy_write, wanted_copy, labelled, tree_write, wanted_tree, wanted_write, child_write, wanted_child, subnamespace, with_status_of, anchor_status, anchor_write, wanted_anchor, next_to_go, least_id, purge_write, wanted_purge}
 use Rattle.hx_model.specs.Writes.{id_written}
 use Rattle.hx_model.specs.declared.key.Key.{Key}
 use Rattle.hx_model.specs.declared.key.Key.TheVariants as key
 use Rattle.hx_model.specs.declared.key.Write.{Write}
 use Rattle.hx_model.specs.declared.key.Write.TheVariants.{Put, Cut}
+use Rattle.hx_model.proofs.Climbing.{is_same}
 use Rattle.hx_model.proofs.Conflicting.{head_out}
 use Rattle.hx_model.proofs.Objects.{id_total, is_same_id, same_from_Equal, object_at-put, object_at-cut, found_again, found_id}
 use Rattle.hx_model.proofs.Planting.{forest-put, forest-cut}
+use Rattle.hx_marks.proofs.Among.{among_here, among_append}
+use Rattle.hx_marks.proofs.Frames.{taken_child, status_stays, least_lies}
+use Rattle.hx_marks.proofs.Leaving.{marks_inside}
 use Rattle.hx_marks.proofs.Prescribing.{prescribed_again, chain_keys}
-use Rattle.hx_marks.proofs.Replacing.{valid_served, sources_same, copied_leaf, tree_by}
+use Rattle.hx_marks.proofs.Replacing.{valid_served, sources_same, copied_leaf, tree_by, leaving_found}
 use Rattle.hx_marks.proofs.Settling.{stands_placed}
 use Rattle.hx_marks.proofs.Wanting.{along_found, wants_copied}
+use Rattle.hx_marks.specs.Law.{namespace_marks, asking_keys, inner_marks, leaving_keys, marks_of}
 
 some_is : {A : Type 0} (a b : A) → Some a ≡ Some b → a ≡ b
 some_is a b e = cc
@@ -146,6 +158,49 @@ tree_write_known s m write wants = by (is_open (forest_of s) m) (object_at s.obj
     by false (Some x) is at e = absurd (none_some write e)
     by true (Some x) is at e = record { acts = is; home = x; there = at; puts = placed_put (labelled (chain_of (forest_of s) m) x) (Some x) write e }
 
+pub record IsChildWrite (s : State) (n m : List ℕ) (write : Write) : Type 0 where
+  pub acts : is_open (forest_of s) n ≡ true
+  pub anchored : is_some (object_at s.objects (anchor_id n m)) ≡ true
+  pub included : is_in m s.config.excluded ≡ false
+  pub absent : object_at s.objects (namespace_id m) ≡ None
+  pub puts : write ≡ Put (subnamespace n m)
+
+pub child_write_known : (s : State) (n m : List ℕ) (write : Write) → wanted_child s n m ≡ Some write → IsChildWrite s n m write
+child_write_known s n m write wants = by (is_open (forest_of s) n) (is_some (object_at s.objects (anchor_id n m))) (is_in m s.config.excluded) (object_at s.objects (namespace_id m)) refl refl refl refl wants
+  where
+    by : (acts anchored excluded : Bool) (found : Option Object) → is_open (forest_of s) n ≡ acts → is_some (object_at s.objects (anchor_id n m)) ≡ anchored → is_in m s.config.excluded ≡ excluded → object_at s.objects (namespace_id m) ≡ found
+        → child_write acts anchored excluded (is_some found) n m ≡ Some write → IsChildWrite s n m write
+    by true true false None opens there out none e = record { acts = opens; anchored = there; included = out; absent = none; puts = sym (some_is (Put (subnamespace n m)) write e) }
+    by true true false (Some x) opens there out none e = absurd (none_some write e)
+    by true true true found opens there out none e = absurd (none_some write e)
+    by true false excluded found opens there out none e = absurd (none_some write e)
+    by false anchored excluded found opens there out none e = absurd (none_some write e)
+
+pub record IsStatusWrite (s : State) (n m : List ℕ) (write : Write) : Type 0 where
+  pub live : is_live (forest_of s) n ≡ true
+  pub anchor : Object
+  pub there : object_at s.objects (anchor_id n m) ≡ Some anchor
+  pub puts : write ≡ Put (with_status_of (anchor_status s n m) anchor)
+
+pub status_write_known : (s : State) (n m : List ℕ) (write : Write) → wanted_anchor s n m ≡ Some write → IsStatusWrite s n m write
+status_write_known s n m write wants = by (is_live (forest_of s) n) (object_at s.objects (anchor_id n m)) refl refl wants
+  where
+    by : (live : Bool) (found : Option Object) → is_live (forest_of s) n ≡ live → object_at s.objects (anchor_id n m) ≡ found → anchor_write live (anchor_status s n m) found ≡ Some write → IsStatusWrite s n m write
+    by live None is at e = absurd (none_some write e)
+    by false (Some x) is at e = absurd (none_some write e)
+    by true (Some x) is at e = record { live = is; anchor = x; there = at; puts = placed_put (with_status_of (anchor_status s n m) x) (Some x) write e }
+
+pub record IsRemovalWrite (s : State) (n : List ℕ) (write : Write) : Type 0 where
+  pub leaves : is_leaving (forest_of s) n ≡ true
+  pub cuts : write ≡ Cut (next_to_go (least_id s n) n)
+
+pub removal_write_known : (s : State) (n : List ℕ) (write : Write) → wanted_purge s n ≡ Some write → IsRemovalWrite s n write
+removal_write_known s n write wants = by (is_leaving (forest_of s) n) refl wants
+  where
+    by : (leaves : Bool) → is_leaving (forest_of s) n ≡ leaves → purge_write leaves (least_id s n) n ≡ Some write → IsRemovalWrite s n write
+    by false is e = absurd (none_some write e)
+    by true is e = record { leaves = is; cuts = sym (some_is (Cut (next_to_go (least_id s n) n)) write e) }
+
 -- ---- after a write in a place of copies
 
 copied_hierarchy : (kind : Kind) → can_be_copied kind ≡ true → is_hierarchy kind ≡ false
@@ -220,13 +275,67 @@ tree_satisfied s m write version valid known =
     ∙ (λ i. tree_write (known.acts i) chain (found i))
     ∙ stands_placed (labelled chain y) y (λ i. record x { labels = sym again i; version = 0 })
 
+-- ---- after a write of an anchor's
+
+-- the subnamespace is there
+child_satisfied : (s : State) (n m : List ℕ) (write : Write) (version : ℕ) → IsChildWrite s n m write → wanted_child (state_after s (versioned version write ∷ [])) n m ≡ None
+child_satisfied s n m write version known =
+    ap (λ w. wanted_child (state_after s (versioned version w ∷ [])) n m) known.puts
+    ∙ taken_child (state_after s (Put (with_version (subnamespace n m) version) ∷ [])) n m (ap is_some (found_again (with_version (subnamespace n m) version) s.objects))
+
+-- the anchor has its status, and the namespaces stay
+status_satisfied : (s : State) (n m : List ℕ) (write : Write) (version : ℕ) → IsStatusWrite s n m write → wanted_anchor (state_after s (versioned version write ∷ [])) n m ≡ None
+status_satisfied s n m write version known =
+    let x = known.anchor in
+    let y = with_version (with_status_of (anchor_status s n m) x) version in
+    let t = state_after s (Put y ∷ []) in
+    let id : anchor_id n m ≡ x.id = found_id s.objects (anchor_id n m) x known.there in
+    let leaf : is_namespace x.id.kind ≡ false = ap (λ (q : Id). is_namespace q.kind) (sym id) in
+    let tree : forest_of t ≡ forest_of s = forest-put s.config.excluded y s.objects leaf (ap (λ (q : Id). is_hierarchy q.kind) (sym id)) in
+    let found : object_at t.objects (anchor_id n m) ≡ Some y = ap (object_at t.objects) id ∙ found_again y s.objects in
+    let stays : object_at t.objects (namespace_id m) ≡ object_at s.objects (namespace_id m) =
+    object_at-put y s.objects (namespace_id m)
+    ∙ ap (λ b. cond b (Some y) (object_at s.objects (namespace_id m))) (false_from_ne_true (same_id (namespace_id m) x.id) (λ h. true≢false (ap (λ (q : Id). is_namespace q.kind) (is_same_id (namespace_id m) x.id h) ∙ leaf))) in
+    ap (λ w. wanted_anchor (state_after s (versioned version w ∷ [])) n m) known.puts
+    ∙ (λ i. anchor_write (is_live (tree i) n) (status_stays s t n m refl stays i) (found i))
+    ∙ ap (λ b. anchor_write b (anchor_status s n m) (Some y)) known.live
+    ∙ stands_placed (with_status_of (anchor_status s n m) y) y refl
+
+-- ---- after a write of a removal
+
+-- its own write marks it: there may be more to go
+pub removal_marked : (s : State) (n : List ℕ) (write : Write) (version : ℕ) → IsValid s → IsRemovalWrite s n write → is_among (key.Purge n) (marks_of s (versioned version write)) ≡ true
+removal_marked s n write version valid known = by (least_in s.objects n) refl
+  where
+    marks : (o : Option Object) → least_in s.objects n ≡ o → marks_of s (versioned version write) ≡ marks_of s (Cut (next_to_go (option_map (λ (x : Object). x.id) o) n))
+    marks o is = ap (λ w. marks_of s (versioned version w)) known.cuts ∙ ap (λ (o : Option Object). marks_of s (Cut (next_to_go (option_map (λ (x : Object). x.id) o) n))) is
+
+    by : (o : Option Object) → least_in s.objects n ≡ o → is_among (key.Purge n) (marks_of s (versioned version write)) ≡ true
+    by None empty =
+        let found = leaving_found s valid n known.leaves in
+        ap (is_among (key.Purge n)) (marks None empty ∙ ap (λ o. namespace_marks s (state_after s (Cut (namespace_id n) ∷ [])) n o None) found.1) ∙ among_here (key.Purge n) (asking_keys s.objects n)
+    by (Some x) first =
+        let parts = and_parts (not (is_in_cluster x.id.kind)) (bytes_eq n x.id.ns) (least_lies s.objects n x first) in
+        let inner = inner_marks s (state_after s (Cut x.id ∷ [])) x.id (object_at s.objects x.id) None in
+        let here : is_among (key.Purge n) (leaving_keys (forest_of s) x.id.ns) ≡ true =
+        ap (λ a. is_among (key.Purge n) (leaving_keys (forest_of s) a)) (sym (is_same n x.id.ns parts.1)) ∙ ap (λ b. is_among (key.Purge n) (if b then key.Purge n ∷ [] else [])) known.leaves ∙ among_here (key.Purge n) [] in
+        ap (is_among (key.Purge n)) (marks (Some x) first ∙ marks_inside s (Cut x.id) (not-true (is_in_cluster x.id.kind) parts.0))
+        ∙ among_append (key.Purge n) inner (leaving_keys (forest_of s) x.id.ns)
+        ∙ or_right (is_among (key.Purge n) inner) _ here
+
 -- ---- once it is made
 
-pub fresh_satisfies : (s : State) (k : Key) (write : Write) → IsValid s → wanted_write s k ≡ Some write → wanted_write (state_after s (versioned (s.last + 1) write ∷ [])) k ≡ None
-fresh_satisfies s (key.Copy m kind name) write valid wants = copy_satisfied s m kind name write (s.last + 1) (copy_write_known s m kind name write wants)
-fresh_satisfies s (key.Tree m) write valid wants = tree_satisfied s m write (s.last + 1) valid (tree_write_known s m write wants)
-fresh_satisfies s (key.Report m) write valid wants = absurd (none_some write wants)
-fresh_satisfies s (key.Child m name) write valid wants = absurd (none_some write wants)
-fresh_satisfies s (key.Anchor m name) write valid wants = absurd (none_some write wants)
-fresh_satisfies s (key.Used m name) write valid wants = absurd (none_some write wants)
-fresh_satisfies s (key.Purge m) write valid wants = absurd (none_some write wants)
+-- the key of the removal of a namespace
+abbrev pub is_removal : Key → Bool
+is_removal (key.Purge n) = true
+is_removal _ = false
+
+-- the key then wants nothing. That of a removal goes on, as long as there is something to go
+pub fresh_satisfies : (s : State) (k : Key) (write : Write) → IsValid s → is_removal k ≡ false → wanted_write s k ≡ Some write → wanted_write (state_after s (versioned (s.last + 1) write ∷ [])) k ≡ None
+fresh_satisfies s (key.Copy m kind name) write valid once wants = copy_satisfied s m kind name write (s.last + 1) (copy_write_known s m kind name write wants)
+fresh_satisfies s (key.Tree m) write valid once wants = tree_satisfied s m write (s.last + 1) valid (tree_write_known s m write wants)
+fresh_satisfies s (key.Report m) write valid once wants = absurd (none_some write wants)
+fresh_satisfies s (key.Child m name) write valid once wants = child_satisfied s m name write (s.last + 1) (child_write_known s m name write wants)
+fresh_satisfies s (key.Anchor m name) write valid once wants = status_satisfied s m name write (s.last + 1) (status_write_known s m name write wants)
+fresh_satisfies s (key.Used m name) write valid once wants = absurd (none_some write wants)
+fresh_satisfies s (key.Purge m) write valid once wants = absurd (true≢false once)

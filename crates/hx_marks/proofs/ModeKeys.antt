@@ -28,7 +28,7 @@ use Rattle.hx_model.proofs.Parents.{is_in_filter}
 use Rattle.hx_marks.specs.Law.{key_for, open_below, apart, differ, is_ignored, is_sent, copy_marks, source_marks, kind_marks, mode_marks, is_config_kind, is_modes, object_written, marks_of}
 use Rattle.hx_marks.proofs.Among.{same_key_is, among_append, among_flat_map, among_map, among_cond, any_filter, passing_object, found_object, found_name, found_kind}
 use Rattle.hx_marks.proofs.OpenBelow.{open_is_there, open_below_has}
-use Rattle.hx_marks.proofs.ModeLaw.{marks_by_modes}
+use Rattle.hx_marks.proofs.Leaving.{marks_by_modes}
 
 -- the copies of an object in a namespace that takes part have a key
 copy_key : (s : State) (x : Object) (m : List ℕ) → object_at s.objects x.id ≡ Some x → can_be_copied x.id.kind ≡ true → is_open (forest_of s) m ≡ true → is_key s (key_for m x) ≡ true

@@ -1,7 +1,6 @@
 -- A write of the HNCConfiguration that isn't marked for a key leaves what the key wants.
 --     config_written              the identity that such a write is of
 --     marked_copy, marked_source  the place of a copy is marked where its kind begins or ends to be ignored, and those below a source where it begins or ends to be sent
---     marks_by_modes              what such a write marks
 --     mode_law                    a key that isn't marked wants the same before and after the write
 use Rattle.std.proofs.Common.{◌≡◌, ℕ, ◌==◌, Bool, true, false, cond, not, ◌&&◌, ◌||◌, ◌⊎◌, Option, Some, None, List, [], ◌∷◌, ◌++◌, map, filter, refl, sym, ap, ◌∙◌, subst, inl, inr, true≢false, eq-eqb}
 use Rattle.std.specs.Str.{bytes_eq}
@@ -39,12 +38,12 @@ use Rattle.hx_model.proofs.Displacing.{KeepsOthers}
 use Rattle.hx_model.proofs.Objects.{is_same_id, found_id}
 use Rattle.hx_model.proofs.Parents.{is_in_filter}
 use Rattle.hx_model.proofs.Storing.{All-found}
-use Rattle.hx_marks.specs.Law.{is_ignored, is_sent, key_for, open_below, apart, differ, copy_marks, source_marks, kind_marks, mode_marks, object_marks, is_config_kind, is_modes, object_written, marks_of}
+use Rattle.hx_marks.specs.Law.{is_ignored, is_sent, key_for, open_below, apart, differ, copy_marks, source_marks, kind_marks, mode_marks, is_config_kind, is_modes, object_written, marks_of}
 use Rattle.hx_marks.proofs.Among.{same_key_itself, among_append, among_flat_map, among_map, among_here, among_cond, any_filter, passing_object, passing_name, passing_kind}
 use Rattle.hx_marks.proofs.OpenBelow.{in_open_below, above_apart}
-use Rattle.hx_marks.proofs.Frames.{none_in_both, uncopied_wants, nothing_copied, same_tree, same_closed, same_copied, then_above}
+use Rattle.hx_marks.proofs.Frames.{none_in_both, uncopied_wants, nothing_copied, same_tree, same_closed, same_copied, then_above, KeepsLeast, removal_apart}
 use Rattle.hx_marks.proofs.Going.{sent_alike, going, top_along, copied_in_none, top_goes}
-use Rattle.hx_marks.proofs.Leaving.{Leaves, leaves, namespaces_stay, marks_are}
+use Rattle.hx_marks.proofs.Leaving.{Leaves, leaves, namespaces_stay, marks_by_modes, child_stays, anchored_stays, leaving_stay}
 
 -- ---- what is written
 
@@ -208,12 +207,11 @@ module _ (s t : State) (left : Leaves s t config_id (object_at t.objects config_
   key_law : (k : Key) → is_among k config_marks ≡ false → IsSameFor s t k
   key_law (key.Copy n kind name) out = copy_law n kind name out
   key_law (key.Tree n) out = same_tree s t left.tree found n
-  key_law k out = none_in_both s t k refl refl
-
-pub marks_by_modes : (s : State) (write : Write) → is_namespace (id_written write).kind ≡ false → is_hierarchy (id_written write).kind ≡ false → is_modes (id_written write) ≡ true → marks_of s write ≡ mode_marks s (object_at s.objects (id_written write)) (object_written write)
-marks_by_modes s write namespace hierarchical modes =
-    marks_are s write namespace hierarchical
-    ∙ ap (λ b. cond b (mode_marks s (object_at s.objects (id_written write)) (object_written write)) (object_marks s (id_written write) (object_at s.objects (id_written write)) (object_written write))) modes
+  key_law (key.Report n) out = none_in_both s t (key.Report n) refl refl
+  key_law (key.Child n m) out = child_stays s t config_id (object_at t.objects config_id) left refl refl n m
+  key_law (key.Anchor n m) out = anchored_stays s t config_id (object_at t.objects config_id) left refl refl n m
+  key_law (key.Used n name) out = none_in_both s t (key.Used n name) refl refl
+  key_law (key.Purge n) out = removal_apart s t config_id refl left.others left.least (leaving_stay s t config_id (object_at t.objects config_id) left) n refl
 
 -- a key that isn't marked wants the same before and after the write
 pub mode_law : (s : State) (write : Write) → IsValid s → MayWriteAll s (write ∷ []) → is_namespace (id_written write).kind ≡ false → is_hierarchy (id_written write).kind ≡ false → is_modes (id_written write) ≡ true
@@ -223,6 +221,12 @@ mode_law s write valid may namespace hierarchical modes k out =
     let same = config_written s write valid may modes in
     let here : object_at (state_after s (write ∷ [])).objects config_id ≡ object_written write = ap (object_at (state_after s (write ∷ [])).objects) (sym same) ∙ left.here in
     key_law s (state_after s (write ∷ []))
-    (record { tree = left.tree; others = subst (λ (q : Id). KeepsOthers q s.objects (state_after s (write ∷ [])).objects) same left.others; here = refl })
+    (record {
+      tree = left.tree;
+      others = subst (λ (q : Id). KeepsOthers q s.objects (state_after s (write ∷ [])).objects) same left.others;
+      least = subst (λ (q : Id). KeepsLeast q s.objects (state_after s (write ∷ [])).objects) same left.least;
+      here = refl;
+      config = left.config;
+    })
     k
     ((λ i. is_among k (mode_marks s (object_at s.objects (sym same i)) (here i))) ∙ ap (is_among k) (sym (marks_by_modes s write namespace hierarchical modes)) ∙ out)

@@ -76,8 +76,8 @@ module _ (s : State) (n : List ℕ) (parent : Option (List ℕ)) (there : is_the
 
   -- ---- outside
 
-  outside_same : (k : Key) → in_chain f (spot k) n ≡ false → wanted_in s.objects f k ≡ wanted_in s.objects g k
-  outside_same k out = sym (λ i. wanted_at s.objects (moved_open_same f n parent (spot k) out i) (moved_chain_same f n parent (spot k) out i) k)
+  outside_same : (k : Key) → in_chain f (spot k) n ≡ false → wanted_in s f k ≡ wanted_in s g k
+  outside_same k out = sym (λ i. wanted_at s (moved_open_same f n parent (spot k) out i) (moved_chain_same f n parent (spot k) out i) k)
 
   -- ---- who takes part
 
@@ -127,16 +127,16 @@ module _ (s : State) (n : List ℕ) (parent : Option (List ℕ)) (there : is_the
 
   module _ (k : Key) (has : in_chain f (spot k) n ≡ true) where
     abbrev before : Option Write
-    before = wanted_at s.objects (is_open f (spot k)) (chain_of f (spot k)) k
+    before = wanted_at s (is_open f (spot k)) (chain_of f (spot k)) k
 
     abbrev after : Option Write
-    after = wanted_at s.objects (is_open g (spot k)) (chain_of g (spot k)) k
+    after = wanted_at s (is_open g (spot k)) (chain_of g (spot k)) k
 
     nothing_before : is_open f (spot k) ≡ false → before ≡ None
-    nothing_before shut = ap (λ b. wanted_at s.objects b (chain_of f (spot k)) k) shut ∙ at_closed s.objects (chain_of f (spot k)) k
+    nothing_before shut = ap (λ b. wanted_at s b (chain_of f (spot k)) k) shut ∙ at_closed s (chain_of f (spot k)) k
 
     nothing_after : is_open g (spot k) ≡ false → after ≡ None
-    nothing_after shut = ap (λ b. wanted_at s.objects b (chain_of g (spot k)) k) shut ∙ at_closed s.objects (chain_of g (spot k)) k
+    nothing_after shut = ap (λ b. wanted_at s b (chain_of g (spot k)) k) shut ∙ at_closed s (chain_of g (spot k)) k
 
     shut_before : is_open f n ≡ false → is_open f (spot k) ≡ false
     shut_before shut = not_open f n (spot k) has shut
@@ -152,7 +152,7 @@ module _ (s : State) (n : List ℕ) (parent : Option (List ℕ)) (there : is_the
     ends h shut unmarked = elim (cases_Bool (is_open f (spot k))) [
       | inl opens ↦
           none_from before (λ wants.
-          true≢false (sym (marked_of k (λ a. all_of s.objects (chain_of f a) a) (live_below f n) (spot k) (live (open_there f (spot k) opens) (calm_way (spot k) (parent_of f n) (sym (opens_before h (spot k) has) ∙ opens))) (at_known s.objects (is_open f (spot k)) (chain_of f (spot k)) k wants))
+          true≢false (sym (marked_of k (λ a. all_of s.objects (chain_of f a) a) (live_below f n) (spot k) (live (open_there f (spot k) opens) (calm_way (spot k) (parent_of f n) (sym (opens_before h (spot k) has) ∙ opens))) (at_known s (is_open f (spot k)) (chain_of f (spot k)) k wants))
           ∙ unmarked))
           ∙ sym (nothing_after (shut_after shut))
       | inr shuts ↦ nothing_before shuts ∙ sym (nothing_after (shut_after shut))
@@ -166,7 +166,7 @@ module _ (s : State) (n : List ℕ) (parent : Option (List ℕ)) (there : is_the
           ∙ sym (none_from after (λ wants.
           true≢false (sym (marked_of k (λ a. all_of s.objects (moved_chain_of f n parent a) a) (live_below f n) (spot k)
           (live (sym (moved_there f n parent (spot k)) ∙ open_there g (spot k) opens) (calm_way (spot k) parent (sym (opens_after h (spot k) has) ∙ opens)))
-          (subst (λ (chain : List (List ℕ)). is_among k (all_of s.objects chain (spot k)) ≡ true) (chain_after h (spot k) has) (at_known s.objects (is_open g (spot k)) (chain_of g (spot k)) k wants)))
+          (subst (λ (chain : List (List ℕ)). is_among k (all_of s.objects chain (spot k)) ≡ true) (chain_after h (spot k) has) (at_known s (is_open g (spot k)) (chain_of g (spot k)) k wants)))
           ∙ unmarked)))
       | inr shuts ↦ nothing_before (shut_before shut) ∙ sym (nothing_after shuts)
     ]
@@ -174,14 +174,14 @@ module _ (s : State) (n : List ℕ) (parent : Option (List ℕ)) (there : is_the
   -- the place of a copy, where n always takes part
   copy_same : is_open f n ≡ true → is_open g n ≡ true → (m : List ℕ) (kind : Kind) (name : List ℕ)
       → is_among (key.Copy m kind name) (map (key_for m) (all_sent s.objects (in_one (chain_from f (parent_of f n)) (chain_from f parent)))) ≡ false
-      → wanted_at s.objects true (moved_chain_of f n (parent_of f n) m) (key.Copy m kind name) ≡ wanted_at s.objects true (moved_chain_of f n parent m) (key.Copy m kind name)
+      → wanted_at s true (moved_chain_of f n (parent_of f n) m) (key.Copy m kind name) ≡ wanted_at s true (moved_chain_of f n parent m) (key.Copy m kind name)
   copy_same h j m kind name unmarked = elim (cases_Bool (can_be_copied kind)) [
     | inl copied ↦ by copied (object_at s.objects (namespace_id m))
     | inr out ↦ nothing (moved_chain_of f n (parent_of f n) m) out ∙ sym (nothing (moved_chain_of f n parent m) out)
   ]
     where
-      nothing : (chain : List (List ℕ)) → can_be_copied kind ≡ false → wanted_at s.objects true chain (key.Copy m kind name) ≡ None
-      nothing chain out = none_from (wanted_at s.objects true chain (key.Copy m kind name)) (λ wants. true≢false (sym (wants_copied s.objects chain m kind name true (object_at s.objects (namespace_id m)) wants) ∙ out))
+      nothing : (chain : List (List ℕ)) → can_be_copied kind ≡ false → wanted_at s true chain (key.Copy m kind name) ≡ None
+      nothing chain out = none_from (wanted_at s true chain (key.Copy m kind name)) (λ wants. true≢false (sym (wants_copied s.objects chain m kind name true (object_at s.objects (namespace_id m)) wants) ∙ out))
 
       top : can_be_copied kind ≡ true → (x : Object)
           → top_of (mode_at s.objects kind) x.labels (sources_along s.objects kind name (tail_of (moved_chain_of f n (parent_of f n) m))) ≡ top_of (mode_at s.objects kind) x.labels (sources_along s.objects kind name (tail_of (moved_chain_of f n parent m)))
@@ -203,7 +203,7 @@ module _ (s : State) (n : List ℕ) (parent : Option (List ℕ)) (there : is_the
   -- a key of a namespace that takes part before and then
   middle : is_open f n ≡ true → is_open g n ≡ true → (k : Key) → is_in (spot k) (live_below f n) ≡ true
       → is_among k (flat_map (sent_marks sent) (live_below f n)) ≡ false
-      → wanted_at s.objects true (moved_chain_of f n (parent_of f n) (spot k)) k ≡ wanted_at s.objects true (moved_chain_of f n parent (spot k)) k
+      → wanted_at s true (moved_chain_of f n (parent_of f n) (spot k)) k ≡ wanted_at s true (moved_chain_of f n parent (spot k)) k
   middle h j (key.Copy m kind name) live unmarked = copy_same h j m kind name (false_from_ne_true (is_among (key.Copy m kind name) (map (key_for m) sent)) (λ mark.
       true≢false (sym (marked_of (key.Copy m kind name) (sent_marks sent) (live_below f n) m live (or_right (same_key (key.Copy m kind name) (key.Tree m)) _ mark)) ∙ unmarked)))
   middle h j (key.Tree m) live unmarked = absurd (true≢false (sym (marked_of (key.Tree m) (sent_marks sent) (live_below f n) m live (among_here (key.Tree m) (map (key_for m) sent))) ∙ unmarked))
@@ -216,22 +216,22 @@ module _ (s : State) (n : List ℕ) (parent : Option (List ℕ)) (there : is_the
     | inl calm ↦
         let opens : is_open f (spot k) ≡ true = opens_before h (spot k) has ∙ and_from (list_all (is_calm f) (up_to n (chain_of f (spot k)))) _ calm (top_before h) in
         let moved : is_open g (spot k) ≡ true = opens_after j (spot k) has ∙ and_from (list_all (is_calm f) (up_to n (chain_of f (spot k)))) _ calm (top_after j) in
-        (λ i. wanted_at s.objects (opens i) (chain_before h (spot k) has i) k)
+        (λ i. wanted_at s (opens i) (chain_before h (spot k) has i) k)
         ∙ middle h j k (live k has (open_there f (spot k) opens) calm) unmarked
-        ∙ sym (λ i. wanted_at s.objects (moved i) (chain_after j (spot k) has i) k)
+        ∙ sym (λ i. wanted_at s (moved i) (chain_after j (spot k) has i) k)
     | inr wild ↦
         nothing_before k has (opens_before h (spot k) has ∙ ap (λ b. b && (is_calm f n && is_open_above f (parent_of f n))) wild)
         ∙ sym (nothing_after k has (opens_after j (spot k) has ∙ ap (λ b. b && (is_calm f n && is_open_above f parent)) wild))
   ]
 
-  inside_same : (a b : Bool) → is_open f n ≡ a → is_open g n ≡ b → (k : Key) → in_chain f (spot k) n ≡ true → is_among k (moved_by s n (parent_of f n) parent a b) ≡ false → wanted_in s.objects f k ≡ wanted_in s.objects g k
+  inside_same : (a b : Bool) → is_open f n ≡ a → is_open g n ≡ b → (k : Key) → in_chain f (spot k) n ≡ true → is_among k (moved_by s n (parent_of f n) parent a b) ≡ false → wanted_in s f k ≡ wanted_in s g k
   inside_same true true h j k has unmarked = stays k has h j unmarked
   inside_same true false h j k has unmarked = ends k has h j unmarked
   inside_same false true h j k has unmarked = begins k has h j unmarked
   inside_same false false h j k has unmarked = nothing_before k has (shut_before k has h) ∙ sym (nothing_after k has (shut_after k has j))
 
   -- a key that isn't marked wants the same
-  pub moved_same : (k : Key) → is_among k (moved_by s n (parent_of f n) parent (is_open f n) (is_open g n)) ≡ false → wanted_in s.objects f k ≡ wanted_in s.objects g k
+  pub moved_same : (k : Key) → is_among k (moved_by s n (parent_of f n) parent (is_open f n) (is_open g n)) ≡ false → wanted_in s f k ≡ wanted_in s g k
   moved_same k unmarked = elim (cases_Bool (in_chain f (spot k) n)) [
     | inl has ↦ inside_same (is_open f n) (is_open g n) refl refl k has unmarked
     | inr out ↦ outside_same k out

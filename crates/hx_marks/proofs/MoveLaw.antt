@@ -5,18 +5,20 @@
 --     move_same          a key that isn't marked wants the same, by the tree
 --     put_moves, cut_moves   what one that is put or cut makes of the tree
 --     move_law           a key that isn't marked wants the same
-use Rattle.std.proofs.Common.{◌≡◌, ℕ, ◌+◌, Bool, true, false, Option, Some, None, List, [], ◌∷◌, refl, sym, ap, ◌∙◌, subst, true≢false}
+use Rattle.std.proofs.Common.{◌≡◌, ℕ, ◌+◌, Bool, true, false, Option, Some, None, List, [], ◌∷◌, refl, sym, ap, ◌∙◌, subst, true≢false, cond, option_map, ◌&&◌, ◌||◌, ◌++◌}
 use Rattle.std.specs.Prelude.{is_some, if◌then◌else◌}
 use Rattle.std.specs.List.{AllByRecursion}
 use Rattle.std.specs.Option.{option_map_or}
 use Rattle.std.specs.Str.{bytes_eq}
-use Rattle.hx_object.specs.Kinds.{is_hierarchy}
+use Rattle.hx_object.specs.Kinds.{is_hierarchy, is_anchor}
+use Rattle.hx_object.specs.WellKnown.{config}
 use Rattle.hx_object.specs.declared.object.Id.{Id}
 use Rattle.hx_object.specs.declared.object.Object.{Object}
-use Rattle.hx_model.specs.Cases.{same_name}
+use Rattle.hx_object.proofs.KindTests.{hierarchy_kind}
+use Rattle.hx_model.specs.Cases.{same_name, is_leaving}
 use Rattle.hx_model.specs.Covered.{IsSameFor}
 use Rattle.hx_model.specs.First.{or_else}
-use Rattle.hx_model.specs.Forest.{Forest, is_there, parent_of, with_parent}
+use Rattle.hx_model.specs.Forest.{Forest, is_there, parent_of, with_parent, node_of}
 use Rattle.hx_model.specs.Keys.{is_among}
 use Rattle.hx_model.specs.Serving.{IsServed}
 use Rattle.hx_model.specs.State.{State, Objects, object_at, put, cut, home_in, namespace_id, state_after}
@@ -27,11 +29,15 @@ use Rattle.hx_model.specs.Writes.{id_written, MayWriteAll}
 use Rattle.hx_model.specs.declared.key.Key.{Key}
 use Rattle.hx_model.specs.declared.key.Write.{Write}
 use Rattle.hx_model.specs.declared.key.Write.TheVariants.{Put, Cut}
+use Rattle.hx_model.specs.declared.node.Node.{Node}
 use Rattle.hx_model.proofs.Climbing.{is_same}
 use Rattle.hx_model.proofs.Displacing.{KeepsOthers, put_keeps, cut_keeps, with_same_parent}
-use Rattle.hx_model.proofs.Moving.{moved_parent}
+use Rattle.hx_model.proofs.Moving.{moved_parent, moved_node, with_that}
+use Rattle.hx_model.proofs.Opening.{moved_live}
 use Rattle.hx_model.proofs.Planting.{hierarchy_no_namespace, there-objects, home_of_hierarchy, forest-put_moves, forest-cut_moves}
-use Rattle.hx_marks.specs.Law.{is_modes, moved_by, move_marks, mode_marks, namespace_marks, object_marks, marks_by, marks_of}
+use Rattle.hx_marks.specs.Law.{is_modes, moved_by, move_marks, mode_marks, namespace_marks, object_marks, marks_by, marks_of, inner_marks, anchor_marks, leaving_keys, is_config_kind, object_written}
+use Rattle.hx_marks.proofs.Among.{among_append, out_left, out_right}
+use Rattle.hx_marks.proofs.Frames.{KeepsLeast, put_least, cut_least}
 use Rattle.hx_marks.proofs.MoveBelow.{moved_same}
 use Rattle.hx_marks.proofs.MoveStates.{same_for}
 
@@ -39,11 +45,18 @@ pub all_served : (last : ℕ) (objects : Objects) → AllByRecursion (IsStored l
 all_served last [] h = tt
 all_served last (x ∷ objects) h = (h.0.served, all_served last objects h.1)
 
--- what it marks
-pub hierarchy_marks : (s t : State) (id : Id) (old new : Option Object) → is_hierarchy id.kind ≡ true → marks_by s t id old new ≡ (if bytes_eq id.name hierarchy then move_marks s t id.ns else [])
+-- it is no HNCConfiguration
+no_modes : (id : Id) → is_hierarchy id.kind ≡ true → is_modes id ≡ false
+no_modes id is = ap (λ kind. is_config_kind kind && bytes_eq id.name config) (hierarchy_kind id.kind is)
+
+-- what it marks: by its name, and the removal of its namespace
+pub hierarchy_marks : (s t : State) (id : Id) (old new : Option Object) → is_hierarchy id.kind ≡ true → marks_by s t id old new ≡ (if bytes_eq id.name hierarchy then move_marks s t id.ns else []) ++ leaving_keys (forest_of s) id.ns
 hierarchy_marks s t id old new is =
-    ap (λ b. if b then namespace_marks s t id.name old else (if is_hierarchy id.kind then (if bytes_eq id.name hierarchy then move_marks s t id.ns else []) else (if is_modes id then mode_marks s old new else object_marks s id old new))) (hierarchy_no_namespace id is)
-    ∙ ap (λ b. if b then (if bytes_eq id.name hierarchy then move_marks s t id.ns else []) else (if is_modes id then mode_marks s old new else object_marks s id old new)) is
+    let moves = if bytes_eq id.name hierarchy then move_marks s t id.ns else [] in
+    let leaving = leaving_keys (forest_of s) id.ns in
+    ap (λ b. if b then namespace_marks s t id.name old new else (if is_modes id then mode_marks s old new else (inner_marks s t id old new ++ leaving))) (hierarchy_no_namespace id is)
+    ∙ ap (λ b. if b then mode_marks s old new else (inner_marks s t id old new ++ leaving)) (no_modes id is)
+    ∙ ap (λ b. (if b then moves else (if is_anchor id.kind then anchor_marks id else object_marks s id old new)) ++ leaving) is
 
 same_names : (a b : Option (List ℕ)) → same_name a b ≡ true → a ≡ b
 same_names None None h = refl
@@ -56,18 +69,27 @@ abbrev pub MovesTree : State → Id → Option (List ℕ) → Objects → Type 0
 MovesTree s id named new =
     forest_in s.config.excluded new ≡ (if bytes_eq id.name hierarchy then option_map_or (λ home. with_parent id.ns (or_else (subnamespace_parent home) named) (forest_of s)) (home_in s.objects id) (forest_of s) else forest_of s)
 
-module _ (s : State) (valid : IsValid s) (id : Id) (is : is_hierarchy id.kind ≡ true) (new : Objects) (last : ℕ) (keeps : KeepsOthers id s.objects new) where
+-- who is on its way out is so under any parent
+moved_leaving : (f : Forest) (n : List ℕ) (parent : Option (List ℕ)) (a : List ℕ) → is_leaving (with_parent n parent f) a ≡ is_leaving f a
+moved_leaving f n parent a = ap (λ o. option_map_or (λ (node : Node). node.terminating) o false) (moved_node f n parent a) ∙ by (bytes_eq n a) (node_of f a)
+  where
+    by : (b : Bool) (o : Option Node) → option_map_or (λ (node : Node). node.terminating) (cond b (option_map (with_that parent) o) o) false ≡ option_map_or (λ (node : Node). node.terminating) o false
+    by true None = refl
+    by true (Some node) = refl
+    by false o = refl
+
+module _ (s : State) (valid : IsValid s) (id : Id) (is : is_hierarchy id.kind ≡ true) (new : Objects) (last : ℕ) (keeps : KeepsOthers id s.objects new) (least : KeepsLeast id s.objects new) (k : Key) (out : is_among k (leaving_keys (forest_of s) id.ns) ≡ false) where
   abbrev after : State
   after = record s { objects = new; last = last }
 
   -- where the tree stays
-  stays : (k : Key) → forest_in s.config.excluded new ≡ forest_of s → IsSameFor s after k
-  stays k tree = same_for s id is new last keeps (forest_of s) k tree refl
+  stays : forest_in s.config.excluded new ≡ forest_of s → IsSameFor s after k
+  stays tree = same_for s id is new last keeps (forest_of s) tree (λ n. refl) (λ n. refl) least k out refl
 
   -- where its namespace is there
-  moves : (k : Key) (home : Object) (parent : Option (List ℕ)) → object_at s.objects (namespace_id id.ns) ≡ Some home → forest_in s.config.excluded new ≡ with_parent id.ns parent (forest_of s)
+  moves : (home : Object) (parent : Option (List ℕ)) → object_at s.objects (namespace_id id.ns) ≡ Some home → forest_in s.config.excluded new ≡ with_parent id.ns parent (forest_of s)
       → is_among k (move_marks s after id.ns) ≡ false → IsSameFor s after k
-  moves k home parent here tree unmarked = by (same_name (parent_of (forest_of s) id.ns) parent) refl unmarked_then
+  moves home parent here tree unmarked = by (same_name (parent_of (forest_of s) id.ns) parent) refl unmarked_then
     where
       there : is_there (forest_of s) id.ns ≡ true
       there = there-objects s.config.excluded s.objects id.ns (all_served s.last s.objects valid.stored) ∙ ap is_some here
@@ -82,25 +104,26 @@ module _ (s : State) (valid : IsValid s) (id : Id) (is : is_hierarchy id.kind �
 
       by : (b : Bool) → same_name (parent_of (forest_of s) id.ns) parent ≡ b
           → is_among k (if b then [] else moved_by s id.ns (parent_of (forest_of s) id.ns) parent (is_open (forest_of s) id.ns) (is_open moved id.ns)) ≡ false → IsSameFor s after k
-      by true same marks = stays k (tree ∙ ap (λ p. with_parent id.ns p (forest_of s)) (sym (same_names (parent_of (forest_of s) id.ns) parent same)) ∙ with_same_parent s valid id.ns home here)
-      by false differs marks = same_for s id is new last keeps moved k tree (moved_same s id.ns parent there (with_same_parent s valid id.ns home here) k marks)
+      by true same marks = stays (tree ∙ ap (λ p. with_parent id.ns p (forest_of s)) (sym (same_names (parent_of (forest_of s) id.ns) parent same)) ∙ with_same_parent s valid id.ns home here)
+      by false differs marks =
+          same_for s id is new last keeps moved tree (moved_live (forest_of s) id.ns parent) (moved_leaving (forest_of s) id.ns parent) least k out (moved_same s id.ns parent there (with_same_parent s valid id.ns home here) k marks)
 
-  by_home : (k : Key) (named : Option (List ℕ)) (o : Option Object) → object_at s.objects (namespace_id id.ns) ≡ o
+  by_home : (named : Option (List ℕ)) (o : Option Object) → object_at s.objects (namespace_id id.ns) ≡ o
       → forest_in s.config.excluded new ≡ option_map_or (λ home. with_parent id.ns (or_else (subnamespace_parent home) named) (forest_of s)) o (forest_of s)
       → is_among k (move_marks s after id.ns) ≡ false → IsSameFor s after k
-  by_home k named None here tree unmarked = stays k tree
-  by_home k named (Some home) here tree unmarked = moves k home (or_else (subnamespace_parent home) named) here tree unmarked
+  by_home named None here tree unmarked = stays tree
+  by_home named (Some home) here tree unmarked = moves home (or_else (subnamespace_parent home) named) here tree unmarked
 
   -- a key that isn't marked wants the same
-  pub move_same : (k : Key) (named : Option (List ℕ)) → MovesTree s id named new → is_among k (if bytes_eq id.name hierarchy then move_marks s after id.ns else []) ≡ false → IsSameFor s after k
-  move_same k named tree unmarked = by_name (bytes_eq id.name hierarchy) tree unmarked
+  pub move_same : (named : Option (List ℕ)) → MovesTree s id named new → is_among k (if bytes_eq id.name hierarchy then move_marks s after id.ns else []) ≡ false → IsSameFor s after k
+  move_same named tree unmarked = by_name (bytes_eq id.name hierarchy) tree unmarked
     where
       by_name : (b : Bool) → forest_in s.config.excluded new ≡ (if b then option_map_or (λ home. with_parent id.ns (or_else (subnamespace_parent home) named) (forest_of s)) (home_in s.objects id) (forest_of s) else forest_of s)
           → is_among k (if b then move_marks s after id.ns else []) ≡ false → IsSameFor s after k
       by_name true tree unmarked =
-          by_home k named (object_at s.objects (namespace_id id.ns)) refl
+          by_home named (object_at s.objects (namespace_id id.ns)) refl
           (tree ∙ ap (λ o. option_map_or (λ home. with_parent id.ns (or_else (subnamespace_parent home) named) (forest_of s)) o (forest_of s)) (home_of_hierarchy s.objects id is)) unmarked
-      by_name false tree unmarked = stays k tree
+      by_name false tree unmarked = stays tree
 
 pub put_moves : (s : State) → IsValid s → (x : Object) → is_hierarchy x.id.kind ≡ true → MovesTree s x.id (named_parent x) (put x s.objects)
 put_moves s valid x is = forest-put_moves s.config.excluded s.objects x.id is valid.in_order (all_served s.last s.objects valid.stored) x (named_parent x) refl refl
@@ -110,9 +133,17 @@ cut_moves s valid id is = forest-cut_moves s.config.excluded s.objects id is val
 
 -- a key that isn't marked wants the same on the same guards
 pub move_law : (s : State) (write : Write) → IsValid s → MayWriteAll s (write ∷ []) → is_hierarchy (id_written write).kind ≡ true → (k : Key) → is_among k (marks_of s write) ≡ false → IsSameFor s (state_after s (write ∷ [])) k
-move_law s (Put x) valid may is k unmarked =
-    move_same s valid x.id is (put x s.objects) (s.last + 1) (put_keeps x x.id s.objects refl) k (named_parent x) (put_moves s valid x is)
-    (sym (ap (is_among k) (hierarchy_marks s (state_after s (Put x ∷ [])) x.id (object_at s.objects x.id) (Some x) is)) ∙ unmarked)
-move_law s (Cut id) valid may is k unmarked =
-    move_same s valid id is (cut id s.objects) (s.last + 1) (cut_keeps id s.objects) k None (cut_moves s valid id is)
-    (sym (ap (is_among k) (hierarchy_marks s (state_after s (Cut id ∷ [])) id (object_at s.objects id) None is)) ∙ unmarked)
+move_law s write valid may is k unmarked = by write is (sym (among_append k moves leaving) ∙ sym (ap (is_among k) (hierarchy_marks s (state_after s (write ∷ [])) (id_written write) (object_at s.objects (id_written write)) (object_written write) is)) ∙ unmarked)
+  where
+    moves : List Key
+    moves = if bytes_eq (id_written write).name hierarchy then move_marks s (state_after s (write ∷ [])) (id_written write).ns else []
+
+    leaving : List Key
+    leaving = leaving_keys (forest_of s) (id_written write).ns
+
+    by : (w : Write) → is_hierarchy (id_written w).kind ≡ true
+        → (is_among k (if bytes_eq (id_written w).name hierarchy then move_marks s (state_after s (w ∷ [])) (id_written w).ns else []) || is_among k (leaving_keys (forest_of s) (id_written w).ns)) ≡ false → IsSameFor s (state_after s (w ∷ [])) k
+    by (Put x) is none =
+        move_same s valid x.id is (put x s.objects) (s.last + 1) (put_keeps x x.id s.objects refl) (put_least x s.objects) k (out_right _ _ none) (named_parent x) (put_moves s valid x is) (out_left _ (is_among k (leaving_keys (forest_of s) x.id.ns)) none)
+    by (Cut id) is none =
+        move_same s valid id is (cut id s.objects) (s.last + 1) (cut_keeps id s.objects) (cut_least id s.objects) k (out_right _ _ none) None (cut_moves s valid id is) (out_left _ (is_among k (leaving_keys (forest_of s) id.ns)) none)

@@ -2,17 +2,19 @@
 --     marked_below, marked_place      a namespace below the object's that takes part is marked where it is sent, and its own always is
 --     marks_by_object                 what such a write marks
 --     object_law                      a key that isn't marked wants the same before and after the write
+--     leaving_within                  the removal of its namespace is one that it may make wait
 --     within_objects                  a key that is marked is one that the write may make wait
-use Rattle.std.proofs.Common.{◌≡◌, ℕ, ◌==◌, Bool, true, false, cond, not, ◌&&◌, ◌||◌, Option, Some, None, List, [], ◌∷◌, refl, sym, ap, ◌∙◌, inl, inr, true≢false, eq-eqb}
+use Rattle.std.proofs.Common.{◌≡◌, ℕ, ◌==◌, Bool, true, false, cond, not, ◌&&◌, ◌||◌, Option, Some, None, List, [], ◌∷◌, refl, sym, ap, ◌∙◌, inl, inr, true≢false, eq-eqb, ◌++◌}
 use Rattle.std.specs.Option.{option_map_or}
 use Rattle.std.specs.Str.{bytes_eq}
-use Rattle.std.proofs.lemmas.Bool.{and_parts, and_from, or_parts, cases_Bool, not_from_false, false_from_ne_true}
-use Rattle.hx_object.specs.Kinds.{can_be_copied, is_namespace, is_hierarchy, is_plain, number_of}
+use Rattle.std.proofs.lemmas.Bool.{and_parts, and_from, or_parts, cases_Bool, not_from_false, false_from_ne_true, or_cases, or_left}
+use Rattle.hx_object.specs.Kinds.{can_be_copied, is_namespace, is_hierarchy, is_plain, number_of, is_anchor}
 use Rattle.hx_object.specs.declared.kind.Kind.{Kind}
 use Rattle.hx_object.specs.declared.kind.Kind.TheVariants as of
 use Rattle.hx_object.specs.declared.object.Id.{Id}
 use Rattle.hx_object.specs.declared.object.Mode.{Mode}
 use Rattle.hx_object.specs.declared.object.Object.{Object}
+use Rattle.hx_model.specs.Cases.{is_leaving}
 use Rattle.hx_model.specs.Covered.{IsSameFor}
 use Rattle.hx_model.specs.First.{so}
 use Rattle.hx_model.specs.Forest.{is_in, chain_of, in_chain, tail_of}
@@ -32,12 +34,13 @@ use Rattle.hx_model.specs.declared.key.Write.{Write}
 use Rattle.hx_model.proofs.Climbing.{same_itself}
 use Rattle.hx_model.proofs.Conflicting.{tail_chain}
 use Rattle.hx_model.proofs.Objects.{is_same_id}
-use Rattle.hx_marks.specs.Law.{is_ignored, is_sent, open_below, is_any_sent, place_marks, mode_marks, object_marks, is_modes, object_written, marks_of}
-use Rattle.hx_marks.proofs.Among.{same_key_is, same_key_itself, among_map, among_here, among_cond, passing_name, found_name}
+use Rattle.hx_marks.specs.Law.{is_ignored, is_sent, open_below, is_any_sent, place_marks, object_marks, is_modes, object_written, marks_of, anchor_marks, leaving_keys}
+use Rattle.hx_marks.proofs.Among.{same_key_is, same_key_itself, among_map, among_here, among_cond, passing_name, found_name, among_append, out_left, out_right}
 use Rattle.hx_marks.proofs.OpenBelow.{open_is_there, in_own_chain, in_open_below, open_below_has}
-use Rattle.hx_marks.proofs.Frames.{none_in_both, ignored_wants, uncopied_wants, same_tree, same_closed, same_copied}
+use Rattle.hx_marks.proofs.Frames.{none_in_both, ignored_wants, uncopied_wants, same_tree, same_closed, same_copied, removal_beside}
 use Rattle.hx_marks.proofs.Going.{unsent_stays, going, top_along}
-use Rattle.hx_marks.proofs.Leaving.{Leaves, leaves, namespaces_stay, marks_are}
+use Rattle.hx_marks.proofs.Leaving.{Leaves, leaves, namespaces_stay, marks_by_kept, child_stays, anchored_stays, leaving_stay}
+use Rattle.hx_marks.proofs.Within.{leaving_key}
 
 -- ---- what is marked
 
@@ -77,7 +80,7 @@ unsent_going mode labels (Some x) out = ap (λ b. so b x) (unsent_stays mode x l
 
 -- ---- the law
 
-module _ (s t : State) (id : Id) (new : Option Object) (left : Leaves s t id new) (namespace : is_namespace id.kind ≡ false) (modes : is_modes id ≡ false) where
+module _ (s t : State) (id : Id) (new : Option Object) (left : Leaves s t id new) (namespace : is_namespace id.kind ≡ false) (modes : is_modes id ≡ false) (other : is_anchor id.kind ≡ false) where
   found : (m : List ℕ) → object_at t.objects (namespace_id m) ≡ object_at s.objects (namespace_id m)
   found = namespaces_stay s t id left.others namespace
 
@@ -124,20 +127,30 @@ module _ (s t : State) (id : Id) (new : Option Object) (left : Leaves s t id new
     ]
   ]
 
-  key_law : (k : Key) → is_among k (object_marks s id (object_at s.objects id) new) ≡ false → IsSameFor s t k
-  key_law (key.Copy n kind name) out = copy_law n kind name out
-  key_law (key.Tree n) out = same_tree s t left.tree found n
-  key_law k out = none_in_both s t k refl refl
+  key_law : (k : Key) → is_among k (object_marks s id (object_at s.objects id) new) ≡ false → is_among k (leaving_keys (forest_of s) id.ns) ≡ false → IsSameFor s t k
+  key_law (key.Copy n kind name) out stays = copy_law n kind name out
+  key_law (key.Tree n) out stays = same_tree s t left.tree found n
+  key_law (key.Report n) out stays = none_in_both s t (key.Report n) refl refl
+  key_law (key.Child n m) out stays = child_stays s t id new left namespace other n m
+  key_law (key.Anchor n m) out stays = anchored_stays s t id new left namespace other n m
+  key_law (key.Used n name) out stays = none_in_both s t (key.Used n name) refl refl
+  key_law (key.Purge n) out stays = removal_beside s t id namespace left.others left.least (leaving_stay s t id new left) n stays
 
-pub marks_by_object : (s : State) (write : Write) → is_namespace (id_written write).kind ≡ false → is_hierarchy (id_written write).kind ≡ false → is_modes (id_written write) ≡ false → marks_of s write ≡ object_marks s (id_written write) (object_at s.objects (id_written write)) (object_written write)
-marks_by_object s write namespace hierarchical modes = marks_are s write namespace hierarchical ∙ ap (λ b. cond b (mode_marks s (object_at s.objects (id_written write)) (object_written write)) (object_marks s (id_written write) (object_at s.objects (id_written write)) (object_written write))) modes
+pub marks_by_object : (s : State) (write : Write) → is_namespace (id_written write).kind ≡ false → is_hierarchy (id_written write).kind ≡ false → is_modes (id_written write) ≡ false → is_anchor (id_written write).kind ≡ false
+    → marks_of s write ≡ object_marks s (id_written write) (object_at s.objects (id_written write)) (object_written write) ++ leaving_keys (forest_of s) (id_written write).ns
+marks_by_object s write namespace hierarchical modes other =
+    let marks = object_marks s (id_written write) (object_at s.objects (id_written write)) (object_written write) in
+    marks_by_kept s write namespace hierarchical modes ∙ ap (λ b. cond b (anchor_marks (id_written write)) marks ++ leaving_keys (forest_of s) (id_written write).ns) other
 
 -- a key that isn't marked wants the same before and after the write
-pub object_law : (s : State) (write : Write) → IsValid s → MayWriteAll s (write ∷ []) → is_namespace (id_written write).kind ≡ false → is_hierarchy (id_written write).kind ≡ false → is_modes (id_written write) ≡ false
+pub object_law : (s : State) (write : Write) → IsValid s → MayWriteAll s (write ∷ []) → is_namespace (id_written write).kind ≡ false → is_hierarchy (id_written write).kind ≡ false → is_modes (id_written write) ≡ false → is_anchor (id_written write).kind ≡ false
     → (k : Key) → is_among k (marks_of s write) ≡ false → IsSameFor s (state_after s (write ∷ [])) k
-object_law s write valid may namespace hierarchical modes k out =
-    key_law s (state_after s (write ∷ [])) (id_written write) (object_written write) (leaves s write namespace hierarchical) namespace modes k
-    (ap (is_among k) (sym (marks_by_object s write namespace hierarchical modes)) ∙ out)
+object_law s write valid may namespace hierarchical modes other k out =
+    let marks = object_marks s (id_written write) (object_at s.objects (id_written write)) (object_written write) in
+    let keys = leaving_keys (forest_of s) (id_written write).ns in
+    let none : (is_among k marks || is_among k keys) ≡ false = sym (among_append k marks keys) ∙ ap (is_among k) (sym (marks_by_object s write namespace hierarchical modes other)) ∙ out in
+    key_law s (state_after s (write ∷ [])) (id_written write) (object_written write) (leaves s write namespace hierarchical) namespace modes other k
+    (out_left (is_among k marks) (is_among k keys) none) (out_right (is_among k marks) (is_among k keys) none)
 
 -- ---- and nothing else is marked
 
@@ -173,9 +186,32 @@ object_within s id old new k h =
     let parts = and_parts acts (is_among k (place_marks (forest_of s) sent id)) (sym (among_cond k acts (place_marks (forest_of s) sent id)) ∙ h) in
     (copied_plain id.kind (and_parts (can_be_copied id.kind) _ parts.0).0, place_touched s id k sent parts.1)
 
+-- the removal of the namespace that an object lies in, where it is on its way out
+pub leaving_within : (s : State) (id : Id) (k : Key) → is_among k (leaving_keys (forest_of s) id.ns) ≡ true → (is_key s k ≡ true) × (touches s id k ≡ true)
+leaving_within s id k h = (
+  leaving_key s id.ns k h,
+  elim (or_cases (same_key k (key.Purge id.ns)) false (and_parts (is_leaving (forest_of s) id.ns) _ (sym (among_cond k (is_leaving (forest_of s) id.ns) (key.Purge id.ns ∷ [])) ∙ h)).1) [
+    | inl same ↦ ap (touches s id) (same_key_is k (key.Purge id.ns) same) ∙ same_itself id.ns
+    | inr never ↦ absurd (true≢false (sym never))
+  ],
+)
+
 -- a key that is marked is one that the write may make wait
-pub within_objects : (s : State) (write : Write) → IsValid s → MayWriteAll s (write ∷ []) → is_namespace (id_written write).kind ≡ false → is_hierarchy (id_written write).kind ≡ false → is_modes (id_written write) ≡ false
+pub within_objects : (s : State) (write : Write) → IsValid s → MayWriteAll s (write ∷ []) → is_namespace (id_written write).kind ≡ false → is_hierarchy (id_written write).kind ≡ false → is_modes (id_written write) ≡ false → is_anchor (id_written write).kind ≡ false
     → (k : Key) → is_among k (marks_of s write) ≡ true → may_mark s (write ∷ []) k ≡ true
-within_objects s write valid may namespace hierarchical modes k h =
-    let within = object_within s (id_written write) (object_at s.objects (id_written write)) (object_written write) k (ap (is_among k) (sym (marks_by_object s write namespace hierarchical modes)) ∙ h) in
-    ap (λ b. cond b (touches s (id_written write) k) (is_key s k || is_key (state_after s (write ∷ [])) k)) within.0 ∙ within.1
+within_objects s write valid may namespace hierarchical modes other k h =
+    let id = id_written write in
+    let marks = object_marks s id (object_at s.objects id) (object_written write) in
+    let keys = leaving_keys (forest_of s) id.ns in
+    elim (or_cases (is_among k marks) (is_among k keys) (sym (among_append k marks keys) ∙ ap (is_among k) (sym (marks_by_object s write namespace hierarchical modes other)) ∙ h)) [
+      | inl object ↦
+          let within = object_within s id (object_at s.objects id) (object_written write) k object in
+          ap (λ b. cond b (touches s id k) (is_key s k || is_key (state_after s (write ∷ [])) k)) within.0 ∙ within.1
+      | inr leaves ↦
+          let within = leaving_within s id k leaves in
+          by (is_plain id.kind) within.1 (or_left (is_key s k) (is_key (state_after s (write ∷ [])) k) within.0)
+    ]
+  where
+    by : (plain : Bool) {a b : Bool} → a ≡ true → b ≡ true → cond plain a b ≡ true
+    by true one other = one
+    by false one other = other

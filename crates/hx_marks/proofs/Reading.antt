@@ -11,7 +11,7 @@ use Rattle.hx_object.specs.declared.object.Id.{Id}
 use Rattle.hx_object.specs.declared.object.Object.{Object}
 use Rattle.hx_model.specs.Cases.{same_name}
 use Rattle.hx_model.specs.Forest.{Forest, is_there, parent_of, with_parent}
-use Rattle.hx_model.specs.Limits.{is_namespace, is_hierarchy}
+use Rattle.hx_model.specs.Limits.{is_namespace, is_hierarchy, is_anchor}
 use Rattle.hx_model.specs.Serving.{IsServed}
 use Rattle.hx_model.specs.State.{State, Objects, home_in, namespace_id, object_at, put, same_id, state_after}
 use Rattle.hx_model.specs.Tree.{hierarchy, hierarchy_id, forest_of, node_in, parent_with}
@@ -27,8 +27,8 @@ use Rattle.hx_model.proofs.Objects.{is_same_id, object_at-put, object_at-put_its
 use Rattle.hx_model.proofs.Planting.{namespace_is_homed, node_of-objects, there-objects, home_of_hierarchy, forest-put_moves, forest-cut_moves}
 use Rattle.hx_model.proofs.Storing.{All-put}
 use Rattle.hx_model.proofs.Walking.{no_parent}
-use Rattle.hx_marks.specs.Before.{hierarchy_marks, marks_before, move_marks_to, namespace_marks_by, opens_under}
-use Rattle.hx_marks.specs.Law.{created_marks, is_modes, mode_marks, marks_of, move_marks, moved_by, namespace_marks, object_marks, object_written}
+use Rattle.hx_marks.specs.Before.{hierarchy_marks, inner_marks_by, marks_before, move_marks_to, namespace_marks_by, opens_under}
+use Rattle.hx_marks.specs.Law.{anchor_marks, created_marks, inner_marks, is_modes, leaving_keys, mode_marks, marks_of, move_marks, moved_by, namespace_marks, object_marks, object_written}
 use Rattle.hx_marks.proofs.TakingPart.{opens_after}
 
 all_served : (last : ℕ) (objects : Objects) → AllByRecursion (IsStored last) objects → AllByRecursion IsServed objects
@@ -85,11 +85,12 @@ module _ (s : State) (valid : IsValid s) where
       ∙ ap (λ o. option_and_then (λ (node : Node). node.parent) (option_map (node_in s.config.excluded (put x s.objects)) o)) found
       ∙ ap (λ o. parent_with o x) (object_at-put x s.objects (hierarchy_id x.id.name) ∙ ap (λ b. cond b (Some x) (object_at s.objects (hierarchy_id x.id.name))) other)
 
-  namespace_read : (write : Write) (old : Option Object) → MayWrite s write → is_namespace (id_written write).kind ≡ true
-      → namespace_marks s (state_after s (write ∷ [])) (id_written write).name old ≡ namespace_marks_by s (id_written write).name old (object_written write)
-  namespace_read (Put x) (Some old) may is = refl
-  namespace_read (Put x) None may is = ap (created_marks s x.id.name) (made x may.served is)
-  namespace_read (Cut id) old may is = absurd (true≢false (sym is ∙ may.leaf))
+  namespace_read : (write : Write) (old : Option Object) → object_at s.objects (id_written write) ≡ old → MayWrite s write → is_namespace (id_written write).kind ≡ true
+      → namespace_marks s (state_after s (write ∷ [])) (id_written write).name old (object_written write) ≡ namespace_marks_by s (id_written write).name old (object_written write)
+  namespace_read (Put x) (Some old) at may is = refl
+  namespace_read (Put x) None at may is = ap (created_marks s x.id.name) (made x may.served is)
+  namespace_read (Cut id) (Some old) at may is = refl
+  namespace_read (Cut id) None at may is = absurd (true≢false (ap is_some (sym may.there.1 ∙ at)))
 
   -- ---- writes
 
@@ -102,22 +103,28 @@ module _ (s : State) (valid : IsValid s) where
   old_at write = object_at s.objects (id_written write)
 
   abbrev others : Write → List Key
-  others write = if is_modes (id_written write) then mode_marks s (old_at write) (object_written write) else object_marks s (id_written write) (old_at write) (object_written write)
+  others write = if is_anchor (id_written write).kind then anchor_marks (id_written write) else object_marks s (id_written write) (old_at write) (object_written write)
 
-  abbrev moves : Write → List Key
-  moves write = if bytes_eq (id_written write).name hierarchy then move_marks s (state_after s (write ∷ [])) (id_written write).ns else []
+  inner_read : (write : Write) → inner_marks s (state_after s (write ∷ [])) (id_written write) (old_at write) (object_written write) ≡ inner_marks_by s (id_written write) (old_at write) (object_written write)
+  inner_read write =
+      elim (is_hierarchy (id_written write).kind) as (λ b. is_hierarchy (id_written write).kind ≡ b
+      → (if b then (if bytes_eq (id_written write).name hierarchy then move_marks s (state_after s (write ∷ [])) (id_written write).ns else []) else others write)
+      ≡ (if b then hierarchy_marks s (id_written write) (object_written write) else others write)) [
+        | true ↦ λ is. moved_read write is
+        | false ↦ λ _. refl
+      ] refl
+
+  -- the marks of an object that is no namespace, by those of what lies in one
+  abbrev leaf_marks : Write → List Key → List Key
+  leaf_marks write inner = if is_modes (id_written write) then mode_marks s (old_at write) (object_written write) else (inner ++ leaving_keys (forest_of s) (id_written write).ns)
 
   pub marks_read : (write : Write) → MayWrite s write → marks_of s write ≡ marks_before s write
   marks_read write may =
       elim (is_namespace (id_written write).kind) as (λ b. is_namespace (id_written write).kind ≡ b
-      → (if b then namespace_marks s (state_after s (write ∷ [])) (id_written write).name (old_at write) else (if is_hierarchy (id_written write).kind then moves write else others write))
-      ≡ (if b then namespace_marks_by s (id_written write).name (old_at write) (object_written write) else (if is_hierarchy (id_written write).kind then hierarchy_marks s (id_written write) (object_written write) else others write))) [
-        | true ↦ λ is. namespace_read write (old_at write) may is
-        | false ↦ λ _. elim (is_hierarchy (id_written write).kind) as (λ b. is_hierarchy (id_written write).kind ≡ b
-            → (if b then moves write else others write) ≡ (if b then hierarchy_marks s (id_written write) (object_written write) else others write)) [
-              | true ↦ λ is. moved_read write is
-              | false ↦ λ _. refl
-            ] refl
+      → (if b then namespace_marks s (state_after s (write ∷ [])) (id_written write).name (old_at write) (object_written write) else leaf_marks write (inner_marks s (state_after s (write ∷ [])) (id_written write) (old_at write) (object_written write)))
+      ≡ (if b then namespace_marks_by s (id_written write).name (old_at write) (object_written write) else leaf_marks write (inner_marks_by s (id_written write) (old_at write) (object_written write)))) [
+        | true ↦ λ is. namespace_read write (old_at write) refl may is
+        | false ↦ λ _. ap (leaf_marks write) (inner_read write)
       ] refl
 
   pub all_read : (writes : List Write) → AllByRecursion (MayWrite s) writes → flat_map (marks_of s) writes ≡ flat_map (marks_before s) writes

@@ -1,37 +1,42 @@
 -- A namespace is replaced, and keeps its annotation and its phase: what stays.
 --     valid_served             the objects of a valid state are served
---     never_leaves             no payload that is given is on its way out
+--     same_phase               a namespace that doesn't begin to leave keeps its phase
+--     leaving_is, live_is      a namespace that is found is on its way out, or isn't, as its payload tells
+--     leaving_found            one that is on its way out is found
 --     sources_same, uncopied   what a place rests on, where the sources of a chain stay;  a kind that can't be copied wants nothing
 --     replaced_forest          the forest stays
 --     replaced_other           so does each object but the namespace
 --     copy_by, tree_by         what its keys and others want afterwards, by the namespace that is found
-use Rattle.std.proofs.Common.{◌≡◌, ℕ, true, false, cond, Option, Some, None, List, [], ◌∷◌, ◌++◌, refl, sym, ap, ◌∙◌, subst, true≢false}
+use Rattle.std.proofs.Common.{◌≡◌, ℕ, Bool, true, false, cond, not, ◌&&◌, Option, Some, None, List, [], ◌∷◌, ◌++◌, refl, sym, ap, ◌∙◌, subst, true≢false, option_map}
+use Rattle.std.specs.Option.{option_map_or}
 use Rattle.std.specs.Prelude.{is_some, option_and_then}
 use Rattle.std.specs.List.{AllByRecursion}
 use Rattle.std.specs.Str.{bytes_eq}
-use Rattle.std.proofs.lemmas.Bool.{or_left, or_right, false_from_ne_true, not-true}
+use Rattle.std.proofs.lemmas.Bool.{or_left, or_right, false_from_ne_true}
 use Rattle.hx_object.specs.Kinds.{can_be_copied, is_namespace}
 use Rattle.hx_object.specs.declared.kind.Kind.{Kind}
 use Rattle.hx_object.specs.declared.kind.Kind.TheVariants as of
 use Rattle.hx_object.specs.declared.object.Id.{Id}
 use Rattle.hx_object.specs.declared.object.Object.{Object}
-use Rattle.hx_object.specs.declared.object.Payload.{Payload}
-use Rattle.hx_object.specs.declared.object.Payload.TheVariants as payload
+use Rattle.hx_model.specs.Cases.{is_leaving}
 use Rattle.hx_model.specs.First.{so}
-use Rattle.hx_model.specs.Forest.{is_in, chain_of, tail_of}
+use Rattle.hx_model.specs.Forest.{is_in, chain_of, tail_of, node_of, is_live}
 use Rattle.hx_model.specs.Modes.{config_id, mode_in, mode_of}
 use Rattle.hx_model.specs.Propagation.{is_source, id_in, as_list, sources_along, sources_above}
-use Rattle.hx_model.specs.Serving.{IsServed, is_given}
+use Rattle.hx_model.specs.Serving.{IsServed}
 use Rattle.hx_model.specs.State.{State, Objects, object_at, put, same_id, namespace_id, state_after}
-use Rattle.hx_model.specs.Tree.{subnamespace_parent, is_terminating, forest_in, forest_of}
+use Rattle.hx_model.specs.Tree.{subnamespace_parent, is_terminating, forest_in, forest_of, node_in}
 use Rattle.hx_model.specs.TreeLabels.{is_open}
 use Rattle.hx_model.specs.Valid.{IsValid, IsStored}
 use Rattle.hx_model.specs.Wanted.{copy_write, wanted_copy, tree_write, wanted_tree}
+use Rattle.hx_model.specs.Writes.{KeepsItsPlace}
 use Rattle.hx_model.specs.declared.key.Write.{Write}
 use Rattle.hx_model.specs.declared.key.Write.TheVariants.{Put}
+use Rattle.hx_model.specs.declared.node.Node.{Node}
 use Rattle.hx_model.proofs.Climbing.{same_itself}
 use Rattle.hx_model.proofs.Objects.{is_same_id, object_at-put}
-use Rattle.hx_model.proofs.Planting.{forest-put_again}
+use Rattle.hx_model.proofs.Planting.{forest-put_again, node_of-objects}
+use Rattle.hx_marks.specs.Law.{begins_to_end}
 use Rattle.hx_marks.proofs.Wanting.{wants_copied}
 
 -- ---- valid states
@@ -43,14 +48,34 @@ all_served last (x ∷ objects) all = (all.0.served, all_served last objects all
 pub valid_served : (s : State) → IsValid s → AllByRecursion IsServed s.objects
 valid_served s valid = all_served s.last s.objects valid.stored
 
--- a payload that requests give isn't on its way out
-pub never_leaves : (p : Payload) → is_given p ≡ true → is_terminating p ≡ false
-never_leaves (payload.Namespace terminating) given = not-true terminating given
-never_leaves (payload.Config entries) given = refl
-never_leaves (payload.Hierarchy parent cascade children conditions) given = refl
-never_leaves (payload.Anchor status) given = refl
-never_leaves (payload.Quota hard status) given = refl
-never_leaves (payload.Plain members need) given = refl
+-- a namespace that doesn't begin to leave stays, or stays on its way out
+pub same_phase : (old x : Object) → KeepsItsPlace old x → begins_to_end old x ≡ false → is_terminating x.payload ≡ is_terminating old.payload
+same_phase old x keeps stays = by (is_terminating old.payload) (is_terminating x.payload) keeps.phase stays
+  where
+    by : (before after : Bool) → (before ≡ true → after ≡ true) → (after && not before) ≡ false → after ≡ before
+    by true after phase out = phase refl
+    by false true phase out = absurd (true≢false out)
+    by false false phase out = refl
+
+-- ---- who is on its way out
+
+-- by the namespace that is found
+module _ (s : State) (valid : IsValid s) (n : List ℕ) where
+  nodes : node_of (forest_of s) n ≡ option_map (node_in s.config.excluded s.objects) (object_at s.objects (namespace_id n))
+  nodes = node_of-objects s.config.excluded s.objects n (valid_served s valid)
+
+  pub leaving_is : (x : Object) → object_at s.objects (namespace_id n) ≡ Some x → is_leaving (forest_of s) n ≡ is_terminating x.payload
+  leaving_is x at = ap (λ o. option_map_or (λ (node : Node). node.terminating) o false) (nodes ∙ ap (option_map (node_in s.config.excluded s.objects)) at)
+
+  pub live_is : (x : Object) → object_at s.objects (namespace_id n) ≡ Some x → is_live (forest_of s) n ≡ not (is_terminating x.payload)
+  live_is x at = ap (λ o. option_map_or (λ (node : Node). not node.terminating) o false) (nodes ∙ ap (option_map (node_in s.config.excluded s.objects)) at)
+
+  pub leaving_found : is_leaving (forest_of s) n ≡ true → (x : Object) × (object_at s.objects (namespace_id n) ≡ Some x) × (is_terminating x.payload ≡ true)
+  leaving_found leaves = by (object_at s.objects (namespace_id n)) refl
+    where
+      by : (o : Option Object) → object_at s.objects (namespace_id n) ≡ o → (x : Object) × (object_at s.objects (namespace_id n) ≡ Some x) × (is_terminating x.payload ≡ true)
+      by None absent = absurd (true≢false (sym leaves ∙ ap (λ o. option_map_or (λ (node : Node). node.terminating) o false) (nodes ∙ ap (option_map (node_in s.config.excluded s.objects)) absent)))
+      by (Some x) at = (x, at, sym (leaving_is x at) ∙ leaves)
 
 -- ---- what a place rests on
 

@@ -1,4 +1,4 @@
--- A state is settled exactly if no key wants a write.
+-- A valid state is settled exactly if no key wants a write.
 --     same_object-Decides           the test of two objects tells whether they are equal
 --     placed_stands, stands_placed  nothing is put where the object stands;  and only there
 --     settled_exactly, nothing_wanted
@@ -12,20 +12,27 @@ use Rattle.hx_object.specs.declared.object.Mode.TheVariants.{Propagate, AllowPro
 use Rattle.hx_object.specs.declared.object.Object.{Object}
 use Rattle.hx_object.proofs.Sameness.{same_object_from}
 use Rattle.hx_model.specs.Answers.{same_object}
+use Rattle.hx_model.specs.Cases.{is_leaving}
 use Rattle.hx_model.specs.First.{so}
-use Rattle.hx_model.specs.Forest.{chain_of}
+use Rattle.hx_model.specs.Forest.{chain_of, is_in, is_live}
 use Rattle.hx_model.specs.Limits.{is_copy}
 use Rattle.hx_model.specs.Modes.{mode_of}
 use Rattle.hx_model.specs.Propagation.{copy_of, id_in, sources_above, top_source}
 use Rattle.hx_model.specs.Settled.{HasNoCopy, HasCopyOf, IsKeptIn, IsSettled}
-use Rattle.hx_model.specs.State.{State, object_at, namespace_id, with_version}
-use Rattle.hx_model.specs.Tree.{forest_of}
+use Rattle.hx_model.specs.State.{State, object_at, namespace_id, with_version, has_home}
+use Rattle.hx_model.specs.Subnamespaces.{anchor_id}
+use Rattle.hx_model.specs.Tree.{forest_of, is_terminating}
 use Rattle.hx_model.specs.TreeLabels.{is_open}
-use Rattle.hx_model.specs.Wanted.{placed, without_copy, copied, copied_in, copy_write, wanted_copy, labelled, tree_write, wanted_tree, wanted_write}
+use Rattle.hx_model.specs.Valid.{IsValid}
+use Rattle.hx_model.specs.Wanted.{placed, without_copy, copied, copied_in, copy_write, wanted_copy, labelled, tree_write, wanted_tree, wanted_write, child_write, wanted_child, subnamespace, with_status_of, anchor_status, anchor_write, wanted_anchor, next_to_go, least_id, purge_write, wanted_purge}
 use Rattle.hx_model.specs.declared.key.Key.{Key}
 use Rattle.hx_model.specs.declared.key.Key.TheVariants as key
 use Rattle.hx_model.specs.declared.key.Write.{Write}
 use Rattle.hx_model.specs.declared.key.Write.TheVariants.{Put, Cut}
+use Rattle.hx_model.proofs.Objects.{found_id}
+use Rattle.hx_model.proofs.Storing.{All-found}
+use Rattle.hx_marks.proofs.Frames.{unanchored_child, unanchored_status, staying_removal}
+use Rattle.hx_marks.proofs.Replacing.{leaving_is, live_is, leaving_found}
 use Rattle.hx_marks.proofs.Wanting.{wants_copied}
 
 pub same_object-Decides : (a b : Object) → Decides (same_object a b) (a ≡ b)
@@ -95,19 +102,57 @@ copy_wanted s n x kind name at acts i = copy_write (acts i) (at i) (mode_of s ki
 tree_wanted : (s : State) (n : List ℕ) (x : Object) → object_at s.objects (namespace_id n) ≡ Some x → is_open (forest_of s) n ≡ true → wanted_tree s n ≡ placed (labelled (chain_of (forest_of s) n) x) (Some x)
 tree_wanted s n x at acts i = tree_write (acts i) (chain_of (forest_of s) n) (at i)
 
+-- a namespace that stays wants no removal, and only such a one
+stays_from : (s : State) → IsValid s → (n : List ℕ) (x : Object) → wanted_write s (key.Purge n) ≡ None → object_at s.objects (namespace_id n) ≡ Some x → is_terminating x.payload ≡ false
+stays_from s valid n x none at = by (is_terminating x.payload) (leaving_is s valid n x at)
+  where
+    by : (leaves : Bool) → is_leaving (forest_of s) n ≡ leaves → leaves ≡ false
+    by false is = refl
+    by true is = absurd (none_some (Cut (next_to_go (least_id s n) n)) (sym (ap (λ b. purge_write b (least_id s n) n) is) ∙ none))
+
+-- the namespace of an anchor is there, and so it isn't on its way out
+anchor_live : (s : State) → IsValid s → ((n : List ℕ) (x : Object) → object_at s.objects (namespace_id n) ≡ Some x → is_terminating x.payload ≡ false) → (n m : List ℕ) (x : Object) → object_at s.objects (anchor_id n m) ≡ Some x → is_live (forest_of s) n ≡ true
+anchor_live s valid none_leaving n m x at = by (object_at s.objects (namespace_id n)) refl home
+  where
+    home : is_some (object_at s.objects (namespace_id n)) ≡ true
+    home = ap (has_home s.objects) (found_id s.objects (anchor_id n m) x at) ∙ All-found (λ (y : Object). has_home s.objects y.id ≡ true) (anchor_id n m) x s.objects valid.housed at
+
+    by : (o : Option Object) → object_at s.objects (namespace_id n) ≡ o → is_some o ≡ true → is_live (forest_of s) n ≡ true
+    by None absent there = absurd (true≢false (sym there))
+    by (Some y) found there = live_is s valid n y found ∙ ap not (none_leaving n y found)
+
+-- where no subnamespace is wanted, it is there
+child_from : (acts excluded taken : Bool) (anchor : Option Object) (n m : List ℕ) (x : Object) → anchor ≡ Some x → child_write acts (is_some anchor) excluded taken n m ≡ None → acts ≡ true → excluded ≡ false → taken ≡ true
+child_from acts excluded true anchor n m x at none opens included = refl
+child_from acts excluded false anchor n m x at none opens included =
+    absurd (none_some (Put (subnamespace n m)) ((λ i. child_write (sym opens i) (is_some (sym at i)) (sym included i) false n m) ∙ none))
+
 -- where no key wants a write, the state is settled
-pub settled_exactly : (s : State) → ((k : Key) → wanted_write s k ≡ None) → IsSettled s
-settled_exactly s none n x at acts = record {
-  labels =
-      let stands = placed_stands (labelled (chain_of (forest_of s) n) x) (Some x) (sym (tree_wanted s n x at acts) ∙ none (key.Tree n)) in
+pub settled_exactly : (s : State) → IsValid s → ((k : Key) → wanted_write s k ≡ None) → IsSettled s
+settled_exactly s valid none = record {
+  none_leaving = staying;
+  places = λ n x at acts. record {
+    labels =
+        let stands = placed_stands (labelled (chain_of (forest_of s) n) x) (Some x) (sym (tree_wanted s n x at acts) ∙ none (key.Tree n)) in
+        let same : x ≡ stands.0 = let e = stands.1 in cc in
+        ap (λ (o : Object). o.labels) same ∙ ap (λ (o : Object). o.labels) stands.2;
+    copies = λ kind name can. kept_from (mode_of s kind) (top_source s n kind name x.labels) n (object_at s.objects (id_in kind name n)) (sym (copy_wanted s n x kind name at acts) ∙ none (key.Copy n kind name));
+  };
+  children = λ n m x at. child_from (is_open (forest_of s) n) (is_in m s.config.excluded) (is_some (object_at s.objects (namespace_id m))) (object_at s.objects (anchor_id n m)) n m x at (none (key.Child n m));
+  statuses = λ n m x at.
+      let written : anchor_write (is_live (forest_of s) n) (anchor_status s n m) (object_at s.objects (anchor_id n m)) ≡ placed (with_status_of (anchor_status s n m) x) (Some x) =
+      (λ i. anchor_write (anchor_live s valid staying n m x at i) (anchor_status s n m) (at i)) in
+      let stands = placed_stands (with_status_of (anchor_status s n m) x) (Some x) (sym written ∙ none (key.Anchor n m)) in
       let same : x ≡ stands.0 = let e = stands.1 in cc in
-      ap (λ (o : Object). o.labels) same ∙ ap (λ (o : Object). o.labels) stands.2;
-  copies = λ kind name can. kept_from (mode_of s kind) (top_source s n kind name x.labels) n (object_at s.objects (id_in kind name n)) (sym (copy_wanted s n x kind name at acts) ∙ none (key.Copy n kind name));
+      ap (λ (o : Object). o.payload) same ∙ ap (λ (o : Object). o.payload) stands.2;
 }
+  where
+    staying : (n : List ℕ) (x : Object) → object_at s.objects (namespace_id n) ≡ Some x → is_terminating x.payload ≡ false
+    staying n x at = stays_from s valid n x (none (key.Purge n)) at
 
 -- in a settled state no key wants one
-pub nothing_wanted : (s : State) → IsSettled s → (k : Key) → wanted_write s k ≡ None
-nothing_wanted s settled (key.Copy n kind name) = by (is_open (forest_of s) n) (object_at s.objects (namespace_id n)) refl refl
+pub nothing_wanted : (s : State) → IsValid s → IsSettled s → (k : Key) → wanted_write s k ≡ None
+nothing_wanted s valid settled (key.Copy n kind name) = by (is_open (forest_of s) n) (object_at s.objects (namespace_id n)) refl refl
   where
     -- a kind that can't be copied wants nothing
     uncopied : (acts : Bool) (found : Option Object) → can_be_copied kind ≡ false → copy_write acts found (mode_of s kind) (sources_above s n kind name) n (object_at s.objects (id_in kind name n)) ≡ None
@@ -119,23 +164,45 @@ nothing_wanted s settled (key.Copy n kind name) = by (is_open (forest_of s) n) (
 
     kinds : (acts : Bool) (x : Object) (b : Bool) → can_be_copied kind ≡ b → is_open (forest_of s) n ≡ true → object_at s.objects (namespace_id n) ≡ Some x
         → copied_in (mode_of s kind) (top_source s n kind name x.labels) n (object_at s.objects (id_in kind name n)) ≡ None
-    kinds acts x true can is at = from_kept (mode_of s kind) (top_source s n kind name x.labels) n (object_at s.objects (id_in kind name n)) ((settled n x at is).copies kind name can)
+    kinds acts x true can is at = from_kept (mode_of s kind) (top_source s n kind name x.labels) n (object_at s.objects (id_in kind name n)) ((settled.places n x at is).copies kind name can)
     kinds acts x false out is at = uncopied true (Some x) out
 
     by : (acts : Bool) (found : Option Object) → is_open (forest_of s) n ≡ acts → object_at s.objects (namespace_id n) ≡ found → wanted_copy s n kind name ≡ None
     by acts None is at = ap (λ o. copy_write (is_open (forest_of s) n) o (mode_of s kind) (sources_above s n kind name) n (object_at s.objects (id_in kind name n))) at
     by true (Some x) is at = copy_wanted s n x kind name at is ∙ kinds true x (can_be_copied kind) refl is at
     by false (Some x) is at = λ i. copy_write (is i) (at i) (mode_of s kind) (sources_above s n kind name) n (object_at s.objects (id_in kind name n))
-nothing_wanted s settled (key.Tree n) = by (is_open (forest_of s) n) (object_at s.objects (namespace_id n)) refl refl
+nothing_wanted s valid settled (key.Tree n) = by (is_open (forest_of s) n) (object_at s.objects (namespace_id n)) refl refl
   where
     by : (acts : Bool) (found : Option Object) → is_open (forest_of s) n ≡ acts → object_at s.objects (namespace_id n) ≡ found → wanted_tree s n ≡ None
     by acts None is at = ap (tree_write (is_open (forest_of s) n) (chain_of (forest_of s) n)) at
     by true (Some x) is at =
-        let labels = (settled n x at is).labels in
+        let labels = (settled.places n x at is).labels in
         tree_wanted s n x at is ∙ stands_placed (labelled (chain_of (forest_of s) n) x) x (λ i. record x { labels = labels i; version = 0 })
     by false (Some x) is at = λ i. tree_write (is i) (chain_of (forest_of s) n) (at i)
-nothing_wanted s settled (key.Report n) = refl
-nothing_wanted s settled (key.Child n name) = refl
-nothing_wanted s settled (key.Anchor n name) = refl
-nothing_wanted s settled (key.Used n name) = refl
-nothing_wanted s settled (key.Purge n) = refl
+nothing_wanted s valid settled (key.Report n) = refl
+nothing_wanted s valid settled (key.Child n m) = by (object_at s.objects (anchor_id n m)) refl
+  where
+    held : (acts excluded taken : Bool) → (acts ≡ true → excluded ≡ false → taken ≡ true) → child_write acts true excluded taken n m ≡ None
+    held false excluded taken has = refl
+    held true true taken has = refl
+    held true false taken has = ap (λ b. child_write true true false b n m) (has refl refl)
+
+    by : (o : Option Object) → object_at s.objects (anchor_id n m) ≡ o → wanted_child s n m ≡ None
+    by None absent = unanchored_child s n m absent
+    by (Some x) at =
+        ap (λ o. child_write (is_open (forest_of s) n) (is_some o) (is_in m s.config.excluded) (is_some (object_at s.objects (namespace_id m))) n m) at
+        ∙ held (is_open (forest_of s) n) (is_in m s.config.excluded) (is_some (object_at s.objects (namespace_id m))) (settled.children n m x at)
+nothing_wanted s valid settled (key.Anchor n m) = by (is_live (forest_of s) n) (object_at s.objects (anchor_id n m)) refl refl
+  where
+    by : (live : Bool) (found : Option Object) → is_live (forest_of s) n ≡ live → object_at s.objects (anchor_id n m) ≡ found → wanted_anchor s n m ≡ None
+    by live None is at = unanchored_status s n m at
+    by false (Some x) is at = λ i. anchor_write (is i) (anchor_status s n m) (at i)
+    by true (Some x) is at =
+        (λ i. anchor_write (is i) (anchor_status s n m) (at i))
+        ∙ stands_placed (with_status_of (anchor_status s n m) x) x (λ i. record x { payload = settled.statuses n m x at i; version = 0 })
+nothing_wanted s valid settled (key.Used n name) = refl
+nothing_wanted s valid settled (key.Purge n) = by (is_leaving (forest_of s) n) refl
+  where
+    by : (leaves : Bool) → is_leaving (forest_of s) n ≡ leaves → wanted_purge s n ≡ None
+    by false is = staying_removal s n is
+    by true is = let found = leaving_found s valid n is in absurd (true≢false (sym found.2 ∙ settled.none_leaving n found.0 found.1))

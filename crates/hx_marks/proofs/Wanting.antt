@@ -2,38 +2,44 @@
 --     place_among, sent_among    the keys of a copy that lies in a namespace, and of what is sent from above, may want one
 --     wants_known                a place of copies that wants a write is among those that may
 --     wants_copied               and its kind can be copied
---     all_known                  so is each key that wants one, of a namespace that takes part
+--     child_among, status_among  the keys of an anchor that is there are among those of its namespace
+--     all_tree, all_wants, all_children, all_parts   the parts of all that a namespace may want that takes part
+--     all_known                  a key that wants a write is among those of its namespace
 use Rattle.std.proofs.Common.{◌≡◌, ◌≢◌, ℕ, Bool, true, false, cond, not, ◌&&◌, ◌||◌, Option, Some, None, List, [], ◌∷◌, ◌++◌, map, filter, flat_map, ◌⊎◌, inl, inr, refl, sym, ap, ◌∙◌, subst, true≢false, eqb, eq-eqb}
 use Rattle.std.specs.Prelude.{is_some, find, option_and_then, if◌then◌else◌}
 use Rattle.std.specs.List.{list_any}
 use Rattle.std.specs.Str.{bytes_eq}
-use Rattle.std.proofs.lemmas.Bool.{and_parts, and_from, or_left, or_right}
+use Rattle.std.proofs.lemmas.Bool.{and_parts, and_from, or_cases, or_left, or_right}
 use Rattle.std.proofs.lemmas.List.Folds.{list_any-append}
 use Rattle.std.proofs.lemmas.Slice.Eq.{bytes_eq-Decides}
 use Rattle.hx_object.specs.Kinds.{number_of, can_be_copied}
 use Rattle.hx_object.specs.declared.kind.Kind.{Kind}
+use Rattle.hx_object.specs.declared.kind.Kind.TheVariants.{SubnamespaceAnchor}
+use Rattle.hx_object.specs.declared.object.AnchorStatus.{AnchorStatus}
 use Rattle.hx_object.specs.declared.object.Id.{Id}
 use Rattle.hx_object.specs.declared.object.Mode.{Mode}
 use Rattle.hx_object.specs.declared.object.Mode.TheVariants.{Propagate, AllowPropagate, Remove, Ignore}
 use Rattle.hx_object.specs.declared.object.Object.{Object}
 use Rattle.hx_model.specs.Answers.{is_listed}
+use Rattle.hx_model.specs.Cases.{is_leaving}
 use Rattle.hx_model.specs.Exceptions.{is_allowed, passes, is_false, none_of, select_of, tree_select_in}
 use Rattle.hx_model.specs.First.{so}
-use Rattle.hx_model.specs.Forest.{tail_of, is_in, chain_of}
+use Rattle.hx_model.specs.Forest.{tail_of, is_in, is_live, chain_of}
 use Rattle.hx_model.specs.Keys.{same_key, is_among}
 use Rattle.hx_model.specs.Limits.{is_copy}
 use Rattle.hx_model.specs.Moves.{mode_at, copied_kinds}
 use Rattle.hx_model.specs.Propagation.{goes_to, is_source, stays_home, is_propagated, id_in, as_list, source_at, sources_along, top_of}
 use Rattle.hx_model.specs.State.{State, Objects, object_at, namespace_id}
+use Rattle.hx_model.specs.Subnamespaces.{anchor_id}
 use Rattle.hx_model.specs.Tree.{forest_of}
 use Rattle.hx_model.specs.TreeLabels.{is_open}
-use Rattle.hx_model.specs.Wanted.{copy_write, copied, copied_in, without_copy, tree_write, wanted_write}
+use Rattle.hx_model.specs.Wanted.{copy_write, copied, copied_in, without_copy, tree_write, child_write, anchor_status, anchor_write, least_id, purge_write, wanted_write}
 use Rattle.hx_model.specs.declared.key.Key.{Key}
 use Rattle.hx_model.specs.declared.key.Key.TheVariants as key
 use Rattle.hx_model.specs.declared.key.Write.TheVariants.{Cut}
 use Rattle.hx_model.proofs.Objects.{found_id}
-use Rattle.hx_marks.proofs.Among.{same_key_itself, among_here, among_map, among_flat_map, any_filter, passing_object, passing_name, passing_kind}
-use Rattle.hx_marks.specs.Law.{is_ignored, is_sent, listed_in, sent_from, key_for, wants_of_kind, wants_of, all_of}
+use Rattle.hx_marks.proofs.Among.{same_key_itself, among_here, among_append, among_map, among_flat_map, any_filter, passing_object, passing_name, passing_kind}
+use Rattle.hx_marks.specs.Law.{is_ignored, is_sent, listed_in, sent_from, key_for, wants_of_kind, wants_of, child_keys, status_keys, all_of}
 
 pub any_flat_map : {A B : Type 0} (t : B → Bool) (f : A → List B) (xs : List A) → list_any t (flat_map f xs) ≡ list_any (λ x. list_any t (f x)) xs
 any_flat_map t f [] = refl
@@ -191,21 +197,89 @@ module _ (objects : Objects) (chain : List (List ℕ)) (m : List ℕ) (kind : Ki
   wants_copied true (Some x) wants = (by_mode x.labels (mode_at objects kind) refl wants).0
   wants_copied false (Some x) wants = absurd (wants refl)
 
+-- ---- keys of anchors
+
+module _ (objects : Objects) (m name : List ℕ) (x : Object) (at : object_at objects (anchor_id m name) ≡ Some x) where
+  -- a key by the anchor's name
+  named_among : (of_name : List ℕ → Key) → list_any (λ (y : Object). same_key (of_name name) (of_name y.id.name)) (listed_in objects SubnamespaceAnchor m) ≡ true
+  named_among of_name =
+      listed_there (λ (y : Object). same_key (of_name name) (of_name y.id.name)) objects SubnamespaceAnchor m name x at
+      (subst (λ (q : Id). same_key (of_name name) (of_name q.name) ≡ true) (found_id objects (anchor_id m name) x at) (same_key_itself (of_name name)))
+
+  pub child_among : is_among (key.Child m name) (child_keys objects m) ≡ true
+  child_among = among_map (key.Child m name) (λ (y : Object). key.Child m y.id.name) (listed_in objects SubnamespaceAnchor m) ∙ named_among (key.Child m)
+
+  pub status_among : is_among (key.Anchor m name) (status_keys objects m) ≡ true
+  status_among = among_map (key.Anchor m name) (λ (y : Object). key.Anchor m y.id.name) (listed_in objects SubnamespaceAnchor m) ∙ named_among (key.Anchor m)
+
 -- ---- all keys
 
--- the same in a state, for each key: what wants a write is of a namespace that takes part, and among those that may
-pub all_known : (s : State) (k : Key) → wanted_write s k ≢ None → (m : List ℕ) × (is_open (forest_of s) m ≡ true) × (is_among k (all_of s.objects (chain_of (forest_of s) m) m) ≡ true)
+module _ (objects : Objects) (chain : List (List ℕ)) (m : List ℕ) where
+  pub all_tree : is_among (key.Tree m) (all_of objects chain m) ≡ true
+  all_tree = among_here (key.Tree m) (wants_of objects chain m ++ child_keys objects m)
+
+  module _ (k : Key) where
+    behind_tree : (is_among k (wants_of objects chain m) || is_among k (child_keys objects m)) ≡ true → is_among k (all_of objects chain m) ≡ true
+    behind_tree h = or_right (same_key k (key.Tree m)) _ (among_append k (wants_of objects chain m) (child_keys objects m) ∙ h)
+
+    pub all_wants : is_among k (wants_of objects chain m) ≡ true → is_among k (all_of objects chain m) ≡ true
+    all_wants h = behind_tree (or_left (is_among k (wants_of objects chain m)) _ h)
+
+    pub all_children : is_among k (child_keys objects m) ≡ true → is_among k (all_of objects chain m) ≡ true
+    all_children h = behind_tree (or_right (is_among k (wants_of objects chain m)) _ h)
+
+    -- that of its tree labels, of its copies, or of its subnamespaces
+    pub all_parts : is_among k (all_of objects chain m) ≡ true → (same_key k (key.Tree m) ≡ true) ⊎ (is_among k (wants_of objects chain m) ≡ true) ⊎ (is_among k (child_keys objects m) ≡ true)
+    all_parts h = elim (or_cases (same_key k (key.Tree m)) (is_among k (wants_of objects chain m ++ child_keys objects m)) h) [
+      | inl tree ↦ inl tree
+      | inr later ↦ elim (or_cases (is_among k (wants_of objects chain m)) (is_among k (child_keys objects m)) (sym (among_append k (wants_of objects chain m) (child_keys objects m)) ∙ later)) [
+        | inl copy ↦ inr (inl copy)
+        | inr child ↦ inr (inr child)
+      ]
+    ]
+
+-- ---- what wants a write, of anchors and namespaces
+
+-- a subnamespace that is wanted: its parent takes part, and the anchor is there
+pub child_known : (acts : Bool) (anchor : Option Object) (excluded taken : Bool) (n m : List ℕ) → child_write acts (is_some anchor) excluded taken n m ≢ None → (acts ≡ true) × (x : Object) × (anchor ≡ Some x)
+child_known true None excluded taken n m wants = absurd (wants refl)
+child_known true (Some x) excluded taken n m wants = (refl, x, refl)
+child_known false anchor excluded taken n m wants = absurd (wants refl)
+
+-- a status that is wanted: the namespace isn't on its way out, and the anchor is there
+pub status_known : (live : Bool) (status : AnchorStatus) (anchor : Option Object) → anchor_write live status anchor ≢ None → (live ≡ true) × (x : Object) × (anchor ≡ Some x)
+status_known live status None wants = absurd (wants refl)
+status_known true status (Some x) wants = (refl, x, refl)
+status_known false status (Some x) wants = absurd (wants refl)
+
+-- a removal that is wanted: the namespace is on its way out
+pub removal_known : (leaves : Bool) (least : Option Id) (n : List ℕ) → purge_write leaves least n ≢ None → leaves ≡ true
+removal_known true least n wants = refl
+removal_known false least n wants = absurd (wants refl)
+
+-- a key is among those of its namespace: of one that takes part, of the statuses of one that isn't on its way out, or of the removal of one that is
+abbrev pub IsKnown : State → Key → Type 0
+IsKnown s (key.Anchor n name) = (is_live (forest_of s) n ≡ true) × (is_among (key.Anchor n name) (status_keys s.objects n) ≡ true)
+IsKnown s (key.Purge n) = is_leaving (forest_of s) n ≡ true
+IsKnown s k = (m : List ℕ) × (is_open (forest_of s) m ≡ true) × (is_among k (all_of s.objects (chain_of (forest_of s) m) m) ≡ true)
+
+-- so is each that wants a write
+pub all_known : (s : State) (k : Key) → wanted_write s k ≢ None → IsKnown s k
 all_known s (key.Copy m kind name) wants =
     let known = wants_known s.objects (chain_of (forest_of s) m) m kind name (is_open (forest_of s) m) (object_at s.objects (namespace_id m)) wants in
-    (m, known.0, or_right (same_key (key.Copy m kind name) (key.Tree m)) (is_among (key.Copy m kind name) (wants_of s.objects (chain_of (forest_of s) m) m)) known.2)
-all_known s (key.Tree m) wants = (m, acting (is_open (forest_of s) m) (object_at s.objects (namespace_id m)) wants, among_here (key.Tree m) (wants_of s.objects (chain_of (forest_of s) m) m))
+    (m, known.0, all_wants s.objects (chain_of (forest_of s) m) m (key.Copy m kind name) known.2)
+all_known s (key.Tree m) wants = (m, acting (is_open (forest_of s) m) (object_at s.objects (namespace_id m)) wants, all_tree s.objects (chain_of (forest_of s) m) m)
   where
     acting : (acts : Bool) (found : Option Object) → tree_write acts (chain_of (forest_of s) m) found ≢ None → acts ≡ true
     acting true found wants = refl
     acting false None wants = absurd (wants refl)
     acting false (Some x) wants = absurd (wants refl)
 all_known s (key.Report m) wants = absurd (wants refl)
-all_known s (key.Child m name) wants = absurd (wants refl)
-all_known s (key.Anchor m name) wants = absurd (wants refl)
+all_known s (key.Child m name) wants =
+    let known = child_known (is_open (forest_of s) m) (object_at s.objects (anchor_id m name)) (is_in name s.config.excluded) (is_some (object_at s.objects (namespace_id name))) m name wants in
+    (m, known.0, all_children s.objects (chain_of (forest_of s) m) m (key.Child m name) (child_among s.objects m name known.1 known.2))
+all_known s (key.Anchor m name) wants =
+    let known = status_known (is_live (forest_of s) m) (anchor_status s m name) (object_at s.objects (anchor_id m name)) wants in
+    (known.0, status_among s.objects m name known.1 known.2)
 all_known s (key.Used m name) wants = absurd (wants refl)
-all_known s (key.Purge m) wants = absurd (wants refl)
+all_known s (key.Purge m) wants = removal_known (is_leaving (forest_of s) m) (least_id s m) m wants

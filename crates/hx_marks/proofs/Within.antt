@@ -1,29 +1,41 @@
 -- The keys that may want a write are keys of the state.
 --     any_witness        what passes a test of a list
 --     wants_named        a copy key that may want a write is of a kind and a name that some object has
+--     found_some         what passes a test among objects is found under its identity
+--     child_key, status_key     so is each of an anchor that is there
+--     leaving_key        and that of the removal of a namespace that is on its way out
 --     all_keys           each key of a namespace that is there is one of the state
-use Rattle.std.proofs.Common.{◌≡◌, ℕ, Bool, true, false, ◌&&◌, ◌==◌, List, [], ◌∷◌, ◌++◌, map, filter, inl, inr, sym, ap, ◌∙◌, subst, true≢false, eqb-true, Some}
-use Rattle.std.specs.Prelude.{if◌then◌else◌}
+use Rattle.std.proofs.Common.{◌≡◌, ℕ, Bool, true, false, cond, ◌&&◌, ◌==◌, Option, None, List, [], ◌∷◌, ◌++◌, map, filter, inl, inr, refl, sym, ap, ◌∙◌, subst, true≢false, eqb-true, Some}
+use Rattle.std.specs.Prelude.{is_some, if◌then◌else◌}
 use Rattle.std.specs.List.{list_any}
+use Rattle.std.specs.Cmp.{tied_itself}
+use Rattle.std.specs.Option.{option_map_or}
 use Rattle.std.specs.Str.{bytes_eq}
 use Rattle.std.proofs.lemmas.Bool.{and_parts, and_from, or_cases, or_left, or_right}
 use Rattle.std.proofs.lemmas.List.Folds.{list_any-append}
 use Rattle.hx_object.specs.Kinds.{number_of, can_be_copied}
 use Rattle.hx_object.specs.declared.kind.Kind.{Kind}
+use Rattle.hx_object.specs.declared.kind.Kind.TheVariants.{SubnamespaceAnchor}
+use Rattle.hx_object.specs.declared.object.Id.{Id}
 use Rattle.hx_object.specs.declared.object.Object.{Object}
 use Rattle.hx_object.proofs.Identities.{number_of-one}
 use Rattle.hx_model.specs.Answers.{is_listed}
-use Rattle.hx_model.specs.Forest.{tail_of}
+use Rattle.hx_model.specs.Cases.{is_leaving}
+use Rattle.hx_model.specs.Forest.{Forest, node_of, is_there, tail_of}
 use Rattle.hx_model.specs.Keys.{same_key, is_among, has_named, is_name, is_key}
 use Rattle.hx_model.specs.Limits.{is_copy}
 use Rattle.hx_model.specs.Moves.{mode_at, copied_kinds}
-use Rattle.hx_model.specs.State.{State, Objects}
+use Rattle.hx_model.specs.State.{State, Objects, object_at, same_id}
+use Rattle.hx_model.specs.Subnamespaces.{anchor_id}
+use Rattle.hx_model.specs.Tree.{forest_of}
 use Rattle.hx_model.specs.declared.key.Key.{Key}
 use Rattle.hx_model.specs.declared.key.Key.TheVariants as key
-use Rattle.hx_model.proofs.Climbing.{same_itself}
-use Rattle.hx_marks.proofs.Among.{same_key_is, among_map, among_flat_map, any_filter, found_name, found_kind}
-use Rattle.hx_marks.proofs.Wanting.{any_flat_map}
-use Rattle.hx_marks.specs.Law.{is_ignored, is_sent, listed_in, sent_from, key_for, wants_of_kind, wants_of, all_of}
+use Rattle.hx_model.specs.declared.node.Node.{Node}
+use Rattle.hx_model.proofs.Climbing.{is_same, same_itself}
+use Rattle.hx_model.proofs.Objects.{id_total, same_from_Equal}
+use Rattle.hx_marks.proofs.Among.{same_key_is, among_cond, among_map, among_flat_map, any_filter, found_name, found_kind}
+use Rattle.hx_marks.proofs.Wanting.{any_flat_map, all_parts}
+use Rattle.hx_marks.specs.Law.{is_ignored, is_sent, listed_in, sent_from, key_for, wants_of_kind, wants_of, child_keys, status_keys, leaving_keys, all_of}
 
 -- ---- tests of lists
 
@@ -107,13 +119,71 @@ wants_named objects chain m k mem =
     counted kind true h = absurd (true≢false (sym h))
     counted kind false h = h
 
+-- ---- keys of anchors
+
+-- an object that passes is found, under its identity
+pub found_some : (p : Object → Bool) (objects : Objects) → list_any p objects ≡ true → (x : Object) × (p x ≡ true) × (is_some (object_at objects x.id) ≡ true)
+found_some p [] h = absurd (true≢false (sym h))
+found_some p (y ∷ objects) h = elim (or_cases (p y) (list_any p objects) h) [
+  | inl here ↦ (y, here, ap (λ b. is_some (cond b (Some y) (object_at objects y.id))) (same_from_Equal y.id y.id (tied_itself id_total y.id)))
+  | inr later ↦ let found = found_some p objects later in (found.0, found.1, either (same_id found.0.id y.id) (object_at objects found.0.id) found.2)
+]
+  where
+    either : (b : Bool) (o : Option Object) → is_some o ≡ true → is_some (cond b (Some y) o) ≡ true
+    either true o there = refl
+    either false o there = there
+
+-- the keys by the names of the anchors in a namespace
+anchors_there : (objects : Objects) (m : List ℕ) (k : Key) (of_name : List ℕ → Key) → is_among k (map (λ (x : Object). of_name x.id.name) (listed_in objects SubnamespaceAnchor m)) ≡ true
+    → (name : List ℕ) × (k ≡ of_name name) × (is_some (object_at objects (anchor_id m name)) ≡ true)
+anchors_there objects m k of_name mem =
+    let test : Object → Bool = λ x. is_listed SubnamespaceAnchor (Some m) x && same_key k (of_name x.id.name) in
+    let found = found_some test objects
+    (sym (any_filter (λ (x : Object). same_key k (of_name x.id.name)) (is_listed SubnamespaceAnchor (Some m)) objects) ∙ sym (among_map k (λ (x : Object). of_name x.id.name) (listed_in objects SubnamespaceAnchor m)) ∙ mem) in
+    let parts = and_parts (is_listed SubnamespaceAnchor (Some m) found.0) _ found.1 in
+    (found.0.id.name, same_key_is k (of_name found.0.id.name) parts.1, ap (λ (q : Id). is_some (object_at objects q)) (is_anchor_of found.0 parts.0) ∙ found.2)
+  where
+    is_anchor_of : (x : Object) → is_listed SubnamespaceAnchor (Some m) x ≡ true → anchor_id m x.id.name ≡ x.id
+    is_anchor_of x h =
+        let parts = and_parts (number_of SubnamespaceAnchor == number_of x.id.kind) (bytes_eq x.id.ns m) h in
+        let kind : SubnamespaceAnchor ≡ x.id.kind = number_of-one SubnamespaceAnchor x.id.kind (eqb-true _ _ parts.0) in
+        let home : m ≡ x.id.ns = sym (is_same x.id.ns m parts.1) in
+        λ i. record { kind = kind i; ns = home i; name = x.id.name }
+
+pub child_key : (s : State) (m : List ℕ) (k : Key) → is_among k (child_keys s.objects m) ≡ true → is_key s k ≡ true
+child_key s m k mem = let found = anchors_there s.objects m k (key.Child m) mem in ap (is_key s) found.1 ∙ found.2
+
+pub status_key : (s : State) (m : List ℕ) (k : Key) → is_among k (status_keys s.objects m) ≡ true → is_key s k ≡ true
+status_key s m k mem = let found = anchors_there s.objects m k (key.Anchor m) mem in ap (is_key s) found.1 ∙ found.2
+
 -- ---- keys of a state
+
+-- a namespace that is on its way out is there
+pub leaving_there : (f : Forest) (n : List ℕ) → is_leaving f n ≡ true → is_there f n ≡ true
+leaving_there f n h = by (node_of f n) h
+  where
+    by : (o : Option Node) → option_map_or (λ (node : Node). node.terminating) o false ≡ true → is_some o ≡ true
+    by None e = absurd (true≢false (sym e))
+    by (Some node) e = refl
+
+-- the key of the removal of a namespace that is there
+pub removal_key : (s : State) (n : List ℕ) (k : Key) → is_there (forest_of s) n ≡ true → is_among k (key.Purge n ∷ []) ≡ true → is_key s k ≡ true
+removal_key s n k there mem = elim (or_cases (same_key k (key.Purge n)) false mem) [
+  | inl same ↦ ap (is_key s) (same_key_is k (key.Purge n) same) ∙ or_left (is_there (forest_of s) n) (has_named s.objects SubnamespaceAnchor n) there
+  | inr never ↦ absurd (true≢false (sym never))
+]
+
+pub leaving_key : (s : State) (n : List ℕ) (k : Key) → is_among k (leaving_keys (forest_of s) n) ≡ true → is_key s k ≡ true
+leaving_key s n k mem =
+    let parts = and_parts (is_leaving (forest_of s) n) _ (sym (among_cond k (is_leaving (forest_of s) n) (key.Purge n ∷ [])) ∙ mem) in
+    removal_key s n k (leaving_there (forest_of s) n parts.0) parts.1
 
 -- the keys of a name of the state
 pub all_keys : (s : State) (chain : List (List ℕ)) (m : List ℕ) (k : Key) → is_name s m ≡ true → is_among k (all_of s.objects chain m) ≡ true → is_key s k ≡ true
-all_keys s chain m k name mem = elim (or_cases (same_key k (key.Tree m)) (is_among k (wants_of s.objects chain m)) mem) [
+all_keys s chain m k name mem = elim (all_parts s.objects chain m k mem) [
   | inl tree ↦ ap (is_key s) (same_key_is k (key.Tree m) tree) ∙ name
-  | inr copy ↦
+  | inr (inl copy) ↦
       let found = wants_named s.objects chain m k copy in
       ap (is_key s) found.2 ∙ and_from (is_name s m) (can_be_copied found.0 && has_named s.objects found.0 found.1) name (and_from (can_be_copied found.0) (has_named s.objects found.0 found.1) found.3 found.4)
+  | inr (inr child) ↦ child_key s m k child
 ]

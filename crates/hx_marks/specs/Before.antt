@@ -3,10 +3,10 @@
 --     opens_under f n parent    a namespace takes part once it has that parent
 --     move_marks_to s n parent  it gets that parent
 --     marks_before s write      all that a write marks
-use Rattle.std.specs.Prelude.{ℕ, Bool, false, not, ◌&&◌, List, [], Option, Some, None, option_and_then, if◌then◌else◌}
+use Rattle.std.specs.Prelude.{ℕ, Bool, false, not, ◌&&◌, List, [], ◌++◌, Option, Some, None, option_and_then, if◌then◌else◌}
 use Rattle.std.specs.Option.{option_map_or}
 use Rattle.std.specs.Str.{bytes_eq}
-use Rattle.hx_object.specs.Kinds.{is_namespace, is_hierarchy}
+use Rattle.hx_object.specs.Kinds.{is_namespace, is_hierarchy, is_anchor}
 use Rattle.hx_object.specs.declared.object.Id.{Id}
 use Rattle.hx_object.specs.declared.object.Object.{Object}
 use Rattle.hx_model.specs.Cases.{same_name}
@@ -20,7 +20,7 @@ use Rattle.hx_model.specs.declared.config.RunConfig.{RunConfig}
 use Rattle.hx_model.specs.declared.key.Key.{Key}
 use Rattle.hx_model.specs.declared.key.Write.{Write}
 use Rattle.hx_store.specs.Kept.{StoreView}
-use Rattle.hx_marks.specs.Law.{label_marks, created_marks, moved_by, mode_marks, object_marks, is_modes, object_written}
+use Rattle.hx_marks.specs.Law.{label_marks, ending_marks, created_marks, removed_marks, begins_to_end, moved_by, mode_marks, anchor_marks, object_marks, leaving_keys, is_modes, object_written}
 
 abbrev pub state_of : StoreView → RunConfig → State
 state_of store config = record { objects = store.objects; last = store.version; config = config }
@@ -47,19 +47,25 @@ hierarchy_marks s id new = if bytes_eq id.name hierarchy then move_marks_to s id
 
 -- ---- namespaces
 
--- one is replaced, or is made
+-- one is replaced, or begins to leave, goes, or is made
 abbrev pub namespace_marks_by : State → List ℕ → Option Object → Option Object → List Key
-namespace_marks_by s n (Some old) new = label_marks s n
+namespace_marks_by s n (Some old) (Some x) = if begins_to_end old x then ending_marks s n else label_marks s n
+namespace_marks_by s n (Some old) None = removed_marks s n
 namespace_marks_by s n None (Some x) = created_marks s n (parent_with (object_at s.objects (hierarchy_id n)) x)
 namespace_marks_by s n None None = []
 
 -- ---- writes
 
+-- an object that lies in a namespace
+abbrev pub inner_marks_by : State → Id → Option Object → Option Object → List Key
+inner_marks_by s id old new =
+    if is_hierarchy id.kind then hierarchy_marks s id new else (
+    if is_anchor id.kind then anchor_marks id else object_marks s id old new)
+
 abbrev pub marks_by_kind : State → Id → Option Object → Option Object → List Key
 marks_by_kind s id old new =
     if is_namespace id.kind then namespace_marks_by s id.name old new else (
-    if is_hierarchy id.kind then hierarchy_marks s id new else (
-    if is_modes id then mode_marks s old new else object_marks s id old new))
+    if is_modes id then mode_marks s old new else (inner_marks_by s id old new ++ leaving_keys (forest_of s) id.ns))
 
 abbrev pub marks_before : State → Write → List Key
 marks_before s write = marks_by_kind s (id_written write) (object_at s.objects (id_written write)) (object_written write)

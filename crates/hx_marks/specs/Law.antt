@@ -2,11 +2,18 @@
 --     is_sent mode x         a source goes to some labels or other, where its kind is in this mode
 --     key_for m x            the key of the copies of an object's kind and name, in a namespace
 --     wants_of objects chain m   the copy keys of a namespace that may want a write: of what is sent from above, along its chain, and of the copies that lie in it
+--     child_keys, status_keys    of the anchors in a namespace: the keys of their subnamespaces;  of their statuses
+--     asking_keys            both, of the anchors that ask for a name
+--     leaving_keys           the key of the removal of a namespace that is on its way out
 --     open_below f n         the namespaces of a subtree that take part
+--     known_of objects f n   all keys of a namespace that may want a write
 --     label_marks            a namespace is replaced
+--     ending_marks           a namespace is on its way out from now on
 --     created_marks          a namespace is made
+--     removed_marks          a namespace goes
 --     move_marks             a namespace gets another parent
 --     mode_marks             the modes of kinds change
+--     anchor_marks           an anchor is written or removed
 --     object_marks           an object of a kind that can be copied is written or removed
 --     marks_of s write       by what is written
 --     all_marks s writes     of the writes of a commit, each by the state before it
@@ -15,16 +22,16 @@ use Rattle.std.specs.Prelude.{ℕ, Bool, true, false, not, ◌&&◌, ◌||◌, L
 use Rattle.std.specs.List.{list_all}
 use Rattle.std.specs.Option.{option_map_or}
 use Rattle.std.specs.Str.{bytes_eq}
-use Rattle.hx_object.specs.Kinds.{can_be_copied, is_namespace, is_hierarchy}
+use Rattle.hx_object.specs.Kinds.{can_be_copied, is_namespace, is_hierarchy, is_anchor}
 use Rattle.hx_object.specs.WellKnown.{config}
 use Rattle.hx_object.specs.declared.kind.Kind.{Kind}
-use Rattle.hx_object.specs.declared.kind.Kind.TheVariants.{HncConfiguration}
+use Rattle.hx_object.specs.declared.kind.Kind.TheVariants.{HncConfiguration, SubnamespaceAnchor}
 use Rattle.hx_object.specs.declared.object.Id.{Id}
 use Rattle.hx_object.specs.declared.object.Mode.{Mode}
 use Rattle.hx_object.specs.declared.object.Mode.TheVariants.{Ignore}
 use Rattle.hx_object.specs.declared.object.Object.{Object}
 use Rattle.hx_model.specs.Answers.{is_listed}
-use Rattle.hx_model.specs.Cases.{same_name}
+use Rattle.hx_model.specs.Cases.{same_name, is_leaving}
 use Rattle.hx_model.specs.Exceptions.{none_of, passes, is_false}
 use Rattle.hx_model.specs.Forest.{Forest, is_in, names_of, parent_of, chain_of, tail_of, subtree_of}
 use Rattle.hx_model.specs.Limits.{is_copy}
@@ -32,13 +39,14 @@ use Rattle.hx_model.specs.Modes.{mode_in}
 use Rattle.hx_model.specs.Moves.{up_to, chain_from, is_calm, moved_chain_of, mode_at, copied_kinds}
 use Rattle.hx_model.specs.Propagation.{is_source, stays_home, is_propagated}
 use Rattle.hx_model.specs.State.{State, Objects, object_at, state_after}
-use Rattle.hx_model.specs.Tree.{hierarchy, forest_of}
+use Rattle.hx_model.specs.Tree.{hierarchy, forest_of, is_terminating}
 use Rattle.hx_model.specs.TreeLabels.{is_open}
 use Rattle.hx_model.specs.Writes.{id_written}
 use Rattle.hx_model.specs.declared.key.Key.{Key}
 use Rattle.hx_model.specs.declared.key.Key.TheVariants as key
 use Rattle.hx_model.specs.declared.key.Write.{Write}
 use Rattle.hx_model.specs.declared.key.Write.TheVariants.{Put, Cut}
+use Rattle.hx_store.specs.Sources.{is_anchor_of}
 
 -- ---- what may want a write
 
@@ -70,9 +78,31 @@ wants_of_kind objects chain m kind =
 abbrev pub wants_of : Objects → List (List ℕ) → List ℕ → List Key
 wants_of objects chain m = flat_map (wants_of_kind objects chain m) copied_kinds
 
--- with its tree labels
+-- ---- anchors
+
+-- the keys of the subnamespaces that the anchors in a namespace ask for
+abbrev pub child_keys : Objects → List ℕ → List Key
+child_keys objects m = map (λ (x : Object). key.Child m x.id.name) (listed_in objects SubnamespaceAnchor m)
+
+-- the keys of their statuses
+abbrev pub status_keys : Objects → List ℕ → List Key
+status_keys objects m = map (λ (x : Object). key.Anchor m x.id.name) (listed_in objects SubnamespaceAnchor m)
+
+-- both keys of an anchor
+abbrev pub anchor_keys : Id → List Key
+anchor_keys id = key.Child id.ns id.name ∷ key.Anchor id.ns id.name ∷ []
+
+-- those of the anchors that ask for a name
+abbrev pub asking_keys : Objects → List ℕ → List Key
+asking_keys objects n = flat_map (λ (x : Object). anchor_keys x.id) (filter (is_anchor_of n) objects)
+
+-- the key of the removal of a namespace that is on its way out
+abbrev pub leaving_keys : Forest → List ℕ → List Key
+leaving_keys f n = if is_leaving f n then key.Purge n ∷ [] else []
+
+-- all that a namespace of this chain may want that takes part: its tree labels, its copies, and its subnamespaces
 abbrev pub all_of : Objects → List (List ℕ) → List ℕ → List Key
-all_of objects chain m = key.Tree m ∷ wants_of objects chain m
+all_of objects chain m = key.Tree m ∷ (wants_of objects chain m ++ child_keys objects m)
 
 -- ---- what lies below
 
@@ -94,13 +124,29 @@ below_created f n = n ∷ flat_map (subtree_of f) (filter (is_child f n) (names_
 
 -- ---- namespaces
 
+-- all keys of a namespace that may want a write
+abbrev pub known_of : Objects → Forest → List ℕ → List Key
+known_of objects f n = (if is_open f n then all_of objects (chain_of f n) n else []) ++ (status_keys objects n ++ leaving_keys f n)
+
 -- A namespace is replaced: its labels may count, and all its keys rest on its version
 abbrev pub label_marks : State → List ℕ → List Key
-label_marks s n = if is_open (forest_of s) n then all_of s.objects (chain_of (forest_of s) n) n else []
+label_marks s n = known_of s.objects (forest_of s) n
 
--- A namespace is made, under this parent: what waited for it below may begin to take part
+-- A namespace is on its way out from now on: what lies below it takes part no more, and its own objects go
+abbrev pub ending_marks : State → List ℕ → List Key
+ending_marks s n =
+    flat_map (λ m. all_of s.objects (chain_of (forest_of s) m) m) (open_below (forest_of s) n)
+    ++ (status_keys s.objects n ++ key.Purge n ∷ [])
+
+-- A namespace is made, under this parent: what waited for it below may begin to take part, and anchors may have waited for it
 abbrev pub created_marks : State → List ℕ → Option (List ℕ) → List Key
-created_marks s n parent = flat_map (λ m. all_of s.objects (chain_of (forest_of s) m ++ n ∷ chain_from (forest_of s) parent) m) (below_created (forest_of s) n)
+created_marks s n parent =
+    flat_map (λ m. all_of s.objects (chain_of (forest_of s) m ++ n ∷ chain_from (forest_of s) parent) m) (below_created (forest_of s) n)
+    ++ asking_keys s.objects n
+
+-- A namespace goes, in which nothing lies: nothing below it has taken part
+abbrev pub removed_marks : State → List ℕ → List Key
+removed_marks s n = key.Purge n ∷ asking_keys s.objects n
 
 -- the names that aren't among others
 abbrev pub apart : List (List ℕ) → List (List ℕ) → List (List ℕ)
@@ -157,6 +203,10 @@ mode_marks s old new = flat_map (λ kind. kind_marks s (mode_in old kind) (mode_
 
 -- ---- objects
 
+-- an anchor is written or removed
+abbrev pub anchor_marks : Id → List Key
+anchor_marks id = anchor_keys id
+
 abbrev pub is_any_sent : Mode → Option Object → Option Object → Bool
 is_any_sent mode old new = option_map_or (is_sent mode) old false || option_map_or (is_sent mode) new false
 
@@ -184,17 +234,27 @@ abbrev pub object_written : Write → Option Object
 object_written (Put x) = Some x
 object_written (Cut id) = None
 
--- a namespace that was there, or wasn't
-abbrev pub namespace_marks : State → State → List ℕ → Option Object → List Key
-namespace_marks s t n (Some old) = label_marks s n
-namespace_marks s t n None = created_marks s n (parent_of (forest_of t) n)
+-- a namespace that stays begins to leave
+abbrev pub begins_to_end : Object → Object → Bool
+begins_to_end old x = is_terminating x.payload && not (is_terminating old.payload)
+
+-- a namespace that was there, or wasn't, and is there then, or isn't
+abbrev pub namespace_marks : State → State → List ℕ → Option Object → Option Object → List Key
+namespace_marks s t n (Some old) (Some x) = if begins_to_end old x then ending_marks s n else label_marks s n
+namespace_marks s t n (Some old) None = removed_marks s n
+namespace_marks s t n None new = created_marks s n (parent_of (forest_of t) n)
+
+-- an object that lies in a namespace: what it is of its kind, and the removal of a namespace that is on its way out
+abbrev pub inner_marks : State → State → Id → Option Object → Option Object → List Key
+inner_marks s t id old new =
+    if is_hierarchy id.kind then (if bytes_eq id.name hierarchy then move_marks s t id.ns else []) else (
+    if is_anchor id.kind then anchor_marks id else object_marks s id old new)
 
 -- by what is written, and the state after it
 abbrev pub marks_by : State → State → Id → Option Object → Option Object → List Key
 marks_by s t id old new =
-    if is_namespace id.kind then namespace_marks s t id.name old else (
-    if is_hierarchy id.kind then (if bytes_eq id.name hierarchy then move_marks s t id.ns else []) else (
-    if is_modes id then mode_marks s old new else object_marks s id old new))
+    if is_namespace id.kind then namespace_marks s t id.name old new else (
+    if is_modes id then mode_marks s old new else (inner_marks s t id old new ++ leaving_keys (forest_of s) id.ns))
 
 abbrev pub marks_of : State → Write → List Key
 marks_of s write = marks_by s (state_after s (write ∷ [])) (id_written write) (object_at s.objects (id_written write)) (object_written write)

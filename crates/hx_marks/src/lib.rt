@@ -3,6 +3,7 @@
 //! The law of marks stands in `specs/Law.antt`: a list of keys for each sort of write. The call gives that list, and looks at nothing that it doesn't need.
 #![tactic(auto)]
 
+mod anchors;
 mod below;
 mod lookups;
 mod modes;

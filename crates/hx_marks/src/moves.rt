@@ -8,7 +8,7 @@ ghost use Rattle.hx_marks.specs.Before.{comes_back_by, move_marks_to, opens_unde
 ghost use Rattle.hx_marks.specs.Law.{all_of, apart, in_one, moved_by, sent_marks};
 
 use crate::below::{chain_from, live_below, push_names};
-use crate::wants::{all_of, all_sent, keys_for};
+use crate::wants::{all_by_chains, all_of, all_sent, keys_for};
 use hx_forest::Forest;
 use hx_model::{Key, RunConfig};
 use hx_object::{NoMemory, Shared, Text};
@@ -106,22 +106,6 @@ fn sent_marks(sent: &[Shared], members: &[Text], keys: &mut Vec<Key>) -> Result<
             ns: member.clone()?,
         })?;
         keys_for(member, sent, keys)?;
-    }
-    Ok(())
-}
-
-/// Marks all that some namespaces may want, by their chains.
-fn all_by_chains(
-    store: &Store,
-    forest: &Forest,
-    members: &[Text],
-    keys: &mut Vec<Key>,
-) -> Result<(), NoMemory>
-    ensures { OnOk result (keys.new.items ≡ keys.old.items ++ flat_map (λ m. all_of store.now.objects (chain_of forest.now.nodes m) m) members.now) }
-{
-    for member in members {
-        let chain = forest.chain(member)?;
-        all_of(store, &chain, member, keys)?;
     }
     Ok(())
 }

@@ -1,21 +1,22 @@
-// Namespaces are replaced or made.
+// Namespaces are made, begin to leave, or go.
 ghost use Rattle.std.specs.Prelude.{◌≡◌, ◌++◌, ◌∷◌, IfOk, OnOk, flat_map, option_copied};
 ghost use Rattle.hx_model.specs.Forest.{chain_of, subtree_of};
 ghost use Rattle.hx_model.specs.Moves.{chain_from};
 ghost use Rattle.hx_model.specs.Tree.{forest_of};
 ghost use Rattle.hx_marks.specs.Before.{state_of};
-ghost use Rattle.hx_marks.specs.Law.{all_of, below_created, created_marks, label_marks};
+ghost use Rattle.hx_marks.specs.Law.{all_of, below_created, created_marks, ending_marks, removed_marks};
 
-use crate::below::{chain_from, push_names};
-use crate::wants::all_of;
+use crate::anchors::{asking_keys, push_purge, status_keys};
+use crate::below::{chain_from, open_below, push_names};
+use crate::wants::{all_by_chains, all_of};
 use hx_forest::Forest;
 use hx_model::{Key, RunConfig};
 use hx_object::{NoMemory, Text};
 use hx_store::Store;
 use std::alloc::Global;
 
-/// Marks all that a namespace wants which takes part: its labels may count, and all its keys rest on its version.
-pub(crate) fn label_marks(
+/// Marks what a namespace touches that is on its way out from now on: all that those below it want which took part, its anchors, and its removal.
+pub(crate) fn ending_marks(
     store: &Store,
     forest: &Forest,
     config: &RunConfig,
@@ -23,16 +24,28 @@ pub(crate) fn label_marks(
     keys: &mut Vec<Key>,
 ) -> Result<(), NoMemory>
     requires tree { forest.now.nodes ≡ forest_of (state_of store.now config.now) }
-    ensures { OnOk result (keys.new.items ≡ keys.old.items ++ label_marks (state_of store.now config.now) name.now) }
+    ensures { OnOk result (keys.new.items ≡ keys.old.items ++ ending_marks (state_of store.now config.now) name.now) }
 {
-    if !forest.is_open(name) {
-        return Ok(());
-    }
-    let chain = forest.chain(name)?;
-    all_of(store, &chain, name, keys)
+    let members = open_below(store.allocator(), forest, name)?;
+    all_by_chains(store, forest, &members, keys)?;
+    status_keys(store, name, keys)?;
+    push_purge(name, keys)
 }
 
-/// Marks all that a namespace wants which is made under a parent, and those below it, which have waited for it.
+/// Marks what a namespace touches that goes: its removal, and the anchors that ask for it.
+pub(crate) fn removed_marks(
+    store: &Store,
+    config: &RunConfig,
+    name: &Text,
+    keys: &mut Vec<Key>,
+) -> Result<(), NoMemory>
+    ensures { OnOk result (keys.new.items ≡ keys.old.items ++ removed_marks (state_of store.now config.now) name.now) }
+{
+    push_purge(name, keys)?;
+    asking_keys(store, name, keys)
+}
+
+/// Marks all that a namespace wants which is made under a parent, and those below it, which have waited for it, and the anchors that ask for it.
 pub(crate) fn created_marks(
     store: &Store,
     forest: &Forest,
@@ -46,7 +59,8 @@ pub(crate) fn created_marks(
 {
     let above = chain_from(store.allocator(), forest, parent)?;
     let members = below_created(store.allocator(), forest, name)?;
-    marks_under(store, forest, name, &above, &members, keys)
+    marks_under(store, forest, name, &above, &members, keys)?;
+    asking_keys(store, name, keys)
 }
 
 /// Marks all that some namespaces want, whose chains go on with a namespace and what is above it.

@@ -3,8 +3,9 @@ ghost use Rattle.std.specs.Prelude.{◌≡◌, ◌++◌, [], IfOk, OnOk, filter,
 ghost use Rattle.hx_model.specs.Forest.{chain_of, tail_of};
 ghost use Rattle.hx_model.specs.Limits.{is_copy};
 ghost use Rattle.hx_model.specs.TreeLabels.{is_open};
-ghost use Rattle.hx_marks.specs.Law.{all_of, all_sent, is_sent, key_for, listed_in, sent_from, wants_of, wants_of_kind};
+ghost use Rattle.hx_marks.specs.Law.{all_of, known_of, all_sent, is_sent, key_for, listed_in, sent_from, wants_of, wants_of_kind};
 
+use crate::anchors::{child_keys, leaving_keys, status_keys};
 use crate::lookups::{is_ignored, is_propagated, mode_at};
 use hx_forest::Forest;
 use hx_model::{COPIED_KINDS, Key, is_copy};
@@ -12,20 +13,46 @@ use hx_object::{Kind, Mode, NoMemory, Object, Shared, Text};
 use hx_rules::is_sent;
 use hx_store::Store;
 
-/// The keys of a namespace that may want a write, where it takes part.
+/// The keys of a namespace that may want a write.
 pub fn keys_of(store: &Store, forest: &Forest, name: &Text) -> Result<Vec<Key>, NoMemory>
-    ensures { IfOk result (λ keys. keys.items ≡ (if is_open forest.now.nodes name.now then all_of store.now.objects (chain_of forest.now.nodes name.now) name.now else [])) }
+    ensures { IfOk result (λ keys. keys.items ≡ known_of store.now.objects forest.now.nodes name.now) }
 {
     let mut keys = Vec::new(store.allocator());
-    if !forest.is_open(name) {
-        return Ok(keys);
-    }
-    let chain = forest.chain(name)?;
-    all_of(store, &chain, name, &mut keys)?;
+    known_of(store, forest, name, &mut keys)?;
     Ok(keys)
 }
 
-/// Marks the tree labels of a namespace of this chain, and the copies that it may want.
+/// Marks the keys of a namespace that may want a write.
+pub(crate) fn known_of(
+    store: &Store,
+    forest: &Forest,
+    name: &Text,
+    keys: &mut Vec<Key>,
+) -> Result<(), NoMemory>
+    ensures { OnOk result (keys.new.items ≡ keys.old.items ++ known_of store.now.objects forest.now.nodes name.now) }
+{
+    open_keys(store, forest, name, keys)?;
+    status_keys(store, name, keys)?;
+    leaving_keys(forest, name, keys)
+}
+
+/// Marks all that a namespace may want that takes part, or nothing where it doesn't.
+fn open_keys(
+    store: &Store,
+    forest: &Forest,
+    name: &Text,
+    keys: &mut Vec<Key>,
+) -> Result<(), NoMemory>
+    ensures { OnOk result (keys.new.items ≡ keys.old.items ++ (if is_open forest.now.nodes name.now then all_of store.now.objects (chain_of forest.now.nodes name.now) name.now else [])) }
+{
+    if !forest.is_open(name) {
+        return Ok(());
+    }
+    let chain = forest.chain(name)?;
+    all_of(store, &chain, name, keys)
+}
+
+/// Marks what a namespace of this chain may want that takes part: its tree labels, its copies, and its subnamespaces.
 pub(crate) fn all_of(
     store: &Store,
     chain: &[Text],
@@ -35,7 +62,24 @@ pub(crate) fn all_of(
     ensures { OnOk result (keys.new.items ≡ keys.old.items ++ all_of store.now.objects chain.now name.now) }
 {
     keys.push(Key::Tree { ns: name.clone()? })?;
-    wants_of(store, chain, name, keys)
+    wants_of(store, chain, name, keys)?;
+    child_keys(store, name, keys)
+}
+
+/// Marks all that some namespaces may want, by their chains.
+pub(crate) fn all_by_chains(
+    store: &Store,
+    forest: &Forest,
+    members: &[Text],
+    keys: &mut Vec<Key>,
+) -> Result<(), NoMemory>
+    ensures { OnOk result (keys.new.items ≡ keys.old.items ++ flat_map (λ m. all_of store.now.objects (chain_of forest.now.nodes m) m) members.now) }
+{
+    for member in members {
+        let chain = forest.chain(member)?;
+        all_of(store, &chain, member, keys)?;
+    }
+    Ok(())
 }
 
 /// Marks the copies that a namespace of this chain may want: of what is sent from above, and those that lie in it.

@@ -1,17 +1,19 @@
 // Writes are marked.
-ghost use Rattle.std.specs.Prelude.{◌≡◌, ◌++◌, IfOk, OnOk, flat_map, option_and_then, option_copied};
-ghost use Rattle.hx_model.specs.Tree.{forest_of, named_parent, parent_with};
+ghost use Rattle.std.specs.Prelude.{◌≡◌, ◌++◌, IfOk, OnOk, flat_map, if◌then◌else◌, option_and_then, option_copied};
+ghost use Rattle.hx_model.specs.Tree.{forest_of, is_terminating, named_parent, parent_with};
 ghost use Rattle.hx_model.specs.Valid.{IsValid};
 ghost use Rattle.hx_model.specs.Writes.{MayWriteAll};
-ghost use Rattle.hx_marks.specs.Before.{hierarchy_marks, marks_before, namespace_marks_by, state_of};
+ghost use Rattle.hx_marks.specs.Before.{hierarchy_marks, inner_marks_by, marks_before, namespace_marks_by, state_of};
 ghost use Rattle.hx_marks.specs.Halves.{Covers, IsWithin};
-ghost use Rattle.hx_marks.specs.Law.{all_marks, is_modes};
+ghost use Rattle.hx_marks.specs.Law.{all_marks, begins_to_end, ending_marks, is_modes, label_marks};
 
+use crate::anchors::{anchor_keys, leaving_keys};
 use crate::lookups::object_in;
 use crate::modes::mode_marks;
 use crate::moves::move_marks;
-use crate::namespaces::{created_marks, label_marks};
+use crate::namespaces::{created_marks, ending_marks, removed_marks};
 use crate::objects::object_marks;
+use crate::wants::known_of;
 use hx_forest::Forest;
 use hx_model::{Key, RunConfig};
 use hx_object::well_known::{CONFIG, HIERARCHY, SUBNAMESPACE_OF};
@@ -30,7 +32,7 @@ pub fn marks(
     requires may { MayWriteAll (state_of store.now config.now) writes.now }
     ensures named { IfOk result (λ keys. keys.items ≡ all_marks (state_of store.now config.now) writes.now) }
 
-    // Of one write: no other key wants something else, or on other guards, and the machine lets these wait.
+    // Of the writes of a request or of a key: no other key wants something else, or on other guards, and the machine lets these wait.
     ensures covers { IfOk result (λ keys. Covers (state_of store.now config.now) writes.now keys.items) }
     ensures within { IfOk result (λ keys. IsWithin (state_of store.now config.now) writes.now keys.items) }
 {
@@ -72,16 +74,34 @@ fn marks_of(
     if id.kind.is_namespace() {
         return namespace_marks(store, forest, config, &id.name, old, new, keys);
     }
-    if id.kind.is_hierarchy() {
-        return hierarchy_marks(store, forest, config, id, new, keys);
-    }
     if is_modes(id) {
         return mode_marks(store, forest, config, old, new, keys);
     }
-    object_marks(store, forest, config, id, old, new, keys)
+    inner_marks(store, forest, config, id, old, new, keys)?;
+    leaving_keys(forest, &id.ns, keys)
 }
 
-/// Marks what a namespace touches that is replaced, or is made.
+/// Marks what an object touches that lies in a namespace, but for the removal of the namespace.
+fn inner_marks(
+    store: &Store,
+    forest: &Forest,
+    config: &RunConfig,
+    id: &Id,
+    old: Option<&Object>,
+    new: Option<&Object>,
+    keys: &mut Vec<Key>,
+) -> Result<(), NoMemory>
+    requires tree { forest.now.nodes ≡ forest_of (state_of store.now config.now) }
+    ensures { OnOk result (keys.new.items ≡ keys.old.items ++ inner_marks_by (state_of store.now config.now) id.now (option_copied old.entry) (option_copied new.entry)) }
+{
+    match id.kind {
+        Kind::HierarchyConfiguration => hierarchy_marks(store, forest, config, id, new, keys),
+        Kind::SubnamespaceAnchor => anchor_keys(id, keys),
+        _ => object_marks(store, forest, config, id, old, new, keys),
+    }
+}
+
+/// Marks what a namespace touches that is replaced, begins to leave, goes, or is made.
 fn namespace_marks(
     store: &Store,
     forest: &Forest,
@@ -95,7 +115,8 @@ fn namespace_marks(
     ensures { OnOk result (keys.new.items ≡ keys.old.items ++ namespace_marks_by (state_of store.now config.now) name.now (option_copied old.entry) (option_copied new.entry)) }
 {
     match (old, new) {
-        (Some(_), _) => label_marks(store, forest, config, name, keys),
+        (Some(old), Some(new)) => replaced_marks(store, forest, config, name, old, new, keys),
+        (Some(_), None) => removed_marks(store, config, name, keys),
         (None, Some(new)) => {
             let found = store.find(Kind::HierarchyConfiguration, name.as_str(), HIERARCHY);
             let parent = parent_by(new, object_in(found));
@@ -103,6 +124,32 @@ fn namespace_marks(
         }
         (None, None) => Ok(()),
     }
+}
+
+/// Marks what a namespace touches that is replaced: its labels may count, and all its keys rest on its version. One may be on its way out from now on.
+fn replaced_marks(
+    store: &Store,
+    forest: &Forest,
+    config: &RunConfig,
+    name: &Text,
+    old: &Object,
+    new: &Object,
+    keys: &mut Vec<Key>,
+) -> Result<(), NoMemory>
+    requires tree { forest.now.nodes ≡ forest_of (state_of store.now config.now) }
+    ensures { OnOk result (keys.new.items ≡ keys.old.items ++ (if begins_to_end old.now new.now then ending_marks (state_of store.now config.now) name.now else label_marks (state_of store.now config.now) name.now)) }
+{
+    if is_terminating(new) && !is_terminating(old) {
+        return ending_marks(store, forest, config, name, keys);
+    }
+    known_of(store, forest, name, keys)
+}
+
+/// Whether a namespace is on its way out.
+fn is_terminating(namespace: &Object) -> bool
+    ensures { result ≡ is_terminating namespace.now.payload }
+{
+    matches!(&namespace.payload, Payload::Namespace { terminating: true })
 }
 
 /// Marks what a HierarchyConfiguration touches that is written or removed.

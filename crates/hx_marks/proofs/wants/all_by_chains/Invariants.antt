@@ -2,7 +2,7 @@ use Rattle.std.proofs.Common.{◌≡◌, ◌++◌, drop}
 use Rattle.std.specs.Prelude.{flat_map}
 use Rattle.hx_model.specs.Forest.{chain_of}
 use Rattle.hx_marks.specs.Law.{all_of}
-use Rattle.hx_marks.proofs.moves.all_by_chains.Given as goal
+use Rattle.hx_marks.proofs.wants.all_by_chains.Given as goal
 
 -- the marks so far, and those of the rest
 abbrev pub invariant-loop-member : goal.invariant-loop-member

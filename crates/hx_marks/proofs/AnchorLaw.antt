@@ -1,0 +1,160 @@
+-- The law of marks where an anchor is written or removed.
+--     anchor_law        a key that isn't marked wants what it wanted
+--     within_anchors    only keys of the two states are marked
+use Rattle.std.proofs.Common.{◌≡◌, ℕ, Bool, true, false, not, ◌&&◌, ◌||◌, Option, List, [], ◌∷◌, ◌++◌, refl, sym, ap, ◌∙◌, subst, inl, inr, true≢false}
+use Rattle.std.specs.Prelude.{is_some, if◌then◌else◌}
+use Rattle.std.specs.Str.{bytes_eq}
+use Rattle.std.proofs.lemmas.Bool.{or_cases, or_left, or_right, cases_Bool, false_from_ne_true}
+use Rattle.hx_object.specs.Kinds.{is_anchor, is_hierarchy, is_in_cluster, is_namespace, is_plain}
+use Rattle.hx_object.specs.declared.object.Id.{Id}
+use Rattle.hx_object.specs.declared.object.Object.{Object}
+use Rattle.hx_model.specs.Cases.{is_leaving}
+use Rattle.hx_model.specs.Covered.{IsSameFor}
+use Rattle.hx_model.specs.Forest.{is_in, is_live, chain_of}
+use Rattle.hx_model.specs.Keys.{is_among, is_key, may_mark}
+use Rattle.hx_model.specs.Modes.{config_id}
+use Rattle.hx_model.specs.Propagation.{id_in}
+use Rattle.hx_model.specs.State.{State, object_at, same_id, namespace_id, lies_in, least_in, state_after}
+use Rattle.hx_model.specs.Subnamespaces.{anchor_id}
+use Rattle.hx_model.specs.Tree.{forest_of}
+use Rattle.hx_model.specs.TreeLabels.{is_open}
+use Rattle.hx_model.specs.Wanted.{status_by, anchor_status}
+use Rattle.hx_model.specs.Writes.{MayWriteAll, id_written}
+use Rattle.hx_model.specs.declared.key.Key.{Key}
+use Rattle.hx_model.specs.declared.key.Key.TheVariants as key
+use Rattle.hx_model.specs.declared.key.Write.{Write}
+use Rattle.hx_model.specs.declared.key.Write.TheVariants.{Put, Cut}
+use Rattle.hx_model.proofs.Climbing.{is_same}
+use Rattle.hx_model.proofs.Displacing.{KeepsOthers, put_keeps, cut_keeps}
+use Rattle.hx_model.proofs.Objects.{is_same_id, found_again}
+use Rattle.hx_model.proofs.Planting.{forest-put, forest-cut}
+use Rattle.hx_marks.specs.Law.{anchor_keys, leaving_keys, object_written, marks_by, marks_of}
+use Rattle.hx_marks.proofs.Among.{among_append, out_left, out_right}
+use Rattle.hx_marks.proofs.Asking.{is_anchor_place, copied_no_anchor, anchor_key, child_of_anchor, status_of_anchor, leaving_among}
+use Rattle.hx_marks.proofs.Frames.{none_in_both, put_least, cut_least}
+use Rattle.hx_marks.proofs.Keeping.{Stands, kept_copy, kept_tree, kept_child, kept_anchor, kept_purge, staying_both}
+use Rattle.hx_marks.proofs.Within.{leaving_key}
+
+-- what kinds of anchors are not
+anchor_leaf : (id : Id) → is_anchor id.kind ≡ true → is_namespace id.kind ≡ false
+anchor_leaf id is = ap (λ (q : Id). is_namespace q.kind) (is_anchor_place id is)
+
+anchor_level : (id : Id) → is_anchor id.kind ≡ true → is_hierarchy id.kind ≡ false
+anchor_level id is = ap (λ (q : Id). is_hierarchy q.kind) (is_anchor_place id is)
+
+-- another kind is another identity
+other_kind : (id q : Id) → is_anchor id.kind ≡ true → is_anchor q.kind ≡ false → same_id q id ≡ false
+other_kind id q is out = false_from_ne_true (same_id q id) (λ h. true≢false (sym is ∙ sym (ap (λ (p : Id). is_anchor p.kind) (is_same_id q id h)) ∙ out))
+
+-- what such a write leaves
+record LeavesAnchor (s t : State) (id : Id) : Type 0 where
+  tree : forest_of t ≡ forest_of s
+  excluded : t.config.excluded ≡ s.config.excluded
+  others : KeepsOthers id s.objects t.objects
+  least : (m : List ℕ) → lies_in m id ≡ false → least_in t.objects m ≡ least_in s.objects m
+
+leaves_anchor : (s : State) (w : Write) → is_anchor (id_written w).kind ≡ true → LeavesAnchor s (state_after s (w ∷ [])) (id_written w)
+leaves_anchor s (Put x) is = record {
+  tree = forest-put s.config.excluded x s.objects (anchor_leaf x.id is) (anchor_level x.id is);
+  excluded = refl;
+  others = put_keeps x x.id s.objects refl;
+  least = λ m out. put_least x s.objects m out;
+}
+leaves_anchor s (Cut id) is = record {
+  tree = forest-cut s.config.excluded id s.objects (anchor_leaf id is) (anchor_level id is);
+  excluded = refl;
+  others = cut_keeps id s.objects;
+  least = λ m out. cut_least id s.objects m out;
+}
+
+module _ (s t : State) (id : Id) (is : is_anchor id.kind ≡ true) (left : LeavesAnchor s t id) where
+  stands : (m : List ℕ) → Stands s t m
+  stands m = record { acts = ap (λ f. is_open f m) left.tree; chain = ap (λ f. chain_of f m) left.tree; home = left.others (namespace_id m) (other_kind id (namespace_id m) is refl) }
+
+  -- its keys are those of its place
+  own_child : (m name : List ℕ) → same_id (anchor_id m name) id ≡ true → is_among (key.Child m name) (anchor_keys id) ≡ true
+  own_child m name same = subst (λ (q : Id). is_among (key.Child m name) (anchor_keys q) ≡ true) (is_same_id (anchor_id m name) id same) (child_of_anchor m name)
+
+  own_status : (m name : List ℕ) → same_id (anchor_id m name) id ≡ true → is_among (key.Anchor m name) (anchor_keys id) ≡ true
+  own_status m name same = subst (λ (q : Id). is_among (key.Anchor m name) (anchor_keys q) ≡ true) (is_same_id (anchor_id m name) id same) (status_of_anchor m name)
+
+  same_leaving : (m : List ℕ) → is_leaving (forest_of t) m ≡ is_leaving (forest_of s) m
+  same_leaving m = ap (λ f. is_leaving f m) left.tree
+
+  -- a namespace that isn't its own
+  elsewhere : (m : List ℕ) → bytes_eq m id.ns ≡ false → lies_in m id ≡ false
+  elsewhere m off = ap (λ b. not (is_in_cluster id.kind) && b) off ∙ never (not (is_in_cluster id.kind))
+    where
+      never : (b : Bool) → (b && false) ≡ false
+      never true = refl
+      never false = refl
+
+  inside : (m : List ℕ) → lies_in m id ≡ false → (q : Id) → lies_in m q ≡ true → object_at t.objects q ≡ object_at s.objects q
+  inside m out q lies = left.others q (false_from_ne_true (same_id q id) (λ h. true≢false (sym lies ∙ ap (lies_in m) (is_same_id q id h) ∙ out)))
+
+  law_by : (k : Key) → is_among k (anchor_keys id) ≡ false → is_among k (leaving_keys (forest_of s) id.ns) ≡ false → IsSameFor s t k
+  law_by (key.Copy m kind name) out stays =
+      kept_copy s t m kind name (stands m) (left.others config_id (other_kind id config_id is refl)) (λ a copied. left.others (id_in kind name a) (other_kind id (id_in kind name a) is (copied_no_anchor kind copied)))
+  law_by (key.Tree m) out stays = kept_tree s t m (stands m)
+  law_by (key.Report m) out stays = none_in_both s t (key.Report m) refl refl
+  law_by (key.Child m name) out stays = elim (cases_Bool (same_id (anchor_id m name) id)) [
+    | inl same ↦ absurd (true≢false (sym (own_child m name same) ∙ out))
+    | inr off ↦ kept_child s t m name (stands m) left.excluded (left.others (anchor_id m name) off) (ap is_some (left.others (namespace_id name) (other_kind id (namespace_id name) is refl)))
+  ]
+  law_by (key.Anchor m name) out stays = elim (cases_Bool (same_id (anchor_id m name) id)) [
+    | inl same ↦ absurd (true≢false (sym (own_status m name same) ∙ out))
+    | inr off ↦
+        let named = left.others (namespace_id name) (other_kind id (namespace_id name) is refl) in
+        let status : anchor_status t m name ≡ anchor_status s m name = λ i. status_by (is_in m (left.excluded i) || is_in name (left.excluded i)) m (named i) in
+        kept_anchor s t m name (ap (λ f. is_live f m) left.tree) (left.others (namespace_id m) (other_kind id (namespace_id m) is refl)) (left.others (anchor_id m name) off) status
+  ]
+  law_by (key.Used m name) out stays = none_in_both s t (key.Used m name) refl refl
+  law_by (key.Purge m) out stays = elim (cases_Bool (bytes_eq m id.ns)) [
+    | inl here ↦ elim (cases_Bool (is_leaving (forest_of s) m)) [
+      | inl leaves ↦ absurd (true≢false (sym (leaving_among (forest_of s) m leaves) ∙ ap (λ (n : List ℕ). is_among (key.Purge m) (leaving_keys (forest_of s) n)) (is_same m id.ns here) ∙ stays))
+      | inr still ↦ staying_both s t m still (same_leaving m ∙ still)
+    ]
+    | inr off ↦
+        let out_of = elsewhere m off in
+        kept_purge s t m (same_leaving m) (left.others (namespace_id m) (other_kind id (namespace_id m) is refl)) (inside m out_of) (left.least m out_of)
+  ]
+
+-- what is marked
+anchor_marked : (s : State) (w : Write) → is_anchor (id_written w).kind ≡ true → marks_of s w ≡ anchor_keys (id_written w) ++ leaving_keys (forest_of s) (id_written w).ns
+anchor_marked s w is = by (id_written w) is (object_at s.objects (id_written w)) (object_written w)
+  where
+    by : (id : Id) → is_anchor id.kind ≡ true → (old new : Option Object) → marks_by s (state_after s (w ∷ [])) id old new ≡ anchor_keys id ++ leaving_keys (forest_of s) id.ns
+    by id of_anchor old new = subst (λ (q : Id). marks_by s (state_after s (w ∷ [])) q old new ≡ anchor_keys q ++ leaving_keys (forest_of s) q.ns) (sym (is_anchor_place id of_anchor)) refl
+
+-- an anchor: a key that isn't marked wants what it wanted
+pub anchor_law : (s : State) (w : Write) → is_anchor (id_written w).kind ≡ true → (k : Key) → is_among k (marks_of s w) ≡ false → IsSameFor s (state_after s (w ∷ [])) k
+anchor_law s w is k out =
+    let id = id_written w in
+    let none = sym (among_append k (anchor_keys id) (leaving_keys (forest_of s) id.ns)) ∙ sym (ap (is_among k) (anchor_marked s w is)) ∙ out in
+    law_by s (state_after s (w ∷ [])) id is (leaves_anchor s w is) k (out_left (is_among k (anchor_keys id)) _ none) (out_right (is_among k (anchor_keys id)) _ none)
+
+-- ---- keys of the two states
+
+-- both of its keys are of the state where it is there, before or then
+own_keys : (s : State) (w : Write) → MayWriteAll s (w ∷ []) → is_anchor (id_written w).kind ≡ true → (k : Key) → is_among k (anchor_keys (id_written w)) ≡ true → (is_key s k || is_key (state_after s (w ∷ [])) k) ≡ true
+own_keys s (Put x) may is k mem =
+    let t = state_after s (Put x ∷ []) in
+    let place = is_anchor_place x.id is in
+    or_right (is_key s k) (is_key t k) (anchor_key t x.id.ns x.id.name x k (ap (object_at t.objects) (sym place) ∙ found_again x s.objects) (subst (λ (q : Id). is_among k (anchor_keys q) ≡ true) place mem))
+own_keys s (Cut id) may is k mem =
+    let place = is_anchor_place id is in
+    or_left (is_key s k) _ (anchor_key s id.ns id.name may.each.0.there.0 k (ap (object_at s.objects) (sym place) ∙ may.each.0.there.1) (subst (λ (q : Id). is_among k (anchor_keys q) ≡ true) place mem))
+
+-- and only keys of the two states are marked
+pub within_anchors : (s : State) (w : Write) → MayWriteAll s (w ∷ []) → is_anchor (id_written w).kind ≡ true → (k : Key) → is_among k (marks_of s w) ≡ true → may_mark s (w ∷ []) k ≡ true
+within_anchors s w may is k mem =
+    let id = id_written w in
+    not_plain (is_plain id.kind) _ (ap (λ (q : Id). is_plain q.kind) (is_anchor_place id is))
+    (elim (or_cases (is_among k (anchor_keys id)) (is_among k (leaving_keys (forest_of s) id.ns)) (sym (among_append k (anchor_keys id) (leaving_keys (forest_of s) id.ns)) ∙ sym (ap (is_among k) (anchor_marked s w is)) ∙ mem)) [
+      | inl own ↦ own_keys s w may is k own
+      | inr leaves ↦ or_left (is_key s k) _ (leaving_key s id.ns k leaves)
+    ])
+  where
+    not_plain : (b u : Bool) {v : Bool} → b ≡ false → v ≡ true → (if b then u else v) ≡ true
+    not_plain true u e h = absurd (true≢false e)
+    not_plain false u e h = h

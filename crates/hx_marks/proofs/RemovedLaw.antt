@@ -1,0 +1,164 @@
+-- The law of marks where a namespace goes that is on its way out, and in which nothing lies.
+--     removed_law        a key that isn't marked wants what it wanted
+--     within_removed     only keys of the state are marked
+use Rattle.std.proofs.Common.{◌≡◌, ℕ, Bool, true, false, cond, not, ◌&&◌, Option, Some, None, List, [], ◌∷◌, option_map, refl, sym, ap, ◌∙◌, subst, inl, inr, true≢false}
+use Rattle.std.specs.Prelude.{is_some, if◌then◌else◌, IsSomeAnd, is_none}
+use Rattle.std.specs.Cmp.{tied_itself}
+use Rattle.std.specs.List.{AllByRecursion}
+use Rattle.std.specs.Option.{option_map_or}
+use Rattle.std.specs.Str.{bytes_eq}
+use Rattle.std.proofs.lemmas.Bool.{or_cases, or_left, cases_Bool, false_from_ne_true}
+use Rattle.hx_object.specs.Kinds.{is_namespace, is_plain}
+use Rattle.hx_object.specs.declared.object.Id.{Id}
+use Rattle.hx_object.specs.declared.object.Object.{Object}
+use Rattle.hx_object.proofs.KindTests.{namespace_kind}
+use Rattle.hx_model.specs.Covered.{IsSameFor}
+use Rattle.hx_model.specs.Forest.{Forest, is_live, is_excluded, halt_of, in_chain}
+use Rattle.hx_model.specs.Keys.{same_key, is_among, is_key, touches, may_mark}
+use Rattle.hx_model.specs.Serving.{IsServed}
+use Rattle.hx_model.specs.State.{State, object_at, same_id, state_after, namespace_id}
+use Rattle.hx_model.specs.Subnamespaces.{anchor_id}
+use Rattle.hx_model.specs.Tree.{forest_of, is_terminating, node_in}
+use Rattle.hx_model.specs.TreeLabels.{is_open}
+use Rattle.hx_model.specs.Valid.{IsValid}
+use Rattle.hx_model.specs.Writes.{MayCut, MayWriteAll}
+use Rattle.hx_model.specs.declared.key.Key.{Key}
+use Rattle.hx_model.specs.declared.key.Key.TheVariants as key
+use Rattle.hx_model.specs.declared.key.Write.TheVariants.{Cut}
+use Rattle.hx_model.specs.declared.node.Node.{Node}
+use Rattle.hx_model.proofs.Climbing.{is_same, same_itself}
+use Rattle.hx_model.proofs.Displacing.{cut_keeps}
+use Rattle.hx_model.proofs.Objects.{id_total, is_same_id, same_from_Equal, found_id, object_at-cut}
+use Rattle.hx_model.proofs.Opening.{not_live}
+use Rattle.hx_model.proofs.Planting.{namespace_is_homed, node_of-objects}
+use Rattle.hx_model.proofs.Storing.{All-cut, All-found}
+use Rattle.hx_marks.specs.Law.{asking_keys, removed_marks, marks_of, namespace_marks}
+use Rattle.hx_marks.proofs.Among.{among_here, out_right}
+use Rattle.hx_marks.proofs.Asking.{asking_known, anchor_key, child_of_anchor, status_of_anchor}
+use Rattle.hx_marks.proofs.CreatedChains.{made_not_open}
+use Rattle.hx_marks.proofs.Frames.{none_in_both, cut_least}
+use Rattle.hx_marks.proofs.Keeping.{turned, closed_copy, closed_labels, closed_children, without_child, without_status, waiting_both}
+use Rattle.hx_marks.proofs.OneMore.{HasOneMore, one_more, lies_nowhere, apart_copy, apart_tree, apart_child, apart_status, apart_purge, unasked}
+use Rattle.hx_marks.proofs.Replacing.{valid_served}
+use Rattle.hx_marks.proofs.TakingPart.{open_under}
+use Rattle.hx_marks.proofs.Within.{removal_key}
+
+ended_is : (o : Option Object) → IsSomeAnd o (λ x. is_terminating x.payload ≡ true) → (x : Object) × (o ≡ Some x) × (is_terminating x.payload ≡ true)
+ended_is None h = absurd h
+ended_is (Some x) h = (x, refl, h)
+
+never : (a b : Bool) → b ≡ false → (a && b) ≡ false
+never true b e = e
+never false b e = refl
+
+module _ (s : State) (id : Id) (valid : IsValid s) (may : MayCut s id) (is : is_namespace id.kind ≡ true) where
+  abbrev t : State
+  t = state_after s (Cut id ∷ [])
+
+  abbrev n : List ℕ
+  n = id.name
+
+  abbrev f : Forest
+  f = forest_of s
+
+  abbrev g : Forest
+  g = forest_of t
+
+  served : AllByRecursion IsServed s.objects
+  served = valid_served s valid
+
+  served_then : AllByRecursion IsServed t.objects
+  served_then = All-cut IsServed id s.objects served
+
+  home : id ≡ namespace_id n
+  home =
+      let same : id ≡ may.there.0.id = found_id s.objects id may.there.0 may.there.1 in
+      same ∙ namespace_is_homed may.there.0 (All-found IsServed id may.there.0 s.objects served may.there.1) (ap (λ (q : Id). is_namespace q.kind) (sym same) ∙ is) ∙ ap (λ (q : Id). namespace_id q.name) (sym same)
+
+  gone : object_at t.objects (namespace_id n) ≡ None
+  gone = ap (object_at t.objects) (sym home) ∙ object_at-cut id s.objects id ∙ ap (λ b. cond b None (object_at s.objects id)) (same_from_Equal id id (tied_itself id_total id))
+
+  other_kind : (q : Id) → is_namespace q.kind ≡ false → object_at s.objects q ≡ object_at t.objects q
+  other_kind q leaf = sym (cut_keeps id s.objects q (false_from_ne_true (same_id q id) (λ h. true≢false (sym is ∙ sym (ap (λ (p : Id). is_namespace p.kind) (is_same_id q id h)) ∙ leaf))))
+
+  other_name : (m : List ℕ) → bytes_eq n m ≡ false → object_at s.objects (namespace_id m) ≡ object_at t.objects (namespace_id m)
+  other_name m off = sym (cut_keeps id s.objects (namespace_id m) (false_from_ne_true (same_id (namespace_id m) id) (λ h. true≢false (sym (subst (λ (q : List ℕ). bytes_eq n q ≡ true) (sym (ap (λ (p : Id). p.name) (is_same_id (namespace_id m) id h))) (same_itself n)) ∙ off))))
+
+  -- the state before it has one namespace more
+  more : HasOneMore t s n
+  more = one_more t s n served_then served refl other_kind other_name (ap is_some gone) (ap is_some (ap (object_at s.objects) (sym home) ∙ may.there.1)) (λ m. sym (cut_least id s.objects m (lies_nowhere m id is)))
+
+  -- it is on its way out before, and isn't there then
+  dead : is_live f n ≡ false
+  dead =
+      let found = ended_is (object_at s.objects (namespace_id n)) (may.leaf is).ended in
+      ap (λ o. option_map_or (λ (node : Node). not node.terminating) o false) (node_of-objects s.config.excluded s.objects n served ∙ ap (option_map (node_in s.config.excluded s.objects)) found.1) ∙ ap not found.2
+
+  missing : is_live g n ≡ false
+  missing = not_live g n more.made.absent
+
+  -- nothing below it takes part
+  shut : (m : List ℕ) → in_chain f m n ≡ true → is_open f m ≡ false
+  shut m has = open_under f n m has ∙ never _ (is_open f n) (ap (λ b. b && (not (is_excluded f n) && is_none (halt_of f n))) dead)
+
+  shut_then : (m : List ℕ) → in_chain f m n ≡ true → is_open g m ≡ false
+  shut_then m has = made_not_open g f n more.made m has
+
+  by_removed : (k : Key) → is_among k (removed_marks s n) ≡ false → IsSameFor s t k
+  by_removed (key.Copy m kind name) out = elim (cases_Bool (in_chain f m n)) [
+    | inl has ↦ closed_copy s t m kind name (shut m has) (shut_then m has)
+    | inr hasnt ↦ turned t s (key.Copy m kind name) (apart_copy t s n more m kind name hasnt)
+  ]
+  by_removed (key.Tree m) out = elim (cases_Bool (in_chain f m n)) [
+    | inl has ↦ closed_labels s t m (shut m has) (shut_then m has)
+    | inr hasnt ↦ turned t s (key.Tree m) (apart_tree t s n more m hasnt)
+  ]
+  by_removed (key.Report m) out = none_in_both s t (key.Report m) refl refl
+  by_removed (key.Child m name) out = elim (cases_Bool (in_chain f m n)) [
+    | inl has ↦ closed_children s t m name (shut m has) (shut_then m has)
+    | inr hasnt ↦ elim (cases_Bool (bytes_eq n name)) [
+      | inl same ↦ let none = unasked s.objects n m name (key.Child m name) (child_of_anchor m name) (out_right (same_key (key.Child m name) (key.Purge n)) _ out) same in without_child s t m name none (sym (other_kind (anchor_id m name) refl) ∙ none)
+      | inr off ↦ turned t s (key.Child m name) (apart_child t s n more m name hasnt off)
+    ]
+  ]
+  by_removed (key.Anchor m name) out = elim (cases_Bool (bytes_eq n m)) [
+    | inl here ↦ subst (λ (q : List ℕ). IsSameFor s t (key.Anchor q name)) (is_same n m here) (waiting_both s t n name dead missing)
+    | inr off ↦ elim (cases_Bool (bytes_eq n name)) [
+      | inl same ↦ let none = unasked s.objects n m name (key.Anchor m name) (status_of_anchor m name) (out_right (same_key (key.Anchor m name) (key.Purge n)) _ out) same in without_status s t m name none (sym (other_kind (anchor_id m name) refl) ∙ none)
+      | inr other ↦ turned t s (key.Anchor m name) (apart_status t s n more m name off other)
+    ]
+  ]
+  by_removed (key.Used m name) out = none_in_both s t (key.Used m name) refl refl
+  by_removed (key.Purge m) out = elim (cases_Bool (bytes_eq n m)) [
+    | inl here ↦ absurd (true≢false (sym (subst (λ (q : List ℕ). is_among (key.Purge q) (removed_marks s n) ≡ true) (is_same n m here) (among_here (key.Purge n) (asking_keys s.objects n))) ∙ out))
+    | inr off ↦ turned t s (key.Purge m) (apart_purge t s n more m off)
+  ]
+
+  -- what is marked
+  marks_are : marks_of s (Cut id) ≡ removed_marks s n
+  marks_are = taken (is_namespace id.kind) (namespace_marks s t n (object_at s.objects id) None) _ is ∙ ap (λ o. namespace_marks s t n o None) may.there.1
+    where
+      taken : (b : Bool) (u v : List Key) → b ≡ true → (if b then u else v) ≡ u
+      taken true u v e = refl
+      taken false u v e = absurd (true≢false (sym e))
+
+  removed_keys : (k : Key) → is_among k (removed_marks s n) ≡ true → is_key s k ≡ true
+  removed_keys k mem = elim (or_cases (same_key k (key.Purge n)) (is_among k (asking_keys s.objects n)) mem) [
+    | inl same ↦ removal_key s n k more.made.made (or_left (same_key k (key.Purge n)) false same)
+    | inr asks ↦ let found = asking_known s.objects n k valid.in_order asks in anchor_key s found.0 n found.1 k found.2 found.3
+  ]
+
+  removed_within : (k : Key) → is_among k (marks_of s (Cut id)) ≡ true → may_mark s (Cut id ∷ []) k ≡ true
+  removed_within k mem = not_plain (is_plain id.kind) (touches s id k) (ap is_plain (namespace_kind id.kind is)) (or_left (is_key s k) (is_key t k) (removed_keys k (ap (is_among k) (sym marks_are) ∙ mem)))
+    where
+      not_plain : (b u : Bool) {v : Bool} → b ≡ false → v ≡ true → (if b then u else v) ≡ true
+      not_plain true u e h = absurd (true≢false e)
+      not_plain false u e h = h
+
+-- a namespace that goes: a key that isn't marked wants what it wanted
+pub removed_law : (s : State) (id : Id) → IsValid s → MayWriteAll s (Cut id ∷ []) → is_namespace id.kind ≡ true → (k : Key) → is_among k (marks_of s (Cut id)) ≡ false → IsSameFor s (state_after s (Cut id ∷ [])) k
+removed_law s id valid may is k out = by_removed s id valid may.each.0 is k (ap (is_among k) (sym (marks_are s id valid may.each.0 is)) ∙ out)
+
+-- and only keys of the state are marked
+pub within_removed : (s : State) (id : Id) → IsValid s → MayWriteAll s (Cut id ∷ []) → is_namespace id.kind ≡ true → (k : Key) → is_among k (marks_of s (Cut id)) ≡ true → may_mark s (Cut id ∷ []) k ≡ true
+within_removed s id valid may is k mem = removed_within s id valid may.each.0 is k mem
