@@ -5,7 +5,7 @@
 --     wanted_in, wants_in       the write of a key is the wanted one of the state
 --     wants_told                whether there is one
 --     known_listed              a key that wants a write is known of a namespace that is listed
-use Rattle.std.proofs.Common.{◌≡◌, ◌≢◌, ℕ, Bool, true, false, cond, ◌&&◌, ◌||◌, ◌==◌, Option, Some, None, List, [], ◌∷◌, map, filter, refl, sym, ap, ◌∙◌, subst, true≢false}
+use Rattle.std.proofs.Common.{◌≡◌, ◌≢◌, ℕ, Bool, true, false, cond, ◌&&◌, ◌||◌, ◌==◌, Option, Some, None, List, [], ◌∷◌, ◌++◌, map, filter, refl, sym, ap, ◌∙◌, subst, true≢false}
 use Rattle.std.specs.Prelude.{is_some, is_none, not, if◌then◌else◌}
 use Rattle.std.specs.List.{list_any}
 use Rattle.std.specs.Option.{option_map_or}
@@ -15,6 +15,7 @@ use Rattle.hx_object.specs.Kinds.{number_of, is_namespace}
 use Rattle.hx_object.specs.declared.kind.Kind.{Kind}
 use Rattle.hx_object.specs.declared.kind.Kind.TheVariants.{Namespace}
 use Rattle.hx_object.specs.declared.object.Object.{Object}
+use Rattle.hx_model.specs.Cases.{is_leaving}
 use Rattle.hx_model.specs.Forest.{Forest, node_of, is_live, is_excluded, halt_of, chain_of}
 use Rattle.hx_model.specs.Keys.{is_among}
 use Rattle.hx_model.specs.State.{State, Objects}
@@ -26,17 +27,18 @@ use Rattle.hx_model.specs.declared.key.Key.TheVariants as key
 use Rattle.hx_model.specs.declared.key.Write.{Write}
 use Rattle.hx_model.specs.declared.node.Node.{Node}
 use Rattle.hx_model.proofs.Climbing.{is_same}
+use Rattle.hx_marks.proofs.Among.{among_append, among_here}
 use Rattle.hx_marks.proofs.Wanting.{all_known}
-use Rattle.hx_marks.specs.Law.{all_of}
+use Rattle.hx_marks.specs.Law.{all_of, known_of, leaving_keys, status_keys}
 use Rattle.hx_rules.specs.Briefs.{StandsFor, facts_of, planned, planned_by}
 use Rattle.hx_rules.specs.declared.brief.Brief.{Brief}
 use Rattle.hx_rules.specs.declared.brief.Facts.{Facts}
 use Rattle.hx_briefs.specs.Briefing.{facts_by, guards_by}
-use Rattle.hx_briefs.specs.Wants.{HasTree, known_of, namespaces, wants_by}
+use Rattle.hx_briefs.specs.Wants.{HasTree, namespaces, wants_by}
 
 -- ---- what is copied out
 
-facts_here : (s : State) (k : Key) → facts_by s.objects (forest_of s) k ≡ facts_of s k
+facts_here : (s : State) (k : Key) → facts_by s.config.excluded s.objects (forest_of s) k ≡ facts_of s k
 facts_here s (key.Copy n kind name) = refl
 facts_here s (key.Tree n) = refl
 facts_here s (key.Report n) = refl
@@ -54,18 +56,18 @@ guards_here s (key.Anchor n name) = refl
 guards_here s (key.Used n name) = refl
 guards_here s (key.Purge n) = refl
 
-pub facts_same : (objects : Objects) (f : Forest) (s : State) (k : Key) → HasTree objects f s → facts_by objects f k ≡ facts_of s k
-facts_same objects f s k has = sym (λ i. facts_by (has.objects i) (has.tree i) k) ∙ facts_here s k
+pub facts_same : (excluded : List (List ℕ)) (objects : Objects) (f : Forest) (s : State) (k : Key) → HasTree excluded objects f s → facts_by excluded objects f k ≡ facts_of s k
+facts_same excluded objects f s k has = sym (λ i. facts_by (has.excludes i) (has.objects i) (has.tree i) k) ∙ facts_here s k
 
 pub guards_same : (objects : Objects) (s : State) (k : Key) → s.objects ≡ objects → guards_by objects k ≡ guards_of s k
 guards_same objects s k same = sym (ap (λ (o : Objects). guards_by o k) same) ∙ guards_here s k
 
-pub stands_for : (objects : Objects) (version : ℕ) (f : Forest) (s : State) (k : Key) (b : Brief) → HasTree objects f s → s.last ≡ version
-    → b.key ≡ k → b.seen ≡ version → b.guards ≡ guards_by objects k → b.facts ≡ facts_by objects f k → StandsFor b s
-stands_for objects version f s k b has last key seen guards facts = record {
+pub stands_for : (excluded : List (List ℕ)) (objects : Objects) (version : ℕ) (f : Forest) (s : State) (k : Key) (b : Brief) → HasTree excluded objects f s → s.last ≡ version
+    → b.key ≡ k → b.seen ≡ version → b.guards ≡ guards_by objects k → b.facts ≡ facts_by excluded objects f k → StandsFor b s
+stands_for excluded objects version f s k b has last key seen guards facts = record {
   seen = seen ∙ sym last;
   guards = guards ∙ guards_same objects s k has.objects ∙ ap (guards_of s) (sym key);
-  facts = facts ∙ facts_same objects f s k has ∙ ap (facts_of s) (sym key);
+  facts = facts ∙ facts_same excluded objects f s k has ∙ ap (facts_of s) (sym key);
 }
 
 -- ---- what is wanted
@@ -83,16 +85,16 @@ wanted_here s (key.Purge n) = refl
 pub planned_for : (bare given : Brief) (k : Key) (facts : Facts) (write : Option Write) → write ≡ planned_by given → given ≡ bare → bare.key ≡ k → bare.facts ≡ facts → write ≡ planned k facts
 planned_for bare given k facts write planned_so same key found = planned_so ∙ ap planned_by same ∙ (λ i. planned (key i) (found i))
 
-pub wanted_in : (objects : Objects) (f : Forest) (s : State) (k : Key) → HasTree objects f s → planned k (facts_by objects f k) ≡ wanted_write s k
-wanted_in objects f s k has = ap (planned k) (facts_same objects f s k has) ∙ wanted_here s k
+pub wanted_in : (excluded : List (List ℕ)) (objects : Objects) (f : Forest) (s : State) (k : Key) → HasTree excluded objects f s → planned k (facts_by excluded objects f k) ≡ wanted_write s k
+wanted_in excluded objects f s k has = ap (planned k) (facts_same excluded objects f s k has) ∙ wanted_here s k
 
-pub wants_in : (objects : Objects) (f : Forest) (s : State) (k : Key) → HasTree objects f s → wants_by objects f k ≡ is_some (wanted_write s k)
+pub wants_in : (excluded : List (List ℕ)) (objects : Objects) (f : Forest) (s : State) (k : Key) → HasTree excluded objects f s → wants_by excluded objects f k ≡ is_some (wanted_write s k)
 unfolding wants_by
-wants_in objects f s k has = ap is_some (wanted_in objects f s k has)
+wants_in excluded objects f s k has = ap is_some (wanted_in excluded objects f s k has)
 
-pub wants_told : (objects : Objects) (f : Forest) (k : Key) (r : Bool) (write : Option Write) → r ≡ is_some write → write ≡ planned k (facts_by objects f k) → r ≡ wants_by objects f k
+pub wants_told : (excluded : List (List ℕ)) (objects : Objects) (f : Forest) (k : Key) (r : Bool) (write : Option Write) → r ≡ is_some write → write ≡ planned k (facts_by excluded objects f k) → r ≡ wants_by excluded objects f k
 unfolding wants_by
-wants_told objects f k r write told is = told ∙ ap is_some is
+wants_told excluded objects f k r write told is = told ∙ ap is_some is
 
 -- ---- namespaces that are listed
 
@@ -120,10 +122,55 @@ live_there (Some node) h = refl
 open_there : (f : Forest) (m : List ℕ) → is_open f m ≡ true → is_some (node_of f m) ≡ true
 open_there f m acts = live_there (node_of f m) (and_parts (is_live f m) (not (is_excluded f m) && is_none (halt_of f m)) acts).0
 
-pub known_listed : (s : State) (k : Key) → wanted_write s k ≢ None → list_any (λ (x : Object). is_among k (known_of s.objects (forest_of s) x.id.name)) (namespaces s.objects) ≡ true
-known_listed s k wants =
-    let known = all_known s k wants in
-    let m = known.0 in
-    let t : List ℕ → Bool = λ n. is_among k (known_of s.objects (forest_of s) n) in
-    let passes : t m ≡ true = ap (λ b. is_among k (if b then all_of s.objects (chain_of (forest_of s) m) m else [])) known.1 ∙ known.2 in
-    ap (λ (xs : List Object). list_any (λ (x : Object). t x.id.name) xs) (namespaces_are s.objects) ∙ listed_passes (node_in s.config.excluded s.objects) t m (namespaces_in s.objects) (open_there (forest_of s) m known.1) passes
+leaving_there : (o : Option Node) → option_map_or (λ (node : Node). node.terminating) o false ≡ true → is_some o ≡ true
+leaving_there None h = h
+leaving_there (Some node) h = refl
+
+-- ---- keys that are known
+
+module _ (s : State) where
+  -- a key is known of some namespace
+  abbrev IsListed : Key → Type 0
+  IsListed k = list_any (λ (x : Object). is_among k (known_of s.objects (forest_of s) x.id.name)) (namespaces s.objects) ≡ true
+
+  -- the keys of a namespace, where it takes part
+  abbrev open_keys : List ℕ → List Key
+  open_keys m = if is_open (forest_of s) m then all_of s.objects (chain_of (forest_of s) m) m else []
+
+  module _ (k : Key) (m : List ℕ) where
+    listed : is_some (node_of (forest_of s) m) ≡ true → is_among k (known_of s.objects (forest_of s) m) ≡ true → IsListed k
+    listed there known =
+        ap (λ (xs : List Object). list_any (λ (x : Object). is_among k (known_of s.objects (forest_of s) x.id.name)) xs) (namespaces_are s.objects)
+        ∙ listed_passes (node_in s.config.excluded s.objects) (λ n. is_among k (known_of s.objects (forest_of s) n)) m (namespaces_in s.objects) there known
+
+    -- a status or a removal
+    behind : is_among k (status_keys s.objects m ++ leaving_keys (forest_of s) m) ≡ true → is_among k (known_of s.objects (forest_of s) m) ≡ true
+    behind mem = among_append k (open_keys m) (status_keys s.objects m ++ leaving_keys (forest_of s) m) ∙ or_right (is_among k (open_keys m)) (is_among k (status_keys s.objects m ++ leaving_keys (forest_of s) m)) mem
+
+    open_listed : is_open (forest_of s) m ≡ true → is_among k (all_of s.objects (chain_of (forest_of s) m) m) ≡ true → IsListed k
+    open_listed acts mem =
+        listed (open_there (forest_of s) m acts)
+        (among_append k (open_keys m) (status_keys s.objects m ++ leaving_keys (forest_of s) m)
+        ∙ or_left (is_among k (open_keys m)) (is_among k (status_keys s.objects m ++ leaving_keys (forest_of s) m)) (ap (λ b. is_among k (if b then all_of s.objects (chain_of (forest_of s) m) m else [])) acts ∙ mem))
+
+    status_listed : is_live (forest_of s) m ≡ true → is_among k (status_keys s.objects m) ≡ true → IsListed k
+    status_listed live mem =
+        listed (live_there (node_of (forest_of s) m) live)
+        (behind (among_append k (status_keys s.objects m) (leaving_keys (forest_of s) m) ∙ or_left (is_among k (status_keys s.objects m)) (is_among k (leaving_keys (forest_of s) m)) mem))
+
+  removal_listed : (m : List ℕ) → is_leaving (forest_of s) m ≡ true → IsListed (key.Purge m)
+  removal_listed m leaves =
+      let k = key.Purge m in
+      listed k m (leaving_there (node_of (forest_of s) m) leaves)
+      (behind k m
+      (among_append k (status_keys s.objects m) (leaving_keys (forest_of s) m)
+      ∙ or_right (is_among k (status_keys s.objects m)) (is_among k (leaving_keys (forest_of s) m)) (ap (λ b. is_among k (if b then k ∷ [] else [])) leaves ∙ among_here k [])))
+
+  pub known_listed : (k : Key) → wanted_write s k ≢ None → IsListed k
+  known_listed (key.Copy n kind name) wants = let known = all_known s (key.Copy n kind name) wants in open_listed (key.Copy n kind name) known.0 known.1 known.2
+  known_listed (key.Tree n) wants = let known = all_known s (key.Tree n) wants in open_listed (key.Tree n) known.0 known.1 known.2
+  known_listed (key.Report n) wants = absurd (wants refl)
+  known_listed (key.Child n name) wants = let known = all_known s (key.Child n name) wants in open_listed (key.Child n name) known.0 known.1 known.2
+  known_listed (key.Anchor n name) wants = let known = all_known s (key.Anchor n name) wants in status_listed (key.Anchor n name) n known.0 known.1
+  known_listed (key.Used n name) wants = absurd (wants refl)
+  known_listed (key.Purge n) wants = removal_listed n (all_known s (key.Purge n) wants)

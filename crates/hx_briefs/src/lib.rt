@@ -2,7 +2,13 @@
 #![tactic(auto)]
 
 mod briefs;
+mod facts;
+mod guards;
+mod lookups;
 mod marking;
+mod sources;
 
-pub use briefs::{brief_of, facts_of, guards_of};
+pub use briefs::brief_of;
+pub use facts::facts_of;
+pub use guards::guards_of;
 pub use marking::{mark_wanting, wants};

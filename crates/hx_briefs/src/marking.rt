@@ -7,33 +7,39 @@ ghost use Rattle.hx_rules.specs.Briefs.{planned};
 ghost use Rattle.hx_briefs.specs.Briefing.{facts_by};
 ghost use Rattle.hx_briefs.specs.Wants.{HasTree, AreMarked, namespaces, wants_by, wanting_of, wanting_in};
 
-use crate::briefs::facts_of;
+use crate::briefs::copy_of;
+use crate::facts::facts_of;
 use hx_forest::Forest;
 use hx_marks::keys_of;
-use hx_model::Key;
+use hx_model::{Key, RunConfig};
 use hx_object::{Kind, List, NoMemory, Shared, Text};
 use hx_queue::Workers;
 use hx_rules::{Brief, Plan, SharedBrief, plan};
 use hx_store::Store;
 
 /// Marks the keys that want a write, and no other ones.
-pub fn mark_wanting(store: &Store, forest: &Forest, workers: &mut Workers) -> Result<(), NoMemory>
+pub fn mark_wanting(
+    store: &Store,
+    forest: &Forest,
+    config: &RunConfig,
+    workers: &mut Workers,
+) -> Result<(), NoMemory>
     requires { workers.old.seen ≡ no_work }
-    ensures { OnOk result ((s : State) → HasTree store.now.objects forest.now.nodes s → AreMarked s workers.new.seen) }
+    ensures { OnOk result ((s : State) → HasTree config.now.excluded store.now.objects forest.now.nodes s → AreMarked s workers.new.seen) }
 {
-    let wanting = wanting_keys(store, forest)?;
+    let wanting = wanting_keys(store, forest, config)?;
     workers.reserve(wanting.len())?;
     workers.mark_all(wanting);
     Ok(())
 }
 
 /// The keys that want a write.
-fn wanting_keys(store: &Store, forest: &Forest) -> Result<Vec<Key>, NoMemory>
-    ensures { IfOk result (λ keys. keys.items ≡ wanting_in store.now.objects forest.now.nodes (namespaces store.now.objects)) }
+fn wanting_keys(store: &Store, forest: &Forest, config: &RunConfig) -> Result<Vec<Key>, NoMemory>
+    ensures { IfOk result (λ keys. keys.items ≡ wanting_in config.now.excluded store.now.objects forest.now.nodes (namespaces store.now.objects)) }
 {
     let mut wanting = Vec::new(store.allocator());
     let namespaces = store.list(Kind::Namespace, None)?;
-    push_all(&mut wanting, store, forest, namespaces.as_slice())?;
+    push_all(&mut wanting, store, forest, config, namespaces.as_slice())?;
     Ok(wanting)
 }
 
@@ -42,12 +48,13 @@ fn push_all(
     wanting: &mut Vec<Key>,
     store: &Store,
     forest: &Forest,
+    config: &RunConfig,
     namespaces: &[Shared],
 ) -> Result<(), NoMemory>
-    ensures { OnOk result (wanting.new.items ≡ wanting.old.items ++ wanting_in store.now.objects forest.now.nodes namespaces.now) }
+    ensures { OnOk result (wanting.new.items ≡ wanting.old.items ++ wanting_in config.now.excluded store.now.objects forest.now.nodes namespaces.now) }
 {
     for namespace in namespaces {
-        push_wanting(wanting, store, forest, &namespace.object().id.name)?;
+        push_wanting(wanting, store, forest, config, &namespace.object().id.name)?;
     }
     Ok(())
 }
@@ -57,12 +64,13 @@ fn push_wanting(
     wanting: &mut Vec<Key>,
     store: &Store,
     forest: &Forest,
+    config: &RunConfig,
     name: &Text,
 ) -> Result<(), NoMemory>
-    ensures { OnOk result (wanting.new.items ≡ wanting.old.items ++ wanting_of store.now.objects forest.now.nodes name.now) }
+    ensures { OnOk result (wanting.new.items ≡ wanting.old.items ++ wanting_of config.now.excluded store.now.objects forest.now.nodes name.now) }
 {
     let known = keys_of(store, forest, name)?;
-    keep_wanting(wanting, store, forest, known)
+    keep_wanting(wanting, store, forest, config, known)
 }
 
 /// Adds those of some keys that want a write.
@@ -70,12 +78,13 @@ fn keep_wanting(
     wanting: &mut Vec<Key>,
     store: &Store,
     forest: &Forest,
+    config: &RunConfig,
     keys: Vec<Key>,
 ) -> Result<(), NoMemory>
-    ensures { OnOk result (wanting.new.items ≡ wanting.old.items ++ filter (wants_by store.now.objects forest.now.nodes) keys.items) }
+    ensures { OnOk result (wanting.new.items ≡ wanting.old.items ++ filter (wants_by config.now.excluded store.now.objects forest.now.nodes) keys.items) }
 {
     for key in keys {
-        if wants(store, forest, &key)? {
+        if wants(store, forest, config, &key)? {
             wanting.push(key)?;
         }
     }
@@ -83,19 +92,24 @@ fn keep_wanting(
 }
 
 /// Whether a key wants a write.
-pub fn wants(store: &Store, forest: &Forest, key: &Key) -> Result<bool, NoMemory>
-    ensures by { IfOk result (λ wants. wants ≡ wants_by store.now.objects forest.now.nodes key.now) }
-    ensures of_states { IfOk result (λ wants. (s : State) → HasTree store.now.objects forest.now.nodes s → wants ≡ is_some (wanted_write s key.now)) }
+pub fn wants(
+    store: &Store,
+    forest: &Forest,
+    config: &RunConfig,
+    key: &Key,
+) -> Result<bool, NoMemory>
+    ensures by { IfOk result (λ wants. wants ≡ wants_by config.now.excluded store.now.objects forest.now.nodes key.now) }
+    ensures of_states { IfOk result (λ wants. (s : State) → HasTree config.now.excluded store.now.objects forest.now.nodes s → wants ≡ is_some (wanted_write s key.now)) }
 {
-    let made = plan_of(store, forest, key)?;
+    let made = plan_of(store, forest, config, key)?;
     Ok(does_write(&made))
 }
 
 /// What a key's plan writes now. It has no guards, since it is looked at alone.
-fn plan_of(store: &Store, forest: &Forest, key: &Key) -> Result<Plan, NoMemory>
-    ensures { IfOk result (λ made. made.write ≡ planned key.now (facts_by store.now.objects forest.now.nodes key.now)) }
+fn plan_of(store: &Store, forest: &Forest, config: &RunConfig, key: &Key) -> Result<Plan, NoMemory>
+    ensures { IfOk result (λ made. made.write ≡ planned key.now (facts_by config.now.excluded store.now.objects forest.now.nodes key.now)) }
 {
-    let brief = SharedBrief::new(store.allocator(), bare_brief(store, forest, key)?)?;
+    let brief = SharedBrief::new(store.allocator(), bare_brief(store, forest, config, key)?)?;
     match plan(store.allocator(), brief) {
         Ok(made) => Ok(made),
         Err(_brief) => Err(NoMemory),
@@ -103,15 +117,20 @@ fn plan_of(store: &Store, forest: &Forest, key: &Key) -> Result<Plan, NoMemory>
 }
 
 /// What the plan of a key is made from, without its guards.
-fn bare_brief(store: &Store, forest: &Forest, key: &Key) -> Result<Brief, NoMemory>
+fn bare_brief(
+    store: &Store,
+    forest: &Forest,
+    config: &RunConfig,
+    key: &Key,
+) -> Result<Brief, NoMemory>
     ensures key { IfOk result (λ b. b.key ≡ key.now) }
-    ensures facts { IfOk result (λ b. b.facts ≡ facts_by store.now.objects forest.now.nodes key.now) }
+    ensures facts { IfOk result (λ b. b.facts ≡ facts_by config.now.excluded store.now.objects forest.now.nodes key.now) }
 {
     Ok(Brief {
-        key: key.clone()?,
+        key: copy_of(key)?,
         seen: store.version(),
         guards: List::of(Vec::new(store.allocator())),
-        facts: facts_of(store, forest, key)?,
+        facts: facts_of(store, forest, config, key)?,
     })
 }
 
