@@ -1,12 +1,13 @@
 -- The numbers of what is limited, write by write.
 --     stored_found     what is found is stored
 --     agrees_seen      the agreement of what is inside, as it is seen
+--     agrees_named     objects with which indexes agree have names that can be counted
 --     small_legal      a legal object isn't too large
 --     is_part          the numbers have those of what is found
 --     valid_agrees     objects with which indexes agree are valid
 --     counted          the numbers after a write
 --     listed_legal     what is listed is legal
-use Rattle.std.proofs.Common.{◌≡◌, ◌≤◌, ◌+◌, ℕ, Bool, true, false, cond, not, nat_lt, List, [], ◌∷◌, None, Some, Option, refl, sym, ap, subst, ◌∙◌, arith, sum_by, ltb-false, filter, length}
+use Rattle.std.proofs.Common.{◌≡◌, ◌≤◌, ◌+◌, ℕ, Bool, true, false, cond, not, nat_lt, List, [], ◌∷◌, None, Some, Option, refl, ap, subst, arith, sum_by, ltb-false, filter, length}
 use Rattle.std.specs.Prelude.{if◌then◌else◌}
 use Rattle.std.specs.List.{AllByRecursion}
 use Rattle.hx_object.specs.Faults.{IsLegal, object_fault, has_legal_names, has_legal_labels, most_labels}
@@ -20,20 +21,21 @@ use Rattle.hx_select.specs.Selectors.{selects}
 use Rattle.hx_select.specs.declared.selector.Selector.{Selector}
 use Rattle.hx_model.specs.Answers.{is_listed, selected}
 use Rattle.hx_model.specs.Forest.{Forest}
-use Rattle.hx_model.specs.Limits.{part_of, namespace_one, counted_one, counted_size, names_in, objects_in, bytes_in}
+use Rattle.hx_model.specs.Limits.{part_of, counted_one, counted_size, names_in, objects_in, bytes_in}
 use Rattle.hx_model.specs.Serving.{IsServed}
 use Rattle.hx_model.specs.State.{State, Objects, object_at, ascends, after_writes}
 use Rattle.hx_model.specs.Valid.{IsStored, IsValid}
 use Rattle.hx_model.specs.declared.config.RunConfig.{RunConfig}
 use Rattle.hx_model.specs.declared.key.Write.{Write}
 use Rattle.hx_model.specs.declared.key.Write.TheVariants.{Put, Cut}
-use Rattle.hx_model.proofs.Counting.{names_served}
+use Rattle.hx_model.proofs.Naming.{AreNamed, named_valid}
 use Rattle.hx_model.proofs.Objects.{sum-put, sum-cut}
 use Rattle.hx_model.proofs.Storing.{All-found}
 use Rattle.hx_store.specs.Changes.{id_of, object_of}
-use Rattle.hx_admit.specs.Counting.{Counts, IsPart, counts_of}
+use Rattle.hx_admit.specs.Counting.{Counts, IsPart, counts_of, come, gone}
 use Rattle.hx_admit.specs.StateView.{StateView, Agrees, state_in}
 use Rattle.hx_admit.specs.declared.limits.LimitCounts.{LimitCounts}
+use Rattle.hx_admit.specs.declared.names.NameChange.{NameChange}
 
 -- ---- stored objects
 
@@ -53,7 +55,7 @@ legal_among p (x ∷ xs) all = elim (p x) as (λ b. AllByRecursion IsLegal (cond
 pub valid_served : (s : State) → IsValid s → AllByRecursion IsServed s.objects
 valid_served s valid = all_served s.last s.objects valid.stored
 
-module _ (config : RunConfig) (objects : Objects) (last : ℕ) (counts : LimitCounts) (nodes : Forest) (agrees : Agrees config objects last counts nodes) where
+module _ (config : RunConfig) (objects : Objects) (last : ℕ) (counts : LimitCounts) (nodes owners : Forest) (agrees : Agrees config objects last counts nodes owners) where
   pub stored_found : (id : Id) (x : Object) → object_at objects id ≡ Some x → IsStored last x
   stored_found id x e = All-found (IsStored last) id x objects agrees.stored e
 
@@ -64,14 +66,17 @@ module _ (config : RunConfig) (objects : Objects) (last : ℕ) (counts : LimitCo
   pub valid_agrees : IsValid (record { objects = objects; last = last; config = config })
   valid_agrees = record { in_order = agrees.in_order; stored = agrees.stored; housed = agrees.housed; fits = agrees.fits }
 
+  pub agrees_named : AreNamed objects
+  agrees_named = named_valid _ valid_agrees
+
   -- what is listed is legal
   pub listed_legal : (kind : Kind) (ns : Option (List ℕ)) (selector : Selector) → AllByRecursion IsLegal (selected kind ns selector objects)
   listed_legal kind ns selector = legal_among (λ (x : Object). selects selector x.labels) _ (legal_among (is_listed kind ns) objects (all_legal objects agrees_served))
 
 -- the agreement of what is inside, as it is seen
-pub agrees_seen : {config : RunConfig} {objects : Objects} {last : ℕ} {staged : List Write} {counts : LimitCounts} {nodes : Forest} {seen : StateView} → record { state = state_in config objects last; staged = staged } ≡ seen → Agrees config objects last counts nodes
-    → Agrees seen.state.config seen.state.objects seen.state.last counts nodes
-agrees_seen {counts = counts} {nodes = nodes} same agrees = subst (λ (v : StateView). Agrees v.state.config v.state.objects v.state.last counts nodes) same agrees
+pub agrees_seen : {config : RunConfig} {objects : Objects} {last : ℕ} {staged : List Write} {counts : LimitCounts} {nodes owners : Forest} {seen : StateView} → record { state = state_in config objects last; staged = staged } ≡ seen → Agrees config objects last counts nodes owners
+    → Agrees seen.state.config seen.state.objects seen.state.last counts nodes owners
+agrees_seen {counts = counts} {nodes = nodes} {owners = owners} same agrees = subst (λ (v : StateView). Agrees v.state.config v.state.objects v.state.last counts nodes owners) same agrees
 
 -- ---- sizes
 
@@ -91,16 +96,12 @@ small_legal x legal = small_sound x legal.sound
 
 -- ---- numbers
 
-names_are : (objects : Objects) (counts : LimitCounts) → AllByRecursion IsServed objects → counts ≡ counts_of objects → counts.names ≡ sum_by namespace_one objects
-names_are objects counts served numbers = ap (λ (c : LimitCounts). c.names) numbers ∙ names_served objects served
-
 part_fits : (f : Object → ℕ) (id : Id) (objects : Objects) → ascends objects ≡ true → part_of f (object_at objects id) ≤ sum_by f objects
 part_fits f id objects h = omega (arith, sum-cut f id objects h)
 
-pub is_part : (objects : Objects) (counts : LimitCounts) (id : Id) (found : Option Object) → ascends objects ≡ true → AllByRecursion IsServed objects → counts ≡ counts_of objects → object_at objects id ≡ found → IsPart found counts
-is_part objects counts id found up served numbers e =
+pub is_part : (objects : Objects) (counts : LimitCounts) (id : Id) (found : Option Object) → ascends objects ≡ true → counts ≡ counts_of objects → object_at objects id ≡ found → IsPart found counts
+is_part objects counts id found up numbers e =
     subst (λ (o : Option Object). IsPart o counts) e (record {
-      names = omega (arith, part_fits namespace_one id objects up, names_are objects counts served numbers);
       objects = omega (arith, part_fits counted_one id objects up, ap (λ (c : LimitCounts). c.objects) numbers);
       bytes = omega (arith, part_fits counted_size id objects up, ap (λ (c : LimitCounts). c.bytes) numbers);
     })
@@ -111,11 +112,10 @@ sum-write f (Put x) objects up = sum-put f x objects up
 sum-write f (Cut id) objects up = omega (arith, sum-cut f id objects up)
 
 -- the numbers after a write
-pub counted : (w : Write) (objects : Objects) (before after : LimitCounts) → ascends objects ≡ true → AllByRecursion IsServed objects → AllByRecursion IsServed (after_writes (w ∷ []) objects) → before ≡ counts_of objects
-    → Counts (object_at objects (id_of w)) (object_of w) before after → after ≡ counts_of (after_writes (w ∷ []) objects)
-counted w objects before after up served served' numbers moves =
-    let named : after.names ≡ names_in (after_writes (w ∷ []) objects) =
-    omega (arith, sum-write namespace_one w objects up, moves.names, names_are objects before served numbers) ∙ sym (names_served (after_writes (w ∷ []) objects) served') in
+pub counted : (w : Write) (objects : Objects) (name : NameChange) (before after : LimitCounts) → ascends objects ≡ true → before ≡ counts_of objects
+    → names_in (after_writes (w ∷ []) objects) + gone name ≡ names_in objects + come name → Counts (object_at objects (id_of w)) (object_of w) name before after → after ≡ counts_of (after_writes (w ∷ []) objects)
+counted w objects name before after up numbers named moves =
+    let names' : after.names ≡ names_in (after_writes (w ∷ []) objects) = omega (arith, named, moves.names, ap (λ (c : LimitCounts). c.names) numbers) in
     let objects' : after.objects ≡ objects_in (after_writes (w ∷ []) objects) = omega (arith, sum-write counted_one w objects up, moves.objects, ap (λ (c : LimitCounts). c.objects) numbers) in
     let bytes' : after.bytes ≡ bytes_in (after_writes (w ∷ []) objects) = omega (arith, sum-write counted_size w objects up, moves.bytes, ap (λ (c : LimitCounts). c.bytes) numbers) in
-    λ i. record { names = named i; objects = objects' i; bytes = bytes' i }
+    λ i. record { names = names' i; objects = objects' i; bytes = bytes' i }

@@ -18,7 +18,7 @@ use Rattle.hx_admit.specs.Planning.{IsPlan, MayMakeAll}
 use Rattle.hx_store.specs.Kept.{StoreView}
 use Rattle.hx_admit.specs.StateView.{Agrees, IsIndexed, state_in}
 use Rattle.hx_admit.specs.declared.limits.LimitCounts.{LimitCounts}
-use Rattle.hx_admit.proofs.Staging.{alone_distinct, alone_apart, grown_tree}
+use Rattle.hx_admit.proofs.Staging.{alone_distinct, alone_apart, alone_naming, grown_tree, grown_owners}
 
 module _ (s : State) (x : Object) (stored : IsStored s.last x) where
   -- one that isn't there may be planned by itself
@@ -27,29 +27,32 @@ module _ (s : State) (x : Object) (stored : IsStored s.last x) where
     each = ((stored.served, λ is. subst (λ (o : Option Object). IfSome o (λ old. KeepsItsPlace old x)) (sym new) tt), tt);
     distinct = alone_distinct x.id;
     apart = alone_apart x.id;
+    naming = alone_naming s.objects (Put x);
   })
 
   -- the agreement once it is there: the last version stays
-  agrees_loaded : (counts counts' : LimitCounts) (nodes : Forest) (tree : List TreeChange) → Agrees s.config s.objects s.last counts nodes → has_home s.objects x.id ≡ true → IsPlan s (Put x ∷ []) counts' tree → Agrees s.config (put x s.objects) s.last counts' (changed_by_all tree nodes)
-  agrees_loaded counts counts' nodes tree agrees home plan = record {
+  agrees_loaded : (counts counts' : LimitCounts) (nodes owners : Forest) (tree own : List TreeChange) → Agrees s.config s.objects s.last counts nodes owners → has_home s.objects x.id ≡ true → IsPlan s (Put x ∷ []) counts' tree own
+      → Agrees s.config (put x s.objects) s.last counts' (changed_by_all tree nodes) (changed_by_all own owners)
+  agrees_loaded counts counts' nodes owners tree own agrees home plan = record {
     in_order = plan.in_order;
     stored = All-put (IsStored s.last) x s.objects stored agrees.stored;
     housed = housed-put x s.objects home agrees.housed;
     fits = agrees.fits;
     numbers = plan.numbers;
-    planted = grown_tree s (Put x ∷ []) counts counts' nodes tree agrees plan;
+    planted = grown_tree s (Put x ∷ []) counts counts' nodes owners tree own agrees plan;
+    owned = grown_owners s (Put x ∷ []) counts counts' nodes owners tree own agrees plan;
   }
 
 -- the indexes once it is there
-pub indexed_loaded : (config : RunConfig) (store store' : StoreView) (counts next next' : LimitCounts) (forest forest' : ForestView) (tree : List TreeChange) (s : State) (x : Object) (ws : List Write)
-    → IsIndexed config store counts next forest → state_in config store.objects store.version ≡ s → IsStored s.last x → has_home s.objects x.id ≡ true → ws ≡ Put x ∷ [] → IsPlan s ws next' tree
-    → store'.objects ≡ after_writes ws store.objects → store'.version ≡ store.version → store'.staged ≡ [] → forest'.nodes ≡ changed_by_all tree forest.nodes
-    → IsIndexed config store' next' next forest'
-indexed_loaded config store store' counts next next' forest forest' tree s x ws indexed same stored home is plan objects version none nodes =
+pub indexed_loaded : (config : RunConfig) (store store' : StoreView) (counts next next' : LimitCounts) (forest forest' owners owners' : ForestView) (tree own : List TreeChange) (s : State) (x : Object) (ws : List Write)
+    → IsIndexed config store counts next forest owners → state_in config store.objects store.version ≡ s → IsStored s.last x → has_home s.objects x.id ≡ true → ws ≡ Put x ∷ [] → IsPlan s ws next' tree own
+    → store'.objects ≡ after_writes ws store.objects → store'.version ≡ store.version → store'.staged ≡ [] → forest'.nodes ≡ changed_by_all tree forest.nodes → owners'.nodes ≡ changed_by_all own owners.nodes
+    → IsIndexed config store' next' next forest' owners'
+indexed_loaded config store store' counts next next' forest forest' owners owners' tree own s x ws indexed same stored home is plan objects version none nodes nodes' =
     let t = state_in config store.objects store.version in
-    let planned : IsPlan t (Put x ∷ []) next' tree = subst (λ ws. IsPlan t ws next' tree) is (subst (λ s. IsPlan s ws next' tree) (sym same) plan) in
-    let loaded = agrees_loaded t x (subst (λ (s : State). IsStored s.last x) (sym same) stored) counts next' forest.nodes tree indexed.now (subst (λ (s : State). has_home s.objects x.id ≡ true) (sym same) home) planned in
+    let planned : IsPlan t ws next' tree own = subst (λ s. IsPlan s ws next' tree own) (sym same) plan in
+    let loaded = agrees_loaded t x (subst (λ (s : State). IsStored s.last x) (sym same) stored) counts next' forest.nodes owners.nodes tree own indexed.now (subst (λ (s : State). has_home s.objects x.id ≡ true) (sym same) home) (subst (λ ws. IsPlan t ws next' tree own) is planned) in
     record {
-      now = rw (objects, version, nodes, is) loaded;
+      now = rw (objects, version, nodes, nodes', is) loaded;
       then = λ some. absurd (some none);
     }

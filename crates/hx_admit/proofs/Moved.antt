@@ -88,7 +88,7 @@ and_true false = refl
 no_chain : (objects : Objects) (m : List ℕ) (before : List (List ℕ)) → overwrites_in objects m [] before ≡ false
 no_chain objects m before = none_pass (overwrites_kind objects m [] before) copied_kinds (λ kind. none_pass (is_newly_met objects m [] before) (filter (is_listed kind (Some m)) objects) (λ x. and_false (is_source x)))
 
-any_in_filter : {A : Type 0} (p q : A → Bool) (xs : List A) → list_any p (filter q xs) ≡ list_any (λ x. q x && p x) xs
+pub any_in_filter : {A : Type 0} (p q : A → Bool) (xs : List A) → list_any p (filter q xs) ≡ list_any (λ x. q x && p x) xs
 any_in_filter p q [] = refl
 any_in_filter p q (x ∷ xs) = elim (q x) as (λ b. list_any p (cond b (x ∷ filter q xs) (filter q xs)) ≡ ((b && p x) || list_any (λ y. q y && p y) xs)) [
   | true ↦ ap (λ b. p x || b) (any_in_filter p q xs)

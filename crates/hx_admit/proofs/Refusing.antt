@@ -4,40 +4,42 @@
 --     replace_first, replace_rest      a PUT of another version or against a rule, and what is left
 --     replace_two                      its version and its rules, by what was checked
 --     replace_unchanged, replace_grown     one that changes nothing, and one that does
+--     bytes_stay                       namespaces that begin to leave and objects that go add no bytes
 --     delete_ruled, delete_rest        a DELETE against a rule, and what is left
-use Rattle.std.proofs.Common.{◌≡◌, ◌<◌, ◌≤◌, ◌+◌, ◌-◌, ℕ, Bool, true, false, not, ◌&&◌, ◌||◌, nat_lt, nat_le, List, [], ◌∷◌, None, Some, Option, IfSome, refl, sym, ap, subst, ◌∙◌, arith, le-ltb, option_map}
-use Rattle.std.specs.Prelude.{Result, is_some, is_none, if◌then◌else◌}
+use Rattle.std.proofs.Common.{◌≡◌, cond, filter, map, ◌<◌, ◌≤◌, ◌+◌, ◌-◌, ℕ, Bool, true, false, not, ◌&&◌, nat_lt, nat_le, List, [], ◌∷◌, None, Some, Option, IfSome, refl, sym, ap, subst, ◌∙◌, arith, le-ltb, option_map}
+use Rattle.std.specs.Prelude.{Result, is_none, if◌then◌else◌}
 use Rattle.std.specs.Cmp.{both_ways}
 use Rattle.std.specs.List.{AllByRecursion}
 use Rattle.std.proofs.lemmas.Bool.{ltb-true, lt-ltb}
 use Rattle.hx_object.specs.Sizes.{size_of, greatest_size}
 use Rattle.hx_object.specs.declared.object.Id.{Id}
 use Rattle.hx_object.specs.declared.object.Object.{Object}
-use Rattle.hx_model.specs.Answers.{refusal_of, place_refusal, version_refusal, rule_refusal, limit_refusals, other_version, brings_name, exceeds_bytes, replaced_by, same_object, replacing, writes_of, case_at, not_found}
+use Rattle.hx_model.specs.Answers.{refusal_of, place_refusal, version_refusal, rule_refusal, limit_refusals, other_version, brings_name, exceeds_bytes, replaced_by, same_object, replacing, writes_of, case_at, not_found, is_some_write, deleting, ending, ended, begins_to_leave, is_ended, owns_named}
 use Rattle.hx_model.specs.First.{so, or_else, first}
-use Rattle.hx_model.specs.Forest.{Forest}
-use Rattle.hx_model.specs.Limits.{part_of, counted_size, counts, is_copy, is_named, is_namespace, names_in, objects_in, bytes_in, most_names, most_objects, most_bytes, greatest_version}
+use Rattle.hx_model.specs.Limits.{part_of, counted_size, counts, is_copy, is_namespace, is_anchor, names_in, objects_in, bytes_in, most_names, most_objects, most_bytes, greatest_version}
 use Rattle.hx_model.specs.Rules.{rules}
 use Rattle.hx_model.specs.Serving.{IsServed}
-use Rattle.hx_model.specs.State.{State, object_at, ascends, namespace_id, put, cut, with_version}
+use Rattle.hx_model.specs.State.{State, Objects, object_at, ascends, put, cut, with_version, after_writes}
+use Rattle.hx_model.specs.Tree.{namespaces_in}
+use Rattle.hx_model.specs.Valid.{IsValid, IsStored}
+use Rattle.hx_model.specs.declared.key.Write.{Write}
 use Rattle.hx_model.specs.declared.ask.Ask.{Ask}
 use Rattle.hx_model.specs.declared.ask.Ask.TheVariants.{Create, Replace, Delete}
-use Rattle.hx_model.specs.declared.key.Write.TheVariants.{Put}
+use Rattle.hx_model.specs.declared.key.Write.TheVariants.{Put, Cut}
 use Rattle.hx_model.specs.declared.refusal.Refusal.{Refusal}
 use Rattle.hx_model.specs.declared.refusal.Refusal.TheVariants as of
 use Rattle.hx_model.specs.declared.rule.Rule.TheVariants.{L1, L2, L3, L4}
-use Rattle.hx_model.proofs.Counting.{no_anchor, no_anchor_named}
-use Rattle.hx_model.proofs.Objects.{sum-put, sum-cut}
-use Rattle.hx_model.proofs.Planting.{namespace_is_homed}
-use Rattle.hx_admit.specs.Inside.{IsReplacement, place_refusals, growth_refusals, objects_with}
+use Rattle.hx_model.proofs.Objects.{sum-put, sum-cut, ascends-put, ascends-cut}
+use Rattle.hx_model.proofs.Storing.{All-found}
+use Rattle.hx_admit.specs.Counting.{counts_of}
+use Rattle.hx_admit.specs.Inside.{IsReplacement, IsDeletion, place_refusals, growth_refusals, objects_with}
 use Rattle.hx_admit.specs.Limiting.{count_denials, growth_denials, rises_over}
 use Rattle.hx_model.specs.Denials.{refusal_by}
 use Rattle.hx_admit.specs.Refusing.{fault_in}
-use Rattle.hx_admit.specs.StateView.{Agrees}
 use Rattle.hx_model.specs.declared.denial.Denial.{Denial}
 use Rattle.hx_model.specs.declared.denial.Denial.TheVariants.{Broken}
 use Rattle.hx_admit.specs.declared.limits.LimitCounts.{LimitCounts}
-use Rattle.hx_admit.proofs.Counting.{agrees_served, stored_found, small_legal, is_part}
+use Rattle.hx_admit.proofs.Counting.{small_legal}
 use Rattle.hx_admit.proofs.Sameness.{same_object_is, differs}
 
 -- ---- the order of the refusals
@@ -76,9 +78,9 @@ part_small (Some x) small = by (counts x)
     by true = small
     by false = omega arith
 
-pub small_found : (s : State) (tally : LimitCounts) (nodes : Forest) (id : Id) (found : Option Object) → Agrees s.config s.objects s.last tally nodes → object_at s.objects id ≡ found → IfSome found (λ x. size_of x ≤ greatest_size)
-small_found s tally nodes id None agrees e = tt
-small_found s tally nodes id (Some x) agrees e = small_legal x (stored_found s.config s.objects s.last tally nodes agrees id x e).served.legal
+pub small_found : (s : State) (id : Id) (found : Option Object) → IsValid s → object_at s.objects id ≡ found → IfSome found (λ x. size_of x ≤ greatest_size)
+small_found s id None valid e = tt
+small_found s id (Some x) valid e = small_legal x (All-found (IsStored s.last) id x s.objects valid.stored e).served.legal
 
 pub small_new : (id : Id) (new : Option Object) → IfSome new (λ x. IsServed x × (x.id ≡ id)) → IfSome new (λ x. size_of x ≤ greatest_size)
 small_new id None served = tt
@@ -91,33 +93,18 @@ bytes_after s id (Some x) up served =
     (sum-put counted_size (with_version x (s.last + 1)) s.objects up ∙ ap (λ n. bytes_in s.objects + n) (size-with_version x (s.last + 1)))
 
 -- the limits of growth, by the numbers
-pub grown : (s : State) (tally : LimitCounts) (nodes : Forest) (id : Id) (old new : Option Object) → Agrees s.config s.objects s.last tally nodes → object_at s.objects id ≡ old → IfSome new (λ x. IsServed x × (x.id ≡ id))
+pub grown : (s : State) (tally : LimitCounts) (id : Id) (old new : Option Object) → IsValid s → tally ≡ counts_of s.objects → object_at s.objects id ≡ old → IfSome new (λ x. IsServed x × (x.id ≡ id))
     → option_map (refusal_by id) (first (growth_denials tally old new s.last)) ≡ first (growth_refusals s (objects_with s id new))
-grown s tally nodes id old new agrees there served =
-    let bytes : tally.bytes ≡ bytes_in s.objects = ap (λ (c : LimitCounts). c.bytes) agrees.numbers in
+grown s tally id old new valid numbers there served =
+    let bytes : tally.bytes ≡ bytes_in s.objects = ap (λ (c : LimitCounts). c.bytes) numbers in
     let sums : bytes_in (objects_with s id new) + part_of counted_size old ≡ tally.bytes + part_of counted_size new =
-    ap (λ o. bytes_in (objects_with s id new) + part_of counted_size o) (sym there) ∙ bytes_after s id new agrees.in_order served ∙ ap (λ n. n + part_of counted_size new) (sym bytes) in
-    let part = (is_part s.objects tally id old agrees.in_order (agrees_served s.config s.objects s.last tally nodes agrees) agrees.numbers there).bytes in
+    ap (λ o. bytes_in (objects_with s id new) + part_of counted_size o) (sym there) ∙ bytes_after s id new valid.in_order served ∙ ap (λ n. n + part_of counted_size new) (sym bytes) in
+    let part : part_of counted_size old ≤ tally.bytes = rw (bytes, ← there) (omega (arith, sum-cut counted_size id s.objects valid.in_order)) in
     let test : rises_over tally.bytes (part_of counted_size old) (part_of counted_size new) ≡ exceeds_bytes s.objects (objects_with s id new) =
     exceeding tally.bytes (bytes_in (objects_with s id new)) (part_of counted_size old) (part_of counted_size new) sums part (part_small new (small_new id new served))
     ∙ ap (λ n. nat_lt n (bytes_in (objects_with s id new)) && nat_lt most_bytes (bytes_in (objects_with s id new))) bytes in
     sym (growth_alike id (rises_over tally.bytes (part_of counted_size old) (part_of counted_size new)) (nat_le greatest_version s.last))
     ∙ ap (λ b. first (so b (of.Broken L3) ∷ so (nat_le greatest_version s.last) (of.Broken L4) ∷ [])) test
-
--- ---- names
-
-unnamed : (o : Option Object) (a : Bool) → o ≡ None → a ≡ false → not (is_some o || a) ≡ true
-unnamed None a e p = ap not p
-unnamed (Some x) a e p = absurd (let h : Some x ≡ None = e in cc)
-
-name_brought : (s : State) (x : Object) (skip : Bool) → AllByRecursion IsServed s.objects → IsServed x → object_at s.objects x.id ≡ None → brings_name s (Create x skip) ≡ is_namespace x.id.kind
-name_brought s x skip all served none =
-    ap (λ b. (is_namespace x.id.kind || b) && not (is_named s.objects x.id.name)) (no_anchor x.id.kind served.written) ∙ by (is_namespace x.id.kind) refl
-  where
-    by : (b : Bool) → is_namespace x.id.kind ≡ b → ((b || false) && not (is_named s.objects x.id.name)) ≡ b
-    by false e = refl
-    by true e =
-        unnamed (object_at s.objects (namespace_id x.id.name)) _ (subst (λ (id : Id). object_at s.objects id ≡ None) (namespace_is_homed x served e) none) (no_anchor_named x.id.name s.objects all)
 
 -- ---- POST
 
@@ -139,23 +126,20 @@ last_limits true b rest e = absurd (let h : Some (Broken L1) ≡ None = e in cc)
 last_limits false true rest e = absurd (let h : Some (Broken L2) ≡ None = e in cc)
 last_limits false false rest e = refl
 
-module _ (s : State) (tally : LimitCounts) (nodes : Forest) (agrees : Agrees s.config s.objects s.last tally nodes) (x : Object) (skip : Bool) (served : IsServed x) (free : object_at s.objects x.id ≡ None) where
+module _ (s : State) (tally : LimitCounts) (numbers : tally ≡ counts_of s.objects) (x : Object) (skip named : Bool) (brings : named ≡ brings_name s (Create x skip)) where
   -- the limits, by what it brings
-  brought : first (limit_refusals s (Create x skip)) ≡ first (so (is_namespace x.id.kind && nat_le most_names tally.names) (of.Broken L1) ∷ so (counts x && nat_le most_objects tally.objects) (of.Broken L2) ∷ growth_refusals s (put (with_version x (s.last + 1)) s.objects))
+  brought : first (limit_refusals s (Create x skip)) ≡ first (so (named && nat_le most_names tally.names) (of.Broken L1) ∷ so (counts x && nat_le most_objects tally.objects) (of.Broken L2) ∷ growth_refusals s (put (with_version x (s.last + 1)) s.objects))
   brought =
-      let brings = name_brought s x skip (agrees_served s.config s.objects s.last tally nodes agrees) served free in
-      let names : names_in s.objects ≡ tally.names = sym (ap (λ (c : LimitCounts). c.names) agrees.numbers) in
-      let objects : objects_in s.objects ≡ tally.objects = sym (ap (λ (c : LimitCounts). c.objects) agrees.numbers) in
-      (λ i. first (so (brings i && nat_le most_names (names i)) (of.Broken L1) ∷ so (counts x && nat_le most_objects (objects i)) (of.Broken L2) ∷ growth_refusals s (put (with_version x (s.last + 1)) s.objects)))
+      let names : names_in s.objects ≡ tally.names = sym (ap (λ (c : LimitCounts). c.names) numbers) in
+      let objects : objects_in s.objects ≡ tally.objects = sym (ap (λ (c : LimitCounts). c.objects) numbers) in
+      (λ i. first (so (sym brings i && nat_le most_names (names i)) (of.Broken L1) ∷ so (counts x && nat_le most_objects (objects i)) (of.Broken L2) ∷ growth_refusals s (put (with_version x (s.last + 1)) s.objects)))
 
   -- a name or an object that it brings is refused
-  pub create_counted : (denial : Denial) → first (place_refusals s x.id) ≡ None → first (rules (case_at s x.id None (Some x) skip)) ≡ None → first (count_denials (is_namespace x.id.kind) (counts x) tally) ≡ Some denial
-      → refusal_of s (Create x skip) ≡ Some (refusal_by x.id denial)
+  pub create_counted : (denial : Denial) → first (place_refusals s x.id) ≡ None → first (rules (case_at s x.id None (Some x) skip)) ≡ None → first (count_denials named (counts x) tally) ≡ Some denial → refusal_of s (Create x skip) ≡ Some (refusal_by x.id denial)
   create_counted denial place ruled refused = unruled s x skip place ruled ∙ brought ∙ first_limits x.id _ _ (growth_refusals s (put (with_version x (s.last + 1)) s.objects)) denial refused
 
   -- what is left where none is
-  pub create_rest : first (place_refusals s x.id) ≡ None → first (rules (case_at s x.id None (Some x) skip)) ≡ None → first (count_denials (is_namespace x.id.kind) (counts x) tally) ≡ None
-      → refusal_of s (Create x skip) ≡ first (growth_refusals s (put (with_version x (s.last + 1)) s.objects))
+  pub create_rest : first (place_refusals s x.id) ≡ None → first (rules (case_at s x.id None (Some x) skip)) ≡ None → first (count_denials named (counts x) tally) ≡ None → refusal_of s (Create x skip) ≡ first (growth_refusals s (put (with_version x (s.last + 1)) s.objects))
   create_rest place ruled passed = unruled s x skip place ruled ∙ brought ∙ last_limits _ _ (growth_refusals s (put (with_version x (s.last + 1)) s.objects)) passed
 
 -- ---- PUT
@@ -227,16 +211,72 @@ module _ (s : State) (x old next : Object) (expected : Option ℕ) (skip : Bool)
 
 -- ---- DELETE
 
-delete_found : (s : State) (id : Id) (old : Object) (skip : Bool) → object_at s.objects id ≡ Some old
-    → refusal_of s (Delete id skip) ≡ or_else (option_map (refusal_by id) (first (rules (case_at s id (Some old) None skip)))) (first (growth_refusals s (cut id s.objects)))
-delete_found s id old skip there =
+-- what may be written without more bytes: namespaces, which don't count
+abbrev pub AddsNothing : Write → Type 0
+AddsNothing (Put x) = is_namespace x.id.kind ≡ true
+AddsNothing (Cut id) = Unit {0}
+
+uncounted : (x : Object) → is_namespace x.id.kind ≡ true → counted_size x ≡ 0
+unfolding counts
+uncounted x is = rw is refl
+
+-- then the bytes don't rise
+bytes_stay : (ws : List Write) (objects : Objects) → AllByRecursion AddsNothing ws → ascends objects ≡ true → bytes_in (after_writes ws objects) ≤ bytes_in objects
+bytes_stay [] objects light up = omega arith
+bytes_stay (Put x ∷ ws) objects light up = omega (arith, bytes_stay ws (put x objects) light.1 (ascends-put x objects up), sum-put counted_size x objects up, uncounted x light.0)
+bytes_stay (Cut id ∷ ws) objects light up = omega (arith, bytes_stay ws (cut id objects) light.1 (ascends-cut id objects up), sum-cut counted_size id objects up)
+
+-- those that begin to leave are namespaces
+each_ends : (version : ℕ) (test : Object → Bool) (objects : Objects) → AllByRecursion AddsNothing (map (λ x. Put (ended version x)) (filter test (namespaces_in objects)))
+each_ends version test [] = tt
+each_ends version test (y ∷ objects) =
+    elim (is_namespace y.id.kind) as (λ b. is_namespace y.id.kind ≡ b → AllByRecursion AddsNothing (map (λ x. Put (ended version x)) (filter test (cond b (y ∷ namespaces_in objects) (namespaces_in objects))))) [
+      | true ↦ λ is. elim (test y) as (λ b. AllByRecursion AddsNothing (map (λ x. Put (ended version x)) (cond b (y ∷ filter test (namespaces_in objects)) (filter test (namespaces_in objects))))) [
+        | true ↦ (is, each_ends version test objects)
+        | false ↦ each_ends version test objects
+      ]
+      | false ↦ λ out. each_ends version test objects
+    ] refl
+
+adds_nothing : (s : State) (id : Id) (skip : Bool) → AllByRecursion AddsNothing (deleting s id skip)
+adds_nothing s id skip = by (is_namespace id.kind) (is_ended (object_at s.objects id)) (is_anchor id.kind && (not skip && owns_named s id))
+  where
+    by : (a b c : Bool) → AllByRecursion AddsNothing (if a then (if b then [] else ending s id.name) else (if c then Cut id ∷ ending s id.name else Cut id ∷ []))
+    by true true c = tt
+    by true false c = each_ends (s.last + 1) (begins_to_leave s id.name) s.objects
+    by false b true = (tt, each_ends (s.last + 1) (begins_to_leave s id.name) s.objects)
+    by false b false = (tt, tt)
+
+unexceeded : (a b : ℕ) → b ≤ a → (nat_lt a b && nat_lt most_bytes b) ≡ false
+unexceeded a b less = ap (λ t. t && nat_lt most_bytes b) (le-ltb a b less)
+
+-- what is left where an object is there
+delete_found : (s : State) (id : Id) (old : Object) (skip : Bool) → IsValid s → object_at s.objects id ≡ Some old
+    → refusal_of s (Delete id skip) ≡ or_else (rule_refusal s (Delete id skip)) (so (is_some_write (deleting s id skip) && nat_le greatest_version s.last) (of.Broken L4))
+delete_found s id old skip valid there =
     unplaced s (Delete id skip) (ap (λ (o : Option Object). so (is_none o) (not_found id)) there) refl
-    ∙ ap (λ o. or_else (option_map (refusal_by id) (first (rules (case_at s id o None skip)))) (first (limit_refusals s (Delete id skip)))) there
+    ∙ ap (λ b. or_else (rule_refusal s (Delete id skip)) (first (so b (of.Broken L3) ∷ so (is_some_write (deleting s id skip) && nat_le greatest_version s.last) (of.Broken L4) ∷ [])))
+    (unexceeded (bytes_in s.objects) (bytes_in (after_writes (deleting s id skip) s.objects)) (bytes_stay (deleting s id skip) s.objects (adds_nothing s id skip) valid.in_order))
+    ∙ ap (or_else (rule_refusal s (Delete id skip))) (alone (so (is_some_write (deleting s id skip) && nat_le greatest_version s.last) (of.Broken L4)))
+  where
+    alone : {A : Type 0} (o : Option A) → or_else o None ≡ o
+    alone None = refl
+    alone (Some a) = refl
 
 -- a rule is broken
-pub delete_ruled : (s : State) (id : Id) (old : Object) (skip : Bool) (rule : Denial) → object_at s.objects id ≡ Some old → first (rules (case_at s id (Some old) None skip)) ≡ Some rule → refusal_of s (Delete id skip) ≡ Some (refusal_by id rule)
-delete_ruled s id old skip rule there ruled = delete_found s id old skip there ∙ ap (λ o. or_else (option_map (refusal_by id) o) (first (growth_refusals s (cut id s.objects)))) ruled
+pub delete_ruled : (s : State) (id : Id) (old : Object) (skip : Bool) (refusal : Refusal) → IsValid s → object_at s.objects id ≡ Some old → rule_refusal s (Delete id skip) ≡ Some refusal → refusal_of s (Delete id skip) ≡ Some refusal
+delete_ruled s id old skip refusal valid there ruled = delete_found s id old skip valid there ∙ ap (λ o. or_else o (so (is_some_write (deleting s id skip) && nat_le greatest_version s.last) (of.Broken L4))) ruled
 
--- what is left where none is
-pub delete_rest : (s : State) (id : Id) (old : Object) (skip : Bool) → object_at s.objects id ≡ Some old → first (rules (case_at s id (Some old) None skip)) ≡ None → refusal_of s (Delete id skip) ≡ first (growth_refusals s (cut id s.objects))
-delete_rest s id old skip there ruled = delete_found s id old skip there ∙ ap (λ o. or_else (option_map (refusal_by id) o) (first (growth_refusals s (cut id s.objects)))) ruled
+-- what is left where none is, as it was checked
+pub delete_rest : {A : Type 0} (s : State) (id : Id) (old : Object) (skip : Bool) (writes : List Write) (result : Result A Denial) (found : Option Denial) → IsDeletion s id old skip writes
+    → fault_in result ≡ so (is_some_write writes && nat_le greatest_version s.last) (Broken L4) → fault_in result ≡ found → refusal_of s (Delete id skip) ≡ option_map (refusal_by id) found
+delete_rest s id old skip writes result found d checked finds =
+    delete_found s id old skip d.valid d.there
+    ∙ ap (λ o. or_else o (so (is_some_write (deleting s id skip) && nat_le greatest_version s.last) (of.Broken L4))) d.passes
+    ∙ ap (λ ws. so (is_some_write ws && nat_le greatest_version s.last) (of.Broken L4)) (sym d.changes)
+    ∙ by (is_some_write writes && nat_le greatest_version s.last)
+    ∙ ap (option_map (refusal_by id)) (sym checked ∙ finds)
+  where
+    by : (b : Bool) → so b (of.Broken L4) ≡ option_map (refusal_by id) (so b (Broken L4))
+    by true = refl
+    by false = refl

@@ -4,42 +4,49 @@
 --     passes_get, passes_list, passes_unchanged    asks that write nothing
 --     may_none, may_one  no write, and one, may be made
 --     served_replacement     what a PUT gives is served
+--     given_stays        what requests give isn't on its way out
 --     may_put, may_replace      an object with the next version, and that of a PUT, may be put
 --     passes_create, passes_replace     asks of one write
-use Rattle.std.proofs.Common.{◌≡◌, ◌<◌, ◌+◌, ℕ, Bool, true, false, List, [], ◌∷◌, None, Some, Option, refl, sym, ap, subst, ◌∙◌, inl, inr, ◌⊎◌, nat_lt, le-ltb, arith, IfSome}
+--     passes_delete      a DELETE
+use Rattle.std.proofs.Common.{◌≡◌, ◌<◌, ◌+◌, true≢false, ℕ, Bool, true, false, List, [], ◌∷◌, None, Some, Option, refl, sym, ap, subst, ◌∙◌, inl, inr, ◌⊎◌, nat_lt, le-ltb, arith}
 use Rattle.std.specs.List.{AllByRecursion, IsDistinct}
+use Rattle.std.proofs.lemmas.Bool.{not-true}
 use Rattle.std.specs.Prelude.{Result, Ok, Err, IfErr, IsErrAnd}
 use Rattle.hx_object.specs.Faults.{IsLegal}
 use Rattle.hx_object.specs.declared.kind.Kind.{Kind}
+use Rattle.hx_object.specs.declared.kind.Kind.TheVariants.{Secret}
 use Rattle.hx_object.specs.declared.object.Id.{Id}
 use Rattle.hx_object.specs.declared.object.Object.{Object}
-use Rattle.hx_model.specs.Answers.{refusal_of, writes_of, success, answer_found, selected, same_object, replaced_by}
+use Rattle.hx_object.specs.declared.object.Payload.{Payload}
+use Rattle.hx_object.specs.declared.object.Payload.TheVariants.{Namespace as NamespaceOf, Hierarchy, Anchor, Quota}
+use Rattle.hx_model.specs.Answers.{refusal_of, writes_of, success, answer_found, selected, same_object, with_status, replaced_by}
 use Rattle.hx_model.specs.Limits.{is_namespace, bytes_in, greatest_version}
-use Rattle.hx_model.specs.Serving.{IsServed, IsLegalAnswer}
+use Rattle.hx_model.specs.Serving.{IsServed, IsKept, IsLegalAnswer, is_given, is_kept, is_typed}
 use Rattle.hx_model.specs.State.{State, object_at, has_home, with_version, state_after}
+use Rattle.hx_model.specs.Tree.{is_terminating}
 use Rattle.hx_select.specs.declared.selector.Selector.{Selector}
 use Rattle.hx_model.specs.declared.ask.Ask.{Ask}
-use Rattle.hx_model.specs.declared.ask.Ask.TheVariants.{Get, List as ListOf, Create, Replace}
+use Rattle.hx_model.specs.declared.ask.Ask.TheVariants.{Get, List as ListOf, Create, Replace, Delete}
 use Rattle.hx_model.specs.declared.ask.Answer.{Answer}
-use Rattle.hx_model.specs.declared.ask.Answer.TheVariants.{One, Many}
+use Rattle.hx_model.specs.declared.ask.Answer.TheVariants.{One, Many, Gone}
 use Rattle.hx_model.specs.declared.key.Write.{Write}
 use Rattle.hx_model.specs.declared.key.Write.TheVariants.{Put}
 use Rattle.hx_model.specs.declared.refusal.Refusal.{Refusal}
 use Rattle.hx_model.specs.declared.refusal.Refusal.TheVariants.{NoMemory}
-use Rattle.hx_model.proofs.Legality.{legal_with_version, legal_replaced, given_with_version, given_replaced}
+use Rattle.hx_model.proofs.Legality.{legal_with_version, legal_replaced}
 use Rattle.hx_model.proofs.Objects.{found_id}
 use Rattle.hx_model.proofs.Planting.{terminating-replaced}
 use Rattle.hx_model.proofs.Storing.{All-found}
-use Rattle.hx_admit.specs.Inside.{IsRefusal, IsReplacement, IsReviewed}
+use Rattle.hx_admit.specs.Inside.{IsRefusal, IsReplacement, IsDeletion, IsReviewed}
 use Rattle.hx_model.specs.Denials.{refusal_by}
 use Rattle.hx_admit.specs.Reviewing.{Passes}
-use Rattle.hx_model.specs.Writes.{MayPut, MayWrite, MayWriteAll, KeepsItsPlace, id_written}
+use Rattle.hx_model.specs.Writes.{MayPut, MayWrite, MayWriteAll, HasPlace, id_written}
 use Rattle.hx_model.specs.declared.denial.Denial.{Denial}
 use Rattle.hx_admit.proofs.Counting.{valid_served}
-use Rattle.hx_admit.proofs.Homes.{same_annotation}
 use Rattle.hx_admit.proofs.Refusing.{replace_unchanged}
+use Rattle.hx_admit.proofs.Ruled.{same_annotation}
 use Rattle.hx_admit.proofs.Sameness.{differs}
-use Rattle.hx_admit.proofs.Staging.{alone_distinct, alone_apart}
+use Rattle.hx_admit.proofs.Staging.{alone_distinct, alone_apart, alone_naming}
 use Rattle.hx_model.proofs.Objects.{object_at-put_itself}
 
 -- ---- refusals
@@ -81,23 +88,66 @@ passes_unchanged s x old next expected skip writes says r same none answers =
 
 pub may_none : (s : State) (writes : List Write) → writes ≡ [] → MayWriteAll s writes
 unfolding IsDistinct
-may_none s writes none = subst (MayWriteAll s) (sym none) (record { each = tt; distinct = tt; apart = tt; fits = λ some. absurd (some refl) })
+may_none s writes none = subst (MayWriteAll s) (sym none) (record { each = tt; distinct = tt; apart = tt; alone = λ some. absurd (true≢false (sym some)); naming = omega arith; fits = λ some. absurd (some refl) })
 
 pub may_one : (s : State) (write : Write) (writes : List Write) → MayWrite s write → s.last < greatest_version → writes ≡ write ∷ [] → MayWriteAll s writes
-may_one s write writes may fits is = subst (MayWriteAll s) (sym is) (record { each = (may, tt); distinct = alone_distinct (id_written write); apart = alone_apart (id_written write); fits = λ some. fits })
+may_one s write writes may fits is =
+    subst (MayWriteAll s) (sym is) (record { each = (may, tt); distinct = alone_distinct (id_written write); apart = alone_apart (id_written write); alone = λ _. refl; naming = alone_naming s.objects write; fits = λ some. fits })
+
+-- what requests give isn't on its way out
+pub given_stays : (payload : Payload) → is_given payload ≡ true → is_terminating payload ≡ false
+given_stays (NamespaceOf t) given = not-true t given
+given_stays _ given = refl
+
+-- what may be stored under one version may be under another
+kept_with_version : (x : Object) (version : ℕ) → IsKept x → IsKept (with_version x version)
+kept_with_version x version kept = record { labels = kept.labels; annotations = kept.annotations; payload = kept.payload; typed = kept.typed }
 
 -- an object with the next version
-pub may_put : (s : State) (x : Object) → IsServed x → has_home s.objects x.id ≡ true → (is_namespace x.id.kind ≡ true → IfSome (object_at s.objects x.id) (λ old. KeepsItsPlace old x)) → MayPut s (with_version x (s.last + 1))
+pub may_put : (s : State) (x : Object) → IsServed x → has_home s.objects x.id ≡ true → (is_namespace x.id.kind ≡ true → HasPlace (object_at s.objects x.id) x) → MayPut s (with_version x (s.last + 1))
 may_put s x served home later = record {
-  served = record { legal = legal_with_version x (s.last + 1) served.legal; written = served.written; given = given_with_version x (s.last + 1) served.given };
+  served = record { legal = legal_with_version x (s.last + 1) served.legal; written = served.written; kept = kept_with_version x (s.last + 1) served.kept };
   next = refl;
   home = home;
   place = λ is. each (object_at s.objects x.id) (later is);
 }
   where
-    each : (o : Option Object) → IfSome o (λ old. KeepsItsPlace old x) → IfSome o (λ old. KeepsItsPlace old (with_version x (s.last + 1)))
-    each None p = tt
+    each : (o : Option Object) → HasPlace o x → HasPlace o (with_version x (s.last + 1))
+    each None p = p
     each (Some old) p = record { annotation = p.annotation; phase = p.phase }
+
+-- ---- replacements
+
+-- the payload that a PUT gives may be stored
+still_kept : (old x : Payload) → is_kept old ≡ true → is_kept x ≡ true → is_kept (with_status old x) ≡ true
+still_kept (NamespaceOf t) (NamespaceOf u) p q = refl
+still_kept (Hierarchy a b [] []) (Hierarchy e f g h) p q = refl
+still_kept (Hierarchy a b [] (d ∷ ds)) (Hierarchy e f g h) p q = p
+still_kept (Hierarchy a b (c ∷ cs) ds) (Hierarchy e f g h) p q = p
+still_kept (Anchor s) (Anchor t) p q = refl
+still_kept (Quota h []) (Quota k t) p q = refl
+still_kept (Quota h (s ∷ ss)) (Quota k t) p q = p
+still_kept old x p q = q
+
+-- and is of the type that is given
+same_type : (old x : Payload) → is_typed Secret x ≡ true → is_typed Secret (with_status old x) ≡ true
+same_type (NamespaceOf t) (NamespaceOf u) is = refl
+same_type (Hierarchy a b c d) (Hierarchy e f g h) is = refl
+same_type (Anchor s) (Anchor t) is = refl
+same_type (Quota h s) (Quota k t) is = refl
+same_type old x is = is
+
+still_typed : (kind : Kind) (old x : Payload) → is_typed kind x ≡ true → is_typed kind (with_status old x) ≡ true
+still_typed Secret old x is = same_type old x is
+still_typed kind old x is = refl
+
+kept_replaced : (old x : Object) → IsKept old → IsKept x → IsKept (replaced_by old x)
+kept_replaced old x before kept = record {
+  labels = kept.labels;
+  annotations = kept.annotations;
+  payload = still_kept old.payload x.payload before.payload kept.payload;
+  typed = still_typed x.id.kind old.payload x.payload kept.typed;
+}
 
 -- the object that a PUT gives
 module _ (s : State) (x old next : Object) (expected : Option ℕ) (skip : Bool) (r : IsReplacement s x old expected skip next) where
@@ -105,7 +155,7 @@ module _ (s : State) (x old next : Object) (expected : Option ℕ) (skip : Bool)
   served_before = All-found IsServed x.id old s.objects (valid_served s r.valid) r.there
 
   served_given : IsServed (replaced_by old x)
-  served_given = record { legal = legal_replaced old x r.served.legal; written = r.served.written; given = given_replaced old x served_before.given r.served.given }
+  served_given = record { legal = legal_replaced old x r.served.legal; written = r.served.written; kept = kept_replaced old x served_before.kept r.served.kept }
 
   pub served_replacement : IsServed next
   served_replacement = subst IsServed (sym r.gives) served_given
@@ -118,7 +168,7 @@ module _ (s : State) (x old next : Object) (expected : Option ℕ) (skip : Bool)
   may_replace =
       subst (λ (y : Object). MayPut s (with_version y (s.last + 1))) (sym r.gives)
       (may_put s (replaced_by old x) served_given home_before (λ is.
-      subst (λ (o : Option Object). IfSome o (λ found. KeepsItsPlace found (replaced_by old x))) (sym r.there)
+      subst (λ (o : Option Object). HasPlace o (replaced_by old x)) (sym r.there)
       (record { annotation = same_annotation s x old expected skip r.there r.passes is; phase = λ gone. terminating-replaced old x (sym (found_id s.objects x.id old r.there)) is served_before r.served ∙ gone })))
 
 -- ---- asks of one write
@@ -141,3 +191,10 @@ passes_replace s x old next expected skip writes says r apart passes reviewed =
     let next = with_version (replaced_by old x) (s.last + 1) in
     let there : object_at s.objects x.id ≡ Some old = r.there in
     passes_write s (Replace x expected skip) (Put next) (One next false) writes says passes (rw (there, unlike) refl) (ap (λ o. answer_found o false x.id) (object_at-put_itself next s.objects)) (legal_with_version (replaced_by old x) (s.last + 1) (legal_replaced old x r.served.legal)) made
+
+-- ---- removals
+
+pub passes_delete : (s : State) (id : Id) (old : Object) (skip : Bool) (deletes writes : List Write) (says : Answer) → IsDeletion s id old skip deletes → refusal_of s (Delete id skip) ≡ None
+    → writes ≡ deletes → says ≡ Gone (state_after s deletes).last → Passes s (Delete id skip) writes says
+passes_delete s id old skip deletes writes says d passes is answers =
+    subst (λ ws. Passes s (Delete id skip) ws says) (sym is) (record { passes = passes; changes = sym d.changes; says = sym answers; legal = subst IsLegalAnswer (sym answers) tt })

@@ -5,6 +5,7 @@
 --     IsConflictFor      whether a write makes a conflict. The rules look at it where they aren't skipped, for a HierarchyConfiguration that closes no cycle, an HNCConfiguration, and an object that can be copied
 --     AreFindings        what is read of a write before the rules
 --     IsReplacement      the object that a PUT gives, where neither its version nor a rule stands against it
+--     IsDeletion         what a DELETE writes of an object that is there, where no rule stands against it
 --     IsReviewed         the review of one write
 --     place_refusals     the refusals of a POST by its place
 --     growth_refusals    the refusals by the sum of sizes and by the versions
@@ -14,7 +15,7 @@ use Rattle.hx_object.specs.Kinds.{can_be_copied}
 use Rattle.hx_object.specs.declared.kind.Kind.TheVariants.{Namespace, HncConfiguration}
 use Rattle.hx_object.specs.declared.object.Id.{Id}
 use Rattle.hx_object.specs.declared.object.Object.{Object}
-use Rattle.hx_model.specs.Answers.{refusal_of, version_refusal, rule_refusal, replaced_by, exceeds_bytes, lacks_namespace, already_there}
+use Rattle.hx_model.specs.Answers.{refusal_of, version_refusal, rule_refusal, replaced_by, deleting, exceeds_bytes, lacks_namespace, already_there}
 use Rattle.hx_model.specs.Cases.{Case, any_of}
 use Rattle.hx_model.specs.Conflicts.{makes_conflict, with_written}
 use Rattle.hx_model.specs.First.{so, first}
@@ -26,7 +27,7 @@ use Rattle.hx_model.specs.State.{State, Objects, object_at, put, cut, with_versi
 use Rattle.hx_model.specs.Serving.{IsServed}
 use Rattle.hx_model.specs.Valid.{IsValid}
 use Rattle.hx_model.specs.declared.ask.Ask.{Ask}
-use Rattle.hx_model.specs.declared.ask.Ask.TheVariants.{Replace}
+use Rattle.hx_model.specs.declared.ask.Ask.TheVariants.{Replace, Delete}
 use Rattle.hx_model.specs.declared.ask.Answer.{Answer}
 use Rattle.hx_model.specs.declared.key.Write.{Write}
 use Rattle.hx_model.specs.declared.refusal.Refusal.{Refusal}
@@ -68,6 +69,13 @@ pub record IsReplacement (s : State) (x old : Object) (expected : Option ℕ) (s
   pub there : object_at s.objects x.id ≡ Some old
   pub passes : first (version_refusal s (Replace x expected skip) ∷ rule_refusal s (Replace x expected skip) ∷ []) ≡ None
   pub gives : next ≡ replaced_by old x
+
+-- what a DELETE writes of an object that is there, where no rule stands against it
+pub record IsDeletion (s : State) (id : Id) (old : Object) (skip : Bool) (writes : List Write) : Type 0 where
+  pub valid : IsValid s
+  pub there : object_at s.objects id ≡ Some old
+  pub passes : rule_refusal s (Delete id skip) ≡ None
+  pub changes : writes ≡ deleting s id skip
 
 -- the review of one write, and its answer
 pub record IsReviewed (write : Write) (answer : Answer) (writes : List Write) (says : Answer) : Type 0 where

@@ -8,3 +8,5 @@ pub mod Reviewing
 pub mod Inside
 pub mod Moves
 pub mod Conflicting
+pub mod Families
+pub mod Removing

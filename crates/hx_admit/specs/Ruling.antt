@@ -1,4 +1,5 @@
 -- What the check of the rules is given.
+--     family_in      the family that code has
 --     case_of        the case that code has
 --     moved_by       the tree after a HierarchyConfiguration is written or removed
 --     IsAtHome       the namespace of a HierarchyConfiguration is there where the tree has it, and has the parent that the tree says
@@ -7,15 +8,20 @@ use Rattle.std.specs.Option.{option_map_or}
 use Rattle.std.specs.Str.{bytes_eq}
 use Rattle.hx_object.specs.declared.object.Id.{Id}
 use Rattle.hx_object.specs.declared.object.Object.{Object}
-use Rattle.hx_model.specs.Cases.{Case}
+use Rattle.hx_model.specs.Cases.{Case, Family}
 use Rattle.hx_model.specs.Forest.{Forest, is_there, parent_of, with_parent}
 use Rattle.hx_model.specs.Tree.{hierarchy}
 pub use Rattle.hx_model.specs.Tree.{parent_with}
 use Rattle.hx_admit.specs.declared.case.Case as code
+use Rattle.hx_admit.specs.declared.case.Family as kin
+
+-- the family that code has
+abbrev pub family_in : kin.Family → Family
+family_in f = record { named = option_copied f.named; anchored = f.anchored; has_children = f.has_children; has_followers = f.has_followers; cascades = f.cascades }
 
 -- the case that code has
 abbrev pub case_of : code.Case → Case
-case_of c = record { id = c.id.now; old = option_copied c.old; new = option_copied c.new; home = option_copied c.home; hnc_config = option_copied c.hnc_config; conflict = c.conflict; tree = c.forest.now.nodes; config = c.config.now; skip = c.skip }
+case_of c = record { id = c.id.now; old = option_copied c.old; new = option_copied c.new; home = option_copied c.home; hnc_config = option_copied c.hnc_config; conflict = c.conflict; family = family_in c.family; tree = c.forest.now.nodes; config = c.config.now; skip = c.skip }
 
 -- the namespace of a HierarchyConfiguration is there where the tree has it, and has the parent that the tree says
 pub record IsAtHome (c : Case) : Type 0 where

@@ -1,26 +1,28 @@
 // The checks of a write.
-ghost use Rattle.std.specs.Prelude.{◌≡◌, ◌<◌, ◌∷◌, [], true, Some, None, option_copied, option_map, IfSome, OnOk};
-ghost use Rattle.hx_model.specs.Answers.{refusal_of, version_refusal, rule_refusal, case_at, other_version};
+ghost use Rattle.std.specs.Prelude.{◌≡◌, ◌≢◌, ◌<◌, ◌&&◌, ◌∷◌, [], true, nat_le, Some, None, option_copied, option_map, IfSome, OnOk};
+ghost use Rattle.hx_model.specs.Answers.{refusal_of, version_refusal, rule_refusal, case_at, other_version, is_some_write};
 ghost use Rattle.hx_model.specs.Denials.{refusal_by};
-ghost use Rattle.hx_model.specs.First.{first};
+ghost use Rattle.hx_model.specs.First.{so, first};
 ghost use Rattle.hx_model.specs.Limits.{greatest_version};
 ghost use Rattle.hx_model.specs.Rules.{rules};
 ghost use Rattle.hx_model.specs.Serving.{IsServed};
 ghost use Rattle.hx_model.specs.State.{object_at, has_home};
 ghost use Rattle.hx_model.specs.Valid.{IsValid};
 ghost use Rattle.hx_model.specs.declared.ask.Ask.TheVariants as ask_of;
+ghost use Rattle.hx_admit.specs.Counting.{is_new_name};
 ghost use Rattle.hx_admit.specs.Inside.{IsConfigFor, AreFindings, place_refusals, growth_refusals, objects_with};
 ghost use Rattle.hx_admit.specs.Refusing.{fault_in};
 
 use crate::case::Case;
 use crate::findings::Findings;
 use crate::indexed_state::IndexedState;
-use crate::limits::{check_counts, check_growth, counts};
+use crate::limits::{GREATEST_VERSION, check_counts, check_growth, counts};
 use crate::plan::object_in;
 use crate::rules::{check_rules, is_any_copy};
-use hx_model::Denial;
+use hx_model::{Denial, Rule};
 use hx_object::well_known::CONFIG;
 use hx_object::{Id, Kind, Object};
+use hx_store::Change;
 
 impl IndexedState {
     /// Finds what stands against a POST.
@@ -28,9 +30,11 @@ impl IndexedState {
         &self,
         object: &Object,
         found: Findings,
+        brings_name: bool,
         skip: bool,
     ) -> Result<(), Denial>
         requires served { IsServed object.now }
+        requires brings { brings_name ≡ is_new_name self.now.state.objects object.now.id }
         requires found { AreFindings (case_at self.now.state object.now.id (object_at self.now.state.objects object.now.id) (Some object.now) skip) found }
         ensures refusal { option_map (refusal_by object.now.id) (fault_in result) ≡ refusal_of self.now.state (ask_of.Create object.now skip) }
         ensures free { OnOk result (object_at self.now.state.objects object.now.id ≡ None) }
@@ -40,7 +44,7 @@ impl IndexedState {
         let id = &object.id;
         self.check_place(id)?;
         self.check_case(id, None, Some(object), found, skip)?;
-        check_counts(id.kind.is_namespace(), counts(object), self.counts)?;
+        check_counts(brings_name, counts(object), self.counts)?;
         self.check_growth(id, None, Some(object))
     }
 
@@ -64,7 +68,7 @@ impl IndexedState {
         Ok(())
     }
 
-    /// Finds what stands against a DELETE.
+    /// Finds the rules that stand against a DELETE.
     pub(crate) fn check_delete(
         &self,
         old: &Object,
@@ -74,11 +78,21 @@ impl IndexedState {
     ) -> Result<(), Denial>
         requires found { AreFindings (case_at self.now.state id.now (Some old.now) None skip) found }
         requires there { object_at self.now.state.objects id.now ≡ Some old.now }
-        ensures refusal { option_map (refusal_by id.now) (fault_in result) ≡ refusal_of self.now.state (ask_of.Delete id.now skip) }
-        ensures fits { OnOk result (self.now.state.last < greatest_version) }
+        ensures refusal { option_map (refusal_by id.now) (fault_in result) ≡ rule_refusal self.now.state (ask_of.Delete id.now skip) }
+        ensures valid { OnOk result (IsValid self.now.state) }
     {
-        self.check_case(id, Some(old), None, found, skip)?;
-        self.check_growth(id, Some(old), None)
+        self.check_case(id, Some(old), None, found, skip)
+    }
+
+    /// Finds that something is written and no version is left.
+    pub(crate) fn check_version_left(&self, writes: &[Change]) -> Result<(), Denial>
+        ensures fault { fault_in result ≡ so (is_some_write writes.now && nat_le greatest_version self.now.state.last) (Denial.Broken Rule.L4) }
+        ensures fits { OnOk result (writes.now ≢ [] → self.now.state.last < greatest_version) }
+    {
+        if !writes.is_empty() && self.store.version() >= GREATEST_VERSION {
+            return Err(Denial::Broken(Rule::L4));
+        }
+        Ok(())
     }
 
     /// Finds that bytes rise over their limit where `new` stands in the place of `old`, or that no version is left.
@@ -133,6 +147,7 @@ impl IndexedState {
             hnc_config: self.hnc_config_for(old, new),
             misuses_exceptions: found.is_invalid,
             conflict: found.conflict,
+            family: self.family_for(id, new, skip),
             forest: &self.forest,
             config: &self.config,
             skip,

@@ -9,6 +9,7 @@ ghost use Rattle.hx_model.specs.State.{object_at};
 ghost use Rattle.hx_admit.specs.Inside.{AreFindings, IsConflictFor, IsConflictOf};
 
 use crate::case::Case;
+use crate::family::unasked_family;
 use crate::indexed_state::IndexedState;
 use crate::rules::{closes_cycle, has_invalid_exceptions, parent_after};
 use hx_object::{Id, Kind, NoMemory, Object};
@@ -103,6 +104,7 @@ impl IndexedState {
             hnc_config: None,
             misuses_exceptions: false,
             conflict: false,
+            family: unasked_family(),
             forest: &self.forest,
             config: &self.config,
             skip: false,

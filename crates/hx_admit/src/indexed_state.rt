@@ -1,27 +1,30 @@
 // A state with its indexes.
-ghost use Rattle.std.specs.Prelude.{◌≡◌, ◌≤◌, [], OnOk, OnErr, IfOk};
+ghost use Rattle.std.specs.Prelude.{◌≡◌, ◌≤◌, [], OnOk, OnErr};
 ghost use Rattle.hx_model.specs.Limits.{greatest_version};
 ghost use Rattle.hx_model.specs.State.{opening_state, state_after};
+ghost use Rattle.hx_model.specs.Subnamespaces.{owners_of};
 ghost use Rattle.hx_model.specs.Tree.{forest_of};
 ghost use Rattle.hx_model.specs.Writes.{MayWriteAll};
 
 use crate::limits::LimitCounts;
 use hx_forest::Forest;
 use hx_model::RunConfig;
-use hx_object::NoMemory;
+use hx_object::{NoMemory, Text};
 use hx_store::{Change, Store};
 use std::alloc::Global;
 use std::hash::RandomState;
 use std::marker::Model;
 
-/// The objects of a state, with their tree and their running numbers.
+/// The objects of a state, with their trees and their running numbers.
 ///
 /// Writes are staged first, which makes room for all that they change. They are made later without taking memory, or given up.
-/// Reviews are in review.rt, what stands against a write in checks.rt, what writes change beside the objects in plan.rt, and what is taken in at a start in load.rt.
+/// Reviews are in review.rt, what stands against a write in checks.rt, what writes change beside the objects in plan.rt, which names come and go in names.rt, and what is taken in at a start in load.rt.
 #[derive(Drop)]
 pub struct IndexedState {
     pub(crate) store: Store,
     pub(crate) forest: Forest,
+    /// All namespaces, each under the parent that its annotation names.
+    pub(crate) owners: Forest,
     pub(crate) counts: LimitCounts,
     /// The numbers once the staged writes are made.
     pub(crate) next: LimitCounts,
@@ -37,7 +40,7 @@ impl Model for IndexedState {
 
     ghost view = { λ s. record { state = state_in s.config s.store.objects s.store.version; staged = s.store.staged } };
 
-    ghost invariant = { λ s. IsIndexed s.config s.store s.counts s.next s.forest };
+    ghost invariant = { λ s. IsIndexed s.config s.store s.counts s.next s.forest s.owners };
 }
 
 impl IndexedState {
@@ -50,6 +53,7 @@ impl IndexedState {
         IndexedState {
             store: Store::new(alloc, version, keys),
             forest: Forest::new(alloc, keys),
+            owners: Forest::new(alloc, keys),
             counts: LimitCounts::none(),
             next: LimitCounts::none(),
             config,
@@ -78,6 +82,13 @@ impl IndexedState {
         &self.forest
     }
 
+    /// All namespaces, each under the parent that its annotation names.
+    pub(crate) fn owners(&self) -> &Forest
+        ensures { result.now.nodes ≡ owners_of self.now.state }
+    {
+        &self.owners
+    }
+
     /// What is fixed for the run.
     pub fn config(&self) -> &RunConfig
         ensures { result.now ≡ self.now.state.config }
@@ -97,6 +108,14 @@ impl IndexedState {
         self.store.staged()
     }
 
+    /// Makes ready for the removal of what lies in a namespace, the first object first. It changes nothing that is seen.
+    pub fn sort(&mut self, ns: &Text)
+        ensures state { self.new.state ≡ self.old.state }
+        ensures staged { self.new.staged ≡ self.old.staged }
+    {
+        self.store.sort(ns);
+    }
+
     /// Makes ready the writes of one version, and makes room for all that they change. What was staged before is given up.
     pub fn stage(&mut self, writes: Vec<Change>) -> Result<(), NoMemory>
         requires { MayWriteAll self.old.state writes.items }
@@ -107,6 +126,7 @@ impl IndexedState {
         self.discard();
         let plan = self.plan(writes.as_slice())?;
         self.forest.stage(plan.tree)?;
+        self.owners.stage(plan.owners)?;
         self.next = plan.counts;
         self.store.stage(writes)
     }
@@ -122,6 +142,7 @@ impl IndexedState {
         let version = self.store.version() + 1;
         self.store.apply(version);
         self.forest.apply();
+        self.owners.apply();
         self.counts = self.next;
     }
 
@@ -132,5 +153,6 @@ impl IndexedState {
     {
         self.store.discard();
         self.forest.discard();
+        self.owners.discard();
     }
 }

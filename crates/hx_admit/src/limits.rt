@@ -2,11 +2,12 @@
 ghost use Rattle.std.specs.Prelude.{◌≡◌, ◌≤◌, ◌+◌, ◌-◌, ◌^◌, [], None, IfSome, option_copied};
 ghost use Rattle.hx_object.specs.Sizes.{size_of, greatest_size};
 ghost use Rattle.hx_model.specs.First.{first};
-ghost use Rattle.hx_model.specs.Limits.{part_of, namespace_one, counted_one, counted_size, counts};
-ghost use Rattle.hx_admit.specs.Counting.{Counts, IsPart, IsTooWide, counts_of};
+ghost use Rattle.hx_model.specs.Limits.{part_of, counted_one, counted_size, counts};
+ghost use Rattle.hx_admit.specs.Counting.{Counts, IsPart, IsTooWide, counts_of, gone};
 ghost use Rattle.hx_admit.specs.Limiting.{count_denials, growth_denials, rises_over};
 ghost use Rattle.hx_admit.specs.Refusing.{fault_in};
 
+use crate::names::NameChange;
 use hx_model::{Denial, Rule, is_copy};
 use hx_object::Object;
 
@@ -42,14 +43,20 @@ impl LimitCounts {
         }
     }
 
-    /// The numbers once `new` stands in the place of `old`, where either may be none. `None` says that one of them doesn't fit 64 bits.
-    pub fn after(self, old: Option<&Object>, new: Option<&Object>) -> Option<LimitCounts>
+    /// The numbers once `new` stands in the place of `old`, where either may be none, and names have changed so. `None` says that one of them doesn't fit 64 bits.
+    pub(crate) fn after(
+        self,
+        old: Option<&Object>,
+        new: Option<&Object>,
+        name: NameChange,
+    ) -> Option<LimitCounts>
         requires small { IfSome (option_copied old) (λ x. size_of x ≤ greatest_size) × IfSome (option_copied new) (λ x. size_of x ≤ greatest_size) }
         requires counted { IsPart (option_copied old) self }
-        ensures numbers { IfSome result (Counts (option_copied old.entry) (option_copied new.entry) self) }
-        ensures wide { result ≡ None → IsTooWide (option_copied old.entry) (option_copied new.entry) self }
+        requires named { gone name ≤ self.names }
+        ensures numbers { IfSome result (Counts (option_copied old.entry) (option_copied new.entry) name self) }
+        ensures wide { result ≡ None → IsTooWide (option_copied old.entry) (option_copied new.entry) name self }
     {
-        let names = replaced(self.names, names_of(old), names_of(new))?;
+        let names = replaced(self.names, name.gone(), name.come())?;
         let objects = replaced(self.objects, objects_of(old), objects_of(new))?;
         let bytes = replaced(self.bytes, bytes_of(old), bytes_of(new))?;
         Some(LimitCounts {
@@ -113,15 +120,6 @@ fn rises_over(bytes: u64, old: u64, new: u64) -> bool
     ensures { result ≡ rises_over bytes old new }
 {
     old < new && bytes - old > MOST_BYTES - new
-}
-
-fn names_of(object: Option<&Object>) -> u64
-    ensures { result ≡ part_of namespace_one (option_copied object.entry) }
-{
-    match object {
-        Some(object) if object.id.kind.is_namespace() => 1,
-        _ => 0,
-    }
 }
 
 fn objects_of(object: Option<&Object>) -> u64

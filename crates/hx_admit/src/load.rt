@@ -32,10 +32,12 @@ impl IndexedState {
         let writes = storing(self.store.allocator(), object)?;
         let plan = self.plan(writes.as_slice())?;
         self.forest.stage(plan.tree)?;
+        self.owners.stage(plan.owners)?;
         self.store.stage(writes)?;
         let version = self.store.version();
         self.store.apply(version);
         self.forest.apply();
+        self.owners.apply();
         self.counts = plan.counts;
         Ok(())
     }

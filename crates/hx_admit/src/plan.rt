@@ -1,16 +1,18 @@
 // What writes change beside the objects.
-ghost use Rattle.std.specs.Prelude.{◌≡◌, ◌≤◌, IfOk, IfSome, option_copied};
+ghost use Rattle.std.specs.Prelude.{◌≡◌, ◌≤◌, ◌++◌, IfOk, OnOk, IfSome, option_copied};
 ghost use Rattle.hx_model.specs.State.{object_at};
-ghost use Rattle.hx_model.specs.Tree.{node_in};
+ghost use Rattle.hx_model.specs.Subnamespaces.{owned_node};
+ghost use Rattle.hx_model.specs.Tree.{node_in, parent_in};
 ghost use Rattle.hx_store.specs.Changes.{id_of, object_of};
 ghost use Rattle.hx_object.specs.Sizes.{size_of, greatest_size};
-ghost use Rattle.hx_admit.specs.Counting.{Counts, IsPart};
+ghost use Rattle.hx_admit.specs.Counting.{Counts, IsPart, gone};
 ghost use Rattle.hx_admit.specs.Inside.{IsHomeOf};
-ghost use Rattle.hx_admit.specs.Planning.{IsPlan, MayMakeAll, planting, moving, tree_change};
+ghost use Rattle.hx_admit.specs.Planning.{IsPlan, MayMakeAll, planting, moving, tree_change, owning, owner_change, listed};
 
 use crate::indexed_state::IndexedState;
 use crate::limits::LimitCounts;
-use crate::tree::{is_terminating, parent_by};
+use crate::names::NameChange;
+use crate::tree::{is_terminating, parent_by, subnamespace_parent};
 use hx_forest::Change as TreeChange;
 use hx_model::Node;
 use hx_object::well_known::HIERARCHY;
@@ -24,24 +26,32 @@ pub(crate) struct Plan {
     pub(crate) counts: LimitCounts,
     /// The changes of the tree, in the order of the writes.
     pub(crate) tree: Vec<TreeChange>,
+    /// Those of the owners.
+    pub(crate) owners: Vec<TreeChange>,
 }
 
 impl IndexedState {
     /// Finds what writes change. Each write is looked at by itself, since none touches what another looks at.
     pub(crate) fn plan(&self, writes: &[Change]) -> Result<Plan, NoMemory>
         requires { MayMakeAll self.now.state writes.now }
-        ensures plan { IfOk result (λ plan. IsPlan self.now.state writes.now plan.counts plan.tree.items) }
+        ensures plan { IfOk result (λ plan. IsPlan self.now.state writes.now plan.counts plan.tree.items plan.owners.items) }
     {
         let mut counts = self.counts;
         let mut tree = Vec::new(self.store.allocator());
+        let mut owners = Vec::new(self.store.allocator());
         for write in writes {
             let old = self.object_before(write);
-            counts = counts_after(counts, old, object_after(write))?;
-            if let Some(change) = self.tree_change(write, old)? {
-                tree.push(change)?;
-            }
+            let new = object_after(write);
+            let name = self.name_change(write.id(), old, new)?;
+            counts = counts_after(counts, old, new, name)?;
+            push_change(&mut tree, self.tree_change(write, old)?)?;
+            push_change(&mut owners, self.owner_change(write, old)?)?;
         }
-        Ok(Plan { counts, tree })
+        Ok(Plan {
+            counts,
+            tree,
+            owners,
+        })
     }
 
     /// The object that is there, of the identity of a write.
@@ -69,6 +79,21 @@ impl IndexedState {
             return moving(id, new, self.home_of(id));
         }
         Ok(None)
+    }
+
+    /// What a write changes of the owners.
+    fn owner_change(
+        &self,
+        write: &Change,
+        old: Option<&Object>,
+    ) -> Result<Option<TreeChange>, NoMemory>
+        requires { object_at self.now.state.objects (id_of write.now) ≡ option_copied old }
+        ensures { IfOk result (λ change. change ≡ owner_change self.now.state write.now) }
+    {
+        if !write.id().kind.is_namespace() {
+            return Ok(None);
+        }
+        owning(old, object_after(write))
     }
 
     /// The change by a namespace.
@@ -101,16 +126,22 @@ impl IndexedState {
     fn node_of(&self, namespace: &Object) -> Result<Node, NoMemory>
         ensures { IfOk result (λ node. node ≡ node_in self.now.state.config.excluded self.now.state.objects namespace.now) }
     {
-        let name = &namespace.id.name;
+        Ok(Node {
+            parent: clone_of(self.parent_of(namespace))?,
+            terminating: is_terminating(namespace),
+            excluded: self.config.excludes(&namespace.id.name),
+        })
+    }
+
+    /// The parent of a namespace, with the HierarchyConfiguration that it has.
+    fn parent_of<'a>(&'a self, namespace: &'a Object) -> Option<&'a Text>
+        ensures { option_copied result ≡ parent_in self.now.state.objects namespace.now }
+    {
+        let name = namespace.id.name.as_str();
         let hierarchy = self
             .store
-            .find(Kind::HierarchyConfiguration, name.as_str(), HIERARCHY);
-        let parent = parent_by(namespace, object_in(hierarchy));
-        Ok(Node {
-            parent: clone_of(parent)?,
-            terminating: is_terminating(namespace),
-            excluded: self.config.excludes(name),
-        })
+            .find(Kind::HierarchyConfiguration, name, HIERARCHY);
+        parent_by(namespace, object_in(hierarchy))
     }
 
     /// The namespace of a HierarchyConfiguration. The rules look at no other object's.
@@ -136,12 +167,14 @@ fn counts_after(
     counts: LimitCounts,
     old: Option<&Object>,
     new: Option<&Object>,
+    name: NameChange,
 ) -> Result<LimitCounts, NoMemory>
     requires small { IfSome (option_copied old) (λ x. size_of x ≤ greatest_size) × IfSome (option_copied new) (λ x. size_of x ≤ greatest_size) }
     requires counted { IsPart (option_copied old) counts }
-    ensures { IfOk result (Counts (option_copied old.entry) (option_copied new.entry) counts) }
+    requires named { gone name ≤ counts.names }
+    ensures { IfOk result (Counts (option_copied old.entry) (option_copied new.entry) name counts) }
 {
-    counts.after(old, new).ok_or(NoMemory)
+    counts.after(old, new, name).ok_or(NoMemory)
 }
 
 /// The change by a HierarchyConfiguration, where its namespace is there.
@@ -162,6 +195,43 @@ fn moving(
         })),
         None => Ok(None),
     }
+}
+
+/// The change of the owners by a namespace. One that is there keeps its annotation.
+fn owning(old: Option<&Object>, new: Option<&Object>) -> Result<Option<TreeChange>, NoMemory>
+    ensures { IfOk result (λ change. change ≡ owning (option_copied old.entry) (option_copied new.entry)) }
+{
+    match (old, new) {
+        (None, Some(new)) => Ok(Some(TreeChange::Add {
+            name: new.id.name.clone()?,
+            node: owned_node(new)?,
+        })),
+        (Some(old), None) => Ok(Some(TreeChange::Remove {
+            name: old.id.name.clone()?,
+        })),
+        _ => Ok(None),
+    }
+}
+
+/// A namespace under the parent that its annotation names.
+fn owned_node(namespace: &Object) -> Result<Node, NoMemory>
+    ensures { IfOk result (λ node. node ≡ owned_node namespace.now) }
+{
+    Ok(Node {
+        parent: clone_of(subnamespace_parent(namespace))?,
+        terminating: false,
+        excluded: false,
+    })
+}
+
+/// Adds a change, where there is one.
+fn push_change(changes: &mut Vec<TreeChange>, change: Option<TreeChange>) -> Result<(), NoMemory>
+    ensures { OnOk result (changes.new.items ≡ changes.old.items ++ listed change) }
+{
+    if let Some(change) = change {
+        changes.push(change)?;
+    }
+    Ok(())
 }
 
 /// The object that is found.

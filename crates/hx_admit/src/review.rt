@@ -1,11 +1,11 @@
 // What a request writes and is answered.
-ghost use Rattle.std.specs.Prelude.{◌≡◌, ◌⊎◌, ◌+◌, ◌<◌, [], false, Some, option_copied, IfOk, IfErr};
+ghost use Rattle.std.specs.Prelude.{◌≡◌, ◌⊎◌, ◌+◌, ◌<◌, [], true, Some, option_copied, IfOk, IfErr};
 ghost use Rattle.hx_model.specs.Answers.{refusal_of};
-ghost use Rattle.hx_model.specs.Limits.{is_namespace, greatest_version};
-ghost use Rattle.hx_model.specs.Serving.{IsServed, IsServedAsk};
-ghost use Rattle.hx_model.specs.State.{object_at, with_version};
+ghost use Rattle.hx_model.specs.Limits.{greatest_version};
+ghost use Rattle.hx_model.specs.Serving.{IsServed, IsServedAsk, is_given};
+ghost use Rattle.hx_model.specs.State.{object_at, with_version, state_after};
 ghost use Rattle.hx_model.specs.declared.key.Write.TheVariants as write_of;
-ghost use Rattle.hx_admit.specs.Inside.{IsRefusal, IsReplacement, IsReviewed};
+ghost use Rattle.hx_admit.specs.Inside.{IsRefusal, IsReplacement, IsReviewed, IsDeletion};
 ghost use Rattle.hx_admit.specs.Reviewing.{Passes};
 ghost use Rattle.hx_model.specs.Writes.{MayWriteAll};
 
@@ -35,7 +35,7 @@ impl IndexedState {
                 expected,
                 skip,
             } => self.review_replace(object, expected, skip),
-            Ask::Delete { id, skip } => self.review_delete(id, skip),
+            Ask::Delete { id, skip } => self.review_delete(&id, skip),
         }
     }
 
@@ -73,13 +73,15 @@ impl IndexedState {
     }
 
     fn review_create(&self, object: Object, skip: bool) -> Result<Reviewed, Refusal>
-        requires { IsServed object }
+        requires served { IsServed object }
+        requires given { is_given object.payload ≡ true }
         ensures refused { IfErr result (IsRefusal self.now.state (Ask.Create object skip)) }
         ensures passes { IfOk result (λ r. Passes self.now.state (Ask.Create object skip) r.writes.items r.answer) }
         ensures may { IfOk result (λ r. MayWriteAll self.now.state r.writes.items) }
     {
         let found = self.findings(&object.id, self.object(&object.id), Some(&object), skip)?;
-        if let Err(denial) = self.check_create(&object, found, skip) {
+        let brings_name = self.brings_name(&object.id)?;
+        if let Err(denial) = self.check_create(&object, found, brings_name, skip) {
             return Err(denial.refusal(&object.id));
         }
         Ok(self.put(object, true)?)
@@ -133,20 +135,32 @@ impl IndexedState {
         Ok(replaced_by(old, object)?)
     }
 
-    fn review_delete(&self, id: Id, skip: bool) -> Result<Reviewed, Refusal>
-        requires { is_namespace id.kind ≡ false }
-        ensures refused { IfErr result (IsRefusal self.now.state (Ask.Delete id skip)) }
-        ensures passes { IfOk result (λ r. Passes self.now.state (Ask.Delete id skip) r.writes.items r.answer) }
+    fn review_delete(&self, id: &Id, skip: bool) -> Result<Reviewed, Refusal>
+        ensures refused { IfErr result (IsRefusal self.now.state (Ask.Delete id.now skip)) }
+        ensures passes { IfOk result (λ r. Passes self.now.state (Ask.Delete id.now skip) r.writes.items r.answer) }
         ensures may { IfOk result (λ r. MayWriteAll self.now.state r.writes.items) }
     {
-        let Some(old) = self.store.get(&id) else {
-            return Err(Denial::NotFound.refusal(&id));
+        let Some(old) = self.store.get(id) else {
+            return Err(Denial::NotFound.refusal(id));
         };
-        let found = self.findings(&id, Some(old.object()), None, skip)?;
-        if let Err(denial) = self.check_delete(old.object(), &id, found, skip) {
-            return Err(denial.refusal(&id));
+        let writes = self.deletion(id, old.object(), skip)?;
+        if let Err(denial) = self.check_version_left(&writes) {
+            return Err(denial.refusal(id));
         }
-        Ok(self.cut(id)?)
+        Ok(self.deleted(writes))
+    }
+
+    /// What a DELETE of an object that is there changes, where no rule stands against it.
+    fn deletion(&self, id: &Id, old: &Object, skip: bool) -> Result<Vec<Change>, Refusal>
+        requires { object_at self.now.state.objects id.now ≡ Some old.now }
+        ensures refused { IfErr result (IsRefusal self.now.state (Ask.Delete id.now skip)) }
+        ensures gives { IfOk result (λ writes. IsDeletion self.now.state id.now old.now skip writes.items) }
+    {
+        let found = self.findings(id, Some(old), None, skip)?;
+        if let Err(denial) = self.check_delete(old, id, found, skip) {
+            return Err(denial.refusal(id));
+        }
+        Ok(self.removal(id, old, skip)?)
     }
 
     /// The object of an identity.
@@ -186,16 +200,16 @@ impl IndexedState {
         })
     }
 
-    /// The review of a request that removes an object.
-    fn cut(&self, id: Id) -> Result<Reviewed, NoMemory>
-        requires { self.now.state.last < greatest_version }
-        ensures { IfOk result (λ r. IsReviewed (write_of.Cut id) (Answer.Gone (self.now.state.last + 1)) r.writes.items r.answer) }
+    /// The review of a request that removes an object, by what it writes.
+    fn deleted(&self, writes: Vec<Change>) -> Reviewed
+        ensures writing { result.writes.items ≡ writes.items }
+        ensures answers { result.answer ≡ Answer.Gone (state_after self.now.state writes.items).last }
     {
-        Ok(Reviewed {
-            writes: vec![in self.store.allocator(); Change::cut(id)]?,
-            answer: Answer::Gone {
-                version: self.store.version() + 1,
-            },
-        })
+        let last = self.store.version();
+        let version = if writes.is_empty() { last } else { last + 1 };
+        Reviewed {
+            writes,
+            answer: Answer::Gone { version },
+        }
     }
 }

@@ -8,6 +8,7 @@ ghost use Rattle.hx_model.specs.RulesCopies.{misuses_exceptions};
 ghost use Rattle.hx_admit.specs.Refusing.{fault_in};
 ghost use Rattle.hx_admit.specs.Ruling.{case_of, IsAtHome};
 
+mod anchor;
 mod config;
 mod copies;
 mod hierarchy;
@@ -27,6 +28,7 @@ pub fn check_rules(case: &Case) -> Result<(), Denial>
     ensures { fault_in result ≡ first (rules (case_of case.now)) }
 {
     check_rule(Rule::X1, case.skip && !case.config.allow_skip)?;
+    check_rule(Rule::N4, namespace::enters_leaving(case))?;
     check_name(case)?;
     check_rule(Rule::O1, touches_copy(case))?;
     check_kind(case)
@@ -53,6 +55,7 @@ fn check_kind(case: &Case) -> Result<(), Denial>
         Kind::Namespace => namespace::check_rules(case),
         Kind::HierarchyConfiguration => hierarchy::check_rules(case),
         Kind::HncConfiguration => config::check_rules(case),
+        Kind::SubnamespaceAnchor => anchor::check_rules(case),
         _ => copies::check_source(case),
     }
 }

@@ -15,8 +15,8 @@ use hx_model::{Denial, Rule};
 use hx_object::Text;
 use hx_object::well_known::HIERARCHY;
 
-/// No namespace is moved to a greater depth. A root is at depth 0.
-const GREATEST_DEPTH: usize = 64;
+/// No namespace comes to a greater depth. A root is at depth 0.
+pub const GREATEST_DEPTH: usize = 64;
 
 pub fn check_rules(case: &Case) -> Result<(), Denial>
     requires { IsAtHome (case_of case.now) }

@@ -17,7 +17,8 @@ invariant_of-self-2 c =
     let same = ap (λ (v : StateView). v.state) c.self.view_is in
     let stored = subst (λ (s : State). IsStored s.last c.args.object) (sym c.discard.ensures.state) c.requires.stored in
     let home = subst (λ (s : State). has_home s.objects c.args.object.id ≡ true) (sym c.discard.ensures.state) c.requires.home in
-    let staged = c.in_ok-stage-2.ensures.staged ∙ sym c.as_slice.ensures.value in
-    indexed_loaded c.self.inside.config c.self.inside.store c.apply.new.self c.self.inside.counts c.self.inside.next c.in_ok-plan.plan.counts c.self.inside.forest c.apply-2.new.self c.in_ok-plan.plan.tree.items c.discard.new.self.state c.args.object c.as_slice.result.now
-    c.self.invariant same stored home (c.as_slice.ensures.value ∙ c.in_ok-writes.ensures) c.in_ok-plan.ensures.plan (c.apply.ensures.objects ∙ (λ i. after_writes (staged i) (c.stage-2.ensures.objects i))) (c.apply.ensures.version ∙ c.version-version.ensures ∙ c.stage-2.ensures.version) c.apply.ensures.staged
+    let staged = c.in_ok-stage-3.ensures.staged ∙ sym c.as_slice.ensures.value in
+    indexed_loaded c.self.inside.config c.self.inside.store c.apply.new.self c.self.inside.counts c.self.inside.next c.in_ok-plan.plan.counts c.self.inside.forest c.apply-2.new.self c.self.inside.owners c.apply-3.new.self c.in_ok-plan.plan.tree.items c.in_ok-plan.plan.owners.items c.discard.new.self.state c.args.object c.as_slice.result.now
+    c.self.invariant same stored home (c.as_slice.ensures.value ∙ c.in_ok-writes.ensures) c.in_ok-plan.ensures.plan (c.apply.ensures.objects ∙ (λ i. after_writes (staged i) (c.stage-3.ensures.objects i))) (c.apply.ensures.version ∙ c.version-version.ensures ∙ c.stage-3.ensures.version) c.apply.ensures.staged
     (c.apply-2.ensures.nodes ∙ (λ i. changed_by_all (c.in_ok-stage.ensures.staged i) (c.stage.ensures.nodes i)))
+    (c.apply-3.ensures.nodes ∙ (λ i. changed_by_all (c.in_ok-stage-2.ensures.staged i) (c.stage-2.ensures.nodes i)))

@@ -8,27 +8,29 @@ use Rattle.hx_model.specs.Cases.{any_of, same_name}
 use Rattle.hx_model.specs.Conflicts.{makes_conflict, with_written}
 use Rattle.hx_model.specs.Forest.{Forest, in_chain, parent_of}
 use Rattle.hx_model.specs.RulesHierarchy.{closes_cycle, brought_parent, parent_after}
-use Rattle.hx_model.specs.State.{object_at, home_in}
+use Rattle.hx_model.specs.State.{home_in}
 use Rattle.hx_model.specs.Tree.{hierarchy, parent_with, forest_of}
 use Rattle.hx_admit.specs.Moves.{CanMove, IsMovedBy}
-use Rattle.hx_admit.specs.StateView.{StateView}
-use Rattle.hx_admit.proofs.Counting.{agrees_served}
-use Rattle.hx_admit.proofs.Homes.{at_home}
+use Rattle.hx_admit.specs.Ruling.{family_in}
+use Rattle.hx_admit.proofs.Counting.{valid_served}
+use Rattle.hx_admit.proofs.Ruled.{at_home}
+use Rattle.hx_admit.proofs.Seen.{valid_seen, planted_seen}
 use Rattle.hx_admit.proofs.Moved.{if_ok_by}
 use Rattle.hx_admit.proofs.MovedCase.{can_move, moved_by_case}
 use Rattle.hx_admit.proofs.indexed_state.IndexedState.moves_into_conflict.Goals as goal
 
 pub returns-then-closes_cycle : goal.returns-then-closes_cycle
 returns-then-closes_cycle c =
-    let trees : c.self.inside.forest.nodes ≡ forest_of c.args.self.now.state = c.self.invariant.now.planted ∙ ap (λ (v : StateView). forest_of v.state) c.self.view_is in
+    let trees : c.self.inside.forest.nodes ≡ forest_of c.args.self.now.state = planted_seen c.self.view_is c.self.invariant.now in
     λ apart. absurd (true≢false (sym c.if-closes_cycle.true ∙ c.closes_cycle.ensures
     ∙ ap (λ (f : Forest). any_of (λ p. in_chain f p c.args.id.now.ns) (brought_parent (option_copied c.args.old) (option_copied c.args.new))) trees ∙ apart))
 
 pub overwrites_by_move-requires : goal.overwrites_by_move-requires
 overwrites_by_move-requires c =
-    let trees : c.self.inside.forest.nodes ≡ forest_of c.args.self.now.state = c.self.invariant.now.planted ∙ ap (λ (v : StateView). forest_of v.state) c.self.view_is in
-    let home = at_home c.self.inside.config c.self.inside.store.objects c.self.inside.forest.nodes c.args.id.now (option_copied c.args.old) (option_copied c.args.new) (option_copied c.home_of.result) None false false (agrees_served _ _ _ _ _ c.self.invariant.now) c.self.invariant.now.planted
-    (ap (λ (k : StateView). object_at k.state.objects c.args.id.now) c.self.view_is ∙ c.requires.there) (c.home_of.ensures c.requires.kind ∙ sym (ap (λ (k : StateView). home_in k.state.objects c.args.id.now) c.self.view_is)) c.requires.kind in
+    let trees : c.self.inside.forest.nodes ≡ forest_of c.args.self.now.state = planted_seen c.self.view_is c.self.invariant.now in
+    let home = at_home c.args.self.now.state
+    (record { id = c.args.id.now; old = option_copied c.args.old; new = option_copied c.args.new; home = option_copied c.home_of.result; hnc_config = None; conflict = false; family = family_in c.unasked_family.result; tree = c.self.inside.forest.nodes; config = c.self.inside.config; skip = false })
+    (valid_served c.args.self.now.state (valid_seen c.self.view_is c.self.invariant.now)) trees c.requires.there (c.home_of.ensures c.requires.kind) c.requires.kind in
     record {
       moves =
           subst (λ (f : Forest). same_name (parent_of f c.args.id.now.ns) (option_copied c.parent_after.result) ≡ false → CanMove f c.args.id.now.ns (option_copied c.parent_after.result)) trees
@@ -38,7 +40,7 @@ overwrites_by_move-requires c =
 
 pub returns : goal.returns
 returns c =
-    let trees : c.self.inside.forest.nodes ≡ forest_of c.args.self.now.state = c.self.invariant.now.planted ∙ ap (λ (v : StateView). forest_of v.state) c.self.view_is in
+    let trees : c.self.inside.forest.nodes ≡ forest_of c.args.self.now.state = planted_seen c.self.view_is c.self.invariant.now in
     let homes : option_copied c.home_of.result ≡ home_in c.args.self.now.state.objects c.args.id.now = c.home_of.ensures c.requires.kind in
     let parent : option_copied c.parent_after.result ≡ parent_after (case_at c.args.self.now.state c.args.id.now (option_copied c.args.old) (option_copied c.args.new) false) =
     c.parent_after.ensures ∙ (λ i. if bytes_eq c.args.id.now.name hierarchy then option_and_then (parent_with (option_copied c.args.new)) (homes i) else parent_of (trees i) c.args.id.now.ns) in

@@ -1,31 +1,38 @@
-use Rattle.std.proofs.Common.{◌≡◌, ◌++◌, None, Some, Option, refl, sym, ap, ◌∙◌}
-use Rattle.std.proofs.lemmas.List.{append-nil}
+use Rattle.std.proofs.Common.{◌≡◌, ◌++◌, ◌≤◌, sym, ap, subst, ◌∙◌}
 use Rattle.hx_model.specs.State.{object_at}
 use Rattle.hx_store.specs.Changes.{id_of, object_of}
-use Rattle.hx_admit.specs.Counting.{Counts}
-use Rattle.hx_admit.specs.Planning.{tree_change}
-use Rattle.hx_admit.proofs.Counting.{agrees_seen}
-use Rattle.hx_admit.proofs.Staging.{plan_step, plan_small, plan_part, listed}
+use Rattle.hx_admit.specs.Counting.{Counts, gone, name_change}
+use Rattle.hx_admit.specs.Planning.{listed}
+use Rattle.hx_admit.proofs.Counting.{agrees_named, agrees_seen}
+use Rattle.hx_admit.proofs.NameCounts.{names_by}
+use Rattle.hx_admit.proofs.Staging.{plan_step, plan_small, plan_part, plan_named}
 use Rattle.hx_admit.proofs.indexed_state.IndexedState.plan.Goals as goal
-use Rattle.hx_admit.proofs.indexed_state.IndexedState.plan.Goals.{in-Some+in_ok-push, in_default}
-
-is_none_found : {A : Type 0} (o : Option A) → ((x : A) → o ≡ Some x → ⊥) → o ≡ None
-is_none_found None out = refl
-is_none_found (Some x) out = absurd (out x refl)
 
 pub counts_after-requires-clause-small : goal.counts_after-requires-clause-small
 counts_after-requires-clause-small c =
-    rw (c.object_before-old.ensures, c.object_after.ensures) (plan_small c.args.self.now.state c.args.writes.now c.loop-write.write-index c.write-item.result c.self.inside.counts c.self.inside.forest.nodes (agrees_seen c.self.view_is c.self.invariant.now) c.requires c.loop-write-test.true c.write-item.is)
+    rw (c.object_before-old.ensures, c.object_after-new.ensures) (plan_small c.args.self.now.state c.args.writes.now c.loop-write.write-index c.write-item.result c.self.inside.counts c.self.inside.forest.nodes c.self.inside.owners.nodes (agrees_seen c.self.view_is c.self.invariant.now) c.requires c.loop-write-test.true c.write-item.is)
 
 pub counts_after-requires-clause-counted : goal.counts_after-requires-clause-counted
 counts_after-requires-clause-counted c =
-    rw c.object_before-old.ensures (plan_part c.args.self.now.state c.args.writes.now c.loop-write.write-index c.write-item.result c.loop-write.counts c.loop-write.tree.items c.loop-write.invariant c.requires c.loop-write-test.true c.write-item.is)
+    rw c.object_before-old.ensures (plan_part c.args.self.now.state c.args.writes.now c.loop-write.counts c.loop-write.tree.items c.loop-write.owners.items (agrees_named _ _ _ _ _ _ (agrees_seen c.self.view_is c.self.invariant.now)) c.requires
+    c.loop-write.write-index c.write-item.result c.loop-write-test.true c.write-item.is c.loop-write.invariant)
+
+pub counts_after-requires-clause-named : goal.counts_after-requires-clause-named
+counts_after-requires-clause-named c =
+    let s = c.args.self.now.state in
+    let named : c.in_ok-name.name ≡ names_by s.objects c.write-item.result = c.in_ok-name.ensures ∙ (λ i. name_change s.objects (c.id.ensures i) (c.object_before-old.ensures i) (c.object_after-new.ensures i)) in
+    subst (λ name. gone name ≤ c.loop-write.counts.names) (sym named)
+    (plan_named s c.args.writes.now c.loop-write.counts c.loop-write.tree.items c.loop-write.owners.items (agrees_named _ _ _ _ _ _ (agrees_seen c.self.view_is c.self.invariant.now)) c.requires
+    c.loop-write.write-index c.write-item.result c.loop-write-test.true c.write-item.is c.loop-write.invariant)
 
 pub loop-write-preserved : goal.loop-write-preserved
 loop-write-preserved c =
-    let moves : Counts (object_at c.args.self.now.state.objects (id_of c.write-item.result)) (object_of c.write-item.result) c.loop-write.counts c.in_ok-counts.counts = rw (← c.object_before-old.ensures, ← c.object_after.ensures) c.in_ok-counts.ensures in
-    let grown : c.match-branch-3.tree.items ≡ c.loop-write.tree.items ++ listed (tree_change c.args.self.now.state c.write-item.result) = elim c.match-branch-3.branch [
-      | in-Some+in_ok-push w ↦ rw w.tree-is (w.in_ok-push.ensures.items ∙ ap (λ o. c.loop-write.tree.items ++ listed o) (sym w.in-Some.is ∙ c.in_ok-change.ensures))
-      | in_default w ↦ rw w.tree-is (sym (append-nil c.loop-write.tree.items) ∙ ap (λ o. c.loop-write.tree.items ++ listed o) (sym (is_none_found c.in_ok-change.field-0 w.in_default.not-Some) ∙ c.in_ok-change.ensures))
-    ] in
-    plan_step c.args.self.now.state c.args.writes.now c.loop-write.write-index c.write-item.result c.loop-write.counts c.in_ok-counts.counts c.loop-write.tree.items c.match-branch-3.tree.items c.loop-write.invariant c.requires c.loop-write-test.true c.write-item.is moves grown
+    let s = c.args.self.now.state in
+    let w = c.write-item.result in
+    let named : c.in_ok-name.name ≡ names_by s.objects w = c.in_ok-name.ensures ∙ (λ i. name_change s.objects (c.id.ensures i) (c.object_before-old.ensures i) (c.object_after-new.ensures i)) in
+    let moves : Counts (object_at s.objects (id_of w)) (object_of w) (names_by s.objects w) c.loop-write.counts c.in_ok-counts.counts =
+    subst (λ name. Counts (object_at s.objects (id_of w)) (object_of w) name c.loop-write.counts c.in_ok-counts.counts) named (rw (← c.object_before-old.ensures, ← c.object_after-new.ensures) c.in_ok-counts.ensures) in
+    plan_step s c.args.writes.now c.loop-write.counts c.loop-write.tree.items c.loop-write.owners.items (agrees_named _ _ _ _ _ _ (agrees_seen c.self.view_is c.self.invariant.now)) c.requires
+    c.loop-write.write-index w c.loop-write-test.true c.write-item.is c.loop-write.invariant c.in_ok-counts.counts c.push_change.new.changes.items c.push_change-in-loop-write.new.changes.items moves
+    (c.in_ok-push_change.ensures ∙ ap (λ change. c.loop-write.tree.items ++ listed change) c.in_ok-tree_change.ensures)
+    (c.in_ok-push_change-2.ensures ∙ ap (λ change. c.loop-write.owners.items ++ listed change) c.in_ok-owner_change.ensures)

@@ -1,16 +1,19 @@
 use Rattle.std.proofs.Common.{◌+◌, Option, sym, subst}
-use Rattle.std.specs.Prelude.{IfSome}
 use Rattle.hx_object.specs.declared.object.Object.{Object}
 use Rattle.hx_model.specs.State.{with_version}
+use Rattle.hx_model.specs.Writes.{HasPlace}
+use Rattle.hx_model.specs.declared.ask.Ask.TheVariants.{Create}
 use Rattle.hx_model.specs.declared.key.Write.TheVariants.{Put}
-use Rattle.hx_model.specs.Writes.{KeepsItsPlace}
-use Rattle.hx_admit.proofs.Reviewing.{passes_create, may_one, may_put}
+use Rattle.hx_admit.proofs.Reviewing.{refused_by, passes_create, may_one, may_put, given_stays}
 use Rattle.hx_admit.proofs.indexed_state.IndexedState.review_create.Goals as goal
 
+pub returns-in-Err-clause-refused : goal.returns-in-Err-clause-refused
+returns-in-Err-clause-refused c = refused_by c.args.self.now.state (Create c.args.object c.args.skip) c.args.object.id c.in-Err.denial _ (sym c.in-Err.ensures.refusal) c.refusal.ensures
+
 pub returns-clause-passes : goal.returns-clause-passes
-returns-clause-passes c = passes_create c.args.self.now.state c.args.object c.args.skip _ _ c.requires (sym c.in_default.ensures.refusal) c.in_ok-put.ensures
+returns-clause-passes c = passes_create c.args.self.now.state c.args.object c.args.skip _ _ c.requires.served (sym c.in_default.ensures.refusal) c.in_ok-put.ensures
 
 pub returns-clause-may : goal.returns-clause-may
 returns-clause-may c =
-    let may = may_put c.args.self.now.state c.args.object c.requires c.in_default.ensures.home (λ _. subst (λ (o : Option Object). IfSome o (λ old. KeepsItsPlace old c.args.object)) (sym c.in_default.ensures.free) tt) in
+    let may = may_put c.args.self.now.state c.args.object c.requires.served c.in_default.ensures.home (λ _. subst (λ (o : Option Object). HasPlace o c.args.object) (sym c.in_default.ensures.free) (given_stays c.args.object.payload c.requires.given)) in
     may_one c.args.self.now.state (Put (with_version c.args.object (c.args.self.now.state.last + 1))) _ may c.in_default.ensures.fits c.in_ok-put.ensures.writing

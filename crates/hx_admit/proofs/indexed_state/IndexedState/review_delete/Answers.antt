@@ -1,10 +1,21 @@
-use Rattle.std.proofs.Common.{◌≡◌, Some, sym}
-use Rattle.hx_model.specs.State.{object_at}
-use Rattle.hx_model.specs.declared.key.Write.TheVariants.{Cut}
-use Rattle.hx_admit.proofs.Reviewing.{may_one}
+use Rattle.std.proofs.Common.{None, Some, ap}
+use Rattle.hx_model.specs.declared.ask.Ask.TheVariants.{Delete}
+use Rattle.hx_admit.specs.Refusing.{fault_in}
+use Rattle.hx_admit.proofs.Refusing.{delete_rest}
+use Rattle.hx_admit.proofs.Removing.{may_delete}
+use Rattle.hx_admit.proofs.Reviewing.{refused_by, passes_delete}
 use Rattle.hx_admit.proofs.indexed_state.IndexedState.review_delete.Goals as goal
+
+pub returns-in-Err-clause-refused : goal.returns-in-Err-clause-refused
+returns-in-Err-clause-refused c =
+    let refusal = delete_rest c.args.self.now.state c.args.id.now c.object.result.now c.args.skip c.in_ok-writes.writes.items c.check_version_left.result (Some c.in-Err.denial) c.in_ok-writes.ensures.gives (rw c.deref.ensures.value at c.check_version_left.ensures.fault) (ap fault_in c.in-Err.is) in
+    refused_by c.args.self.now.state (Delete c.args.id.now c.args.skip) c.args.id.now c.in-Err.denial _ refusal c.refusal-in-Err.ensures
+
+pub returns-clause-passes : goal.returns-clause-passes
+returns-clause-passes c =
+    let passes = delete_rest c.args.self.now.state c.args.id.now c.object.result.now c.args.skip c.in_ok-writes.writes.items c.check_version_left.result None c.in_ok-writes.ensures.gives (rw c.deref.ensures.value at c.check_version_left.ensures.fault) (ap fault_in c.in_default-check_version_left.is) in
+    passes_delete c.args.self.now.state c.args.id.now c.object.result.now c.args.skip c.in_ok-writes.writes.items _ _ c.in_ok-writes.ensures.gives passes c.deleted.ensures.writing c.deleted.ensures.answers
 
 pub returns-clause-may : goal.returns-clause-may
 returns-clause-may c =
-    let there : object_at c.args.self.now.state.objects c.args.id ≡ Some c.in-Some.old.now = rw (← c.self.view_is) (sym c.in-Some.ensures) in
-    may_one c.args.self.now.state (Cut c.args.id) _ (record { there = (c.in-Some.old.now, there); leaf = c.requires }) c.in_default-check_delete.ensures.fits c.in_ok-cut.ensures.writing
+    rw c.deleted.ensures.writing (may_delete c.args.self.now.state c.args.id.now c.object.result.now c.args.skip c.in_ok-writes.writes.items c.in_ok-writes.ensures.gives (rw c.deref.ensures.value at c.in_default-check_version_left.ensures.fits))

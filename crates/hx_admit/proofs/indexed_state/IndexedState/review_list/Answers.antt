@@ -1,4 +1,4 @@
-use Rattle.std.proofs.Common.{◌≡◌, ◌∙◌, ap, filter, rules}
+use Rattle.std.proofs.Common.{[], ◌≡◌, ◌∙◌, refl, ap, filter, rules}
 use Rattle.std.proofs.lemmas.Fn.{filter_same}
 use Rattle.std.specs.Prelude.{option_copied}
 use Rattle.hx_object.specs.declared.object.Object.{Object}
@@ -6,8 +6,8 @@ use Rattle.hx_select.specs.Selectors.{selects}
 use Rattle.hx_model.specs.Answers.{selected}
 use Rattle.hx_model.specs.declared.ask.Answer.TheVariants.{Many}
 use Rattle.hx_admit.specs.StateView.{state_in}
-use Rattle.hx_admit.proofs.Counting.{listed_legal}
 use Rattle.hx_admit.proofs.Reviewing.{passes_list}
+use Rattle.hx_admit.proofs.Seen.{legal_listed}
 use Rattle.hx_admit.proofs.indexed_state.IndexedState.review_list.Goals as goal
 
 pub returns-clause-passes : goal.returns-clause-passes
@@ -16,5 +16,5 @@ returns-clause-passes c =
     let holds = λ (x : Object). selects selector x.labels in
     let kept = filter_same _ holds _ (λ x b f k. search rules) _ _ c.retain.ensures.filtered in
     let listed : c.of.result ≡ selected c.args.kind (option_copied c.args.ns) selector c.self.inside.store.objects = c.of.ensures ∙ kept ∙ ap (filter holds) c.in_ok-objects.ensures in
-    rw (← c.self.view_is) (passes_list (state_in c.self.inside.config c.self.inside.store.objects c.self.inside.store.version) c.args.kind (option_copied c.args.ns) selector _ _ (listed_legal _ _ _ _ _ c.self.invariant.now c.args.kind (option_copied c.args.ns) selector) c.unchanged.ensures.writing
+    rw (← c.self.view_is) (passes_list (state_in c.self.inside.config c.self.inside.store.objects c.self.inside.store.version) c.args.kind (option_copied c.args.ns) selector _ _ (legal_listed {staged = []} refl c.self.invariant.now c.args.kind (option_copied c.args.ns) selector) c.unchanged.ensures.writing
     (c.unchanged.ensures.answers ∙ (λ i. Many c.args.kind (listed i) (c.version.ensures i))))

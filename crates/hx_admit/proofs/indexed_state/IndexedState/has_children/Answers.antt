@@ -1,0 +1,12 @@
+use Rattle.std.proofs.Common.{◌==◌, not, length, ap, ◌∙◌}
+use Rattle.hx_forest.specs.Children.{children_of}
+use Rattle.hx_model.specs.Forest.{Forest}
+use Rattle.hx_model.specs.Tree.{forest_of}
+use Rattle.hx_admit.proofs.Families.{any_child}
+use Rattle.hx_admit.proofs.Seen.{planted_seen}
+use Rattle.hx_admit.proofs.indexed_state.IndexedState.has_children.Goals as goal
+
+pub returns : goal.returns
+returns c =
+    let names = c.children.ensures.names ∙ ap (λ (f : Forest). children_of f c.args.name.now) (planted_seen c.self.view_is c.self.invariant.now) in
+    ap not (c.is_empty.ensures ∙ ap (λ ns. length ns == 0) names) ∙ any_child (forest_of c.args.self.now.state) c.args.name.now
