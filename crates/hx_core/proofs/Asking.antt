@@ -1,5 +1,5 @@
 -- The entries of requests, by what was done for them.
---     passes_one         an ask that makes writes makes one
+--     passes_orderly     the writes of an ask are those that a commit may make
 --     passes_entry       an answer of success is a request's own entry
 --     asks_refused       an ask that is refused, or for which no memory was left
 --     asks_passed        an answer without writes
@@ -7,29 +7,33 @@
 --     asks_lost          an ask whose writes were lost
 --     idle_written       an ask that makes a write would change something
 use Rattle.std.proofs.Common.{◌≡◌, ◌≢◌, Bool, true, false, List, [], ◌∷◌, None, Some, Option, refl, sym, ap, subst, ◌∙◌, inl, inr}
-use Rattle.std.specs.Prelude.{◌⊎◌, ◌+◌, ◌||◌, if◌then◌else◌}
+use Rattle.std.specs.Prelude.{◌⊎◌, ◌||◌}
+use Rattle.std.specs.List.{AllByRecursion}
 use Rattle.hx_object.specs.declared.object.Id.{Id}
 use Rattle.hx_object.specs.declared.object.Object.{Object}
-use Rattle.hx_model.specs.Answers.{refusal_of, answer_to, writes_of, success, answer_found, replaced_by, replacing, same_object, Mutates}
+use Rattle.hx_model.specs.Answers.{refusal_of, answer_to, writes_of, success, answer_found, Mutates}
 use Rattle.hx_model.specs.Keys.{may_mark}
 use Rattle.hx_model.specs.Machine.{World, Request, LostRequest, NoMemory, KeeperFault, broken_at, writes_if, writes_made}
 use Rattle.hx_model.specs.Requests.{request_entry}
-use Rattle.hx_model.specs.State.{State, state_after, object_at, with_version}
+use Rattle.hx_model.specs.State.{State, state_after, object_at}
+use Rattle.hx_model.specs.Valid.{IsValid}
 use Rattle.hx_model.specs.declared.ask.Ask.{Ask}
 use Rattle.hx_model.specs.declared.ask.Ask.TheVariants.{Get, List as ListOf, Create, Replace, Delete}
 use Rattle.hx_model.specs.declared.ask.Answer.{Answer}
 use Rattle.hx_model.specs.declared.ask.Answer.TheVariants.{Refused as Refusing}
 use Rattle.hx_model.specs.declared.key.Key.{Key}
 use Rattle.hx_model.specs.declared.key.Write.{Write}
-use Rattle.hx_model.specs.declared.key.Write.TheVariants.{Put, Cut}
 use Rattle.hx_model.specs.declared.refusal.Refusal.{Refusal}
 use Rattle.hx_model.specs.declared.refusal.Refusal.TheVariants.{StoreFailed, NoMemory as NoRoom}
 use Rattle.hx_model.proofs.Replying.{answer-refused, answer-passed, changes-refused, changes-read}
+use Rattle.hx_marks.specs.Halves.{IsRegular}
+use Rattle.hx_marks.proofs.Regular.{regular_request}
 use Rattle.hx_admit.specs.Reviewing.{Passes}
-use Rattle.hx_core.specs.Committing.{HasLanded, HasFailed, HasMarked, IsOne}
+use Rattle.hx_core.specs.Committing.{HasLanded, HasFailed, HasMarked, IsOrderly, StaysOut}
 use Rattle.hx_core.specs.Refinement.{ClusterView, HasWorld, Simulates}
 use Rattle.hx_core.specs.declared.commit.CommitFault.{CommitFault}
 use Rattle.hx_core.specs.declared.commit.CommitFault.TheVariants.{KeeperFault as CommitKeeperFault, NoMemory as CommitNoMemory}
+use Rattle.hx_core.proofs.Entering.{request_out}
 use Rattle.hx_core.proofs.Making.{enters_still, enters_landed, enters_failed}
 use Rattle.hx_core.proofs.Refusing.{refusal_entry}
 
@@ -72,23 +76,12 @@ marks_none w ws none = λ i k. (ap (λ us. w.marked k || may_mark w.state us k) 
 passes_made : (s : State) (ask : Ask) (ws : List Write) (answer : Answer) → Passes s ask ws answer → writes_made s ask ≡ ws
 passes_made s ask ws answer passes = ap (λ o. writes_if o (writes_of s ask)) passes.passes ∙ passes.changes
 
--- an ask makes one write, or none
-one_or_none : (s : State) (ask : Ask) → writes_of s ask ≢ [] → IsOne (writes_of s ask)
-one_or_none s (Get id) some = absurd (some refl)
-one_or_none s (ListOf kind ns selector) some = absurd (some refl)
-one_or_none s (Create x skip) some = (Put (with_version x (s.last + 1)), refl)
-one_or_none s (Replace x expected skip) some = by (object_at s.objects x.id) some
-  where
-    by : (o : Option Object) → replacing o x (s.last + 1) ≢ [] → IsOne (replacing o x (s.last + 1))
-    by None never = absurd (never refl)
-    by (Some old) some = elim (same_object (replaced_by old x) old) as (λ b. (if b then [] else Put (with_version (replaced_by old x) (s.last + 1)) ∷ []) ≢ [] → IsOne (if b then [] else Put (with_version (replaced_by old x) (s.last + 1)) ∷ [])) [
-      | true ↦ λ none. absurd (none refl)
-      | false ↦ λ never. (Put (with_version (replaced_by old x) (s.last + 1)), refl)
-    ] some
-one_or_none s (Delete id skip) some = (Cut id, refl)
-
-pub passes_one : (s : State) (ask : Ask) (ws : List Write) (answer : Answer) → Passes s ask ws answer → ws ≢ [] → IsOne ws
-passes_one s ask ws answer passes some = subst IsOne passes.changes (one_or_none s ask (λ none. some (sym passes.changes ∙ none)))
+-- its writes are those of a request, and put nothing new into a namespace that is on its way out
+pub passes_orderly : (s : State) (ask : Ask) (ws : List Write) (answer : Answer) → IsValid s → Passes s ask ws answer → IsOrderly s ws
+passes_orderly s ask ws answer valid passes = record {
+  regular = subst (IsRegular s) passes.changes (regular_request s ask valid.in_order);
+  out = subst (AllByRecursion (StaysOut s)) passes.changes (request_out s ask valid passes.passes);
+}
 
 -- ---- entries
 

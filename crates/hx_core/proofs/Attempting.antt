@@ -1,11 +1,12 @@
 -- A hand's write.
 --     hand_of_state               what a worker holds is of an earlier state
 --     may_make                    it may be made where its guards are met
---     own_wants_none              its key wants nothing then, if nothing was written since
+--     make_orderly                it is one that a commit may make
+--     own_wants_none              its key wants nothing then, if nothing was written since and it is of no removal
 --     tried_written, tried_lost   it was made, or the keeper failed at it
 --     tried_failed                however its write was lost
 --     tried_stale, tried_spent, version_left    its guards aren't met, or no version is left
-use Rattle.std.proofs.Common.{◌≡◌, ◌≤◌, ◌<◌, ◌+◌, ℕ, Bool, true, false, ◌&&◌, List, [], ◌∷◌, Option, Some, None, IfSome, refl, sym, ap, ◌∙◌, subst, arith, inl, inr, true≢false}
+use Rattle.std.proofs.Common.{◌≡◌, ◌≢◌, ◌≤◌, ◌<◌, ◌+◌, ℕ, Bool, true, false, ◌&&◌, List, [], ◌∷◌, Option, Some, None, IfSome, refl, sym, ap, ◌∙◌, subst, arith, inl, inr, true≢false}
 use Rattle.std.specs.Prelude.{nat_le}
 use Rattle.std.proofs.lemmas.Bool.{and_parts, leb-true}
 use Rattle.std.proofs.lemmas.Bool.Decides.{leb_tells}
@@ -19,18 +20,20 @@ use Rattle.hx_model.specs.Writes.{MayWriteAll}
 use Rattle.hx_model.specs.declared.key.Finish.{Finish}
 use Rattle.hx_model.specs.declared.key.Finish.TheVariants as ending
 use Rattle.hx_model.specs.declared.key.Key.{Key}
+use Rattle.hx_model.specs.declared.key.Key.TheVariants as key
 use Rattle.hx_model.specs.declared.key.Write.{Write}
 use Rattle.hx_rules.specs.Briefs.{hand_by, planned_by}
 use Rattle.hx_rules.specs.declared.brief.Brief.{Brief}
-use Rattle.hx_core.specs.Committing.{HasLanded, HasFailed, HasMarked}
+use Rattle.hx_marks.proofs.Making.{is_removal as is_once}
+use Rattle.hx_core.specs.Committing.{HasLanded, HasFailed, HasMarked, IsOrderly, StaysOut}
 use Rattle.hx_core.specs.Refinement.{ClusterView}
 use Rattle.hx_core.specs.declared.commit.CommitFault.{CommitFault}
 use Rattle.hx_core.specs.declared.commit.CommitFault.TheVariants.{KeeperFault, NoMemory}
 use Rattle.hx_core.specs.Turns.{IsOf}
-use Rattle.hx_core.specs.Working.{IsTried}
+use Rattle.hx_core.specs.Working.{IsTried, is_removal}
 use Rattle.hx_core.proofs.Holding.{All-of}
 use Rattle.hx_core.proofs.Laws.{fresh_satisfies}
-use Rattle.hx_core.proofs.Meeting.{may_write_now, past_write, wanted_then}
+use Rattle.hx_core.proofs.Meeting.{may_write_now, past_write, stays_out_now, wanted_then}
 
 -- what a worker holds is of an earlier state
 pub hand_of_state : (s : State) (worker : ℕ) (hands : List Hand) (brief : Brief) → AllByRecursion (IsOf s) hands → hand_of worker hands ≡ Some (hand_by worker brief) → IsOf s (hand_by worker brief)
@@ -40,14 +43,29 @@ pub may_make : (s : State) (worker : ℕ) (brief : Brief) (write : Write) (ws : 
 may_make s worker brief write ws of planned may fits is =
     subst (MayWriteAll s) (sym is) (may_write_now s (hand_by worker brief) write of (sym planned) (and_parts (are_met s brief.guards) (keeps_sources s brief.key write) may).0 fits)
 
+-- it is one that a commit may make
+pub make_orderly : (s : State) (worker : ℕ) (brief : Brief) (write : Write) (ws : List Write) → IsOf s (hand_by worker brief) → Some write ≡ planned_by brief → may_write s (hand_by worker brief) write ≡ true → ws ≡ versioned (s.last + 1) write ∷ [] → IsOrderly s ws
+make_orderly s worker brief write ws of planned may is = record {
+  regular = inl (versioned (s.last + 1) write, is);
+  out = subst (AllByRecursion (StaysOut s)) (sym is) (stays_out_now s (hand_by worker brief) write of (sym planned) (and_parts (are_met s brief.guards) (keeps_sources s brief.key write) may).0, tt);
+}
+
+pub some_write : (ws : List Write) (write : Write) → ws ≡ write ∷ [] → ws ≢ []
+some_write ws write is none = let h : write ∷ [] ≡ [] = sym is ∙ none in cc
+
+-- a key that is of no removal
+once_key : (k : Key) → is_removal k ≡ false → is_once k ≡ false
+once_key (key.Purge n) e = e
+once_key _ e = refl
+
 pub own_wants_none : (s : State) (worker : ℕ) (brief : Brief) (write : Write) (ws : List Write) (own : Option Key) → IsValid s → IsOf s (hand_by worker brief) → Some write ≡ planned_by brief → ws ≡ versioned (s.last + 1) write ∷ []
-    → IfSome own (λ k. (k ≡ brief.key) × (brief.seen ≡ s.last)) → IfSome own (λ k. wanted_write (state_after s ws) k ≡ None)
+    → IfSome own (λ k. (k ≡ brief.key) × (brief.seen ≡ s.last) × (is_removal brief.key ≡ false)) → IfSome own (λ k. wanted_write (state_after s ws) k ≡ None)
 own_wants_none s worker brief write ws None valid of planned is fresh = tt
 own_wants_none s worker brief write ws (Some k) valid of planned is fresh =
     let seen : brief.seen ≡ of.then.last = ap (λ (h : Hand). h.seen) of.is in
     let same : of.then ≡ s = of.since.same (sym seen ∙ fresh.1) in
     let wants : wanted_write s brief.key ≡ Some write = subst (λ t. wanted_write t brief.key ≡ Some write) same (wanted_then s (hand_by worker brief) write of (sym planned)) in
-    subst (λ us. wanted_write (state_after s us) k ≡ None) (sym is) (subst (λ j. wanted_write (state_after s (versioned (s.last + 1) write ∷ [])) j ≡ None) (sym fresh.0) (fresh_satisfies s brief.key write valid wants))
+    subst (λ us. wanted_write (state_after s us) k ≡ None) (sym is) (subst (λ j. wanted_write (state_after s (versioned (s.last + 1) write ∷ [])) j ≡ None) (sym fresh.0) (fresh_satisfies s brief.key write valid (once_key brief.key fresh.2) wants))
 
 pub tried_written : (c new : ClusterView) (worker : ℕ) (brief : Brief) (write : Write) (ws : List Write) (version : ℕ) → IsOf c.state (hand_by worker brief) → Some write ≡ planned_by brief → may_write c.state (hand_by worker brief) write ≡ true → c.state.last < greatest_version
     → version ≡ c.state.last + 1 → ws ≡ versioned (c.state.last + 1) write ∷ [] → HasLanded c.state c.keeper ws new.state new.keeper → HasMarked c.state ws c.workers new.workers → IsTried (hand_by worker brief) write c (ending.Written version) new

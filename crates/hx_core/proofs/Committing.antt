@@ -25,7 +25,7 @@ use Rattle.hx_model.specs.Writes.{MayWriteAll}
 use Rattle.hx_model.specs.declared.key.Key.{Key}
 use Rattle.hx_model.specs.declared.key.Write.{Write}
 use Rattle.hx_model.proofs.Writes.{valid_after}
-use Rattle.hx_core.specs.Committing.{HasLanded, HasFailed, HasMarked, Holds, IsOne, IsPrepared, holding, marks_but}
+use Rattle.hx_core.specs.Committing.{HasLanded, HasFailed, HasMarked, Holds, IsOrderly, IsPrepared, holding, marks_but}
 use Rattle.hx_core.specs.Inside.{IsSound, view_of}
 use Rattle.hx_core.specs.Refinement.{ClusterView, kept_of}
 use Rattle.hx_core.specs.Turns.{IsOf}
@@ -61,17 +61,17 @@ pub sound_same : (s t : State) (v v' : WorkersView) (k k' : KeeperView) (staged 
 sound_same s t v v' k k' staged staged' sound none same =
     subst (λ (c : ClusterView). IsSound c.state c.workers c.keeper staged') (sym same) (record { valid = sound.valid; held = sound.held; covered = sound.covered; taken = sound.taken; world = sound.world; none = none })
 
--- the write of a commit landed, and its keys are marked
-pub sound_landed : (s t : State) (v v' : WorkersView) (ws : List Write) (own : Option Key) (k k' : KeeperView) (staged staged' : List Write) → IsSound s v k staged → MayWriteAll s ws → IsOne ws
+-- the writes of a commit landed, and their keys are marked
+pub sound_landed : (s t : State) (v v' : WorkersView) (ws : List Write) (own : Option Key) (k k' : KeeperView) (staged staged' : List Write) → IsSound s v k staged → MayWriteAll s ws → IsOrderly s ws
     → IfSome own (λ j. wanted_write (state_after s ws) j ≡ None) → staged' ≡ [] → HasLanded s k ws t k' → IsMarkedBy (marks_but own (all_marks s ws)) v v' → IsSound t v' k' staged'
-sound_landed s t v v' ws own k k' staged staged' sound may one nothing none done marked =
+sound_landed s t v v' ws own k k' staged staged' sound may orderly nothing none done marked =
     let next : World = written_by sound.world.0 ws in
     record {
       valid = subst IsValid (sym done.state) (valid_after s ws sound.valid may);
       held = λ _. subst (λ (v : KeeperView). IfSome v.kept (λ held. held ≡ kept_of t)) (sym done.keeper) (holds_landed t k.kept);
-      covered = subst (λ (u : State). IsCovered u v'.hands v'.waiting v'.again) (sym done.state) (covered_marked s ws own v v' sound.valid may one nothing sound.taken sound.covered marked);
-      taken = subst (λ (hands : List Hand). AllByRecursion (IsOf t) hands) (sym marked.hands) (subst (λ (u : State). AllByRecursion (IsOf u) v.hands) (sym done.state) (taken_after s ws v.hands may sound.taken));
-      world = (next, stands_landed (view_of s v k) (view_of t v' k') ws sound.world.0 next done (has_marked s ws (marks_but own (all_marks s ws)) v v' marked (marks_within s ws own sound.valid may one)) sound.world.1 refl);
+      covered = subst (λ (u : State). IsCovered u v'.hands v'.waiting v'.again) (sym done.state) (covered_marked s ws own v v' sound.valid may orderly.regular nothing sound.taken sound.covered marked);
+      taken = subst (λ (hands : List Hand). AllByRecursion (IsOf t) hands) (sym marked.hands) (subst (λ (u : State). AllByRecursion (IsOf u) v.hands) (sym done.state) (taken_after s ws v.hands may orderly.out sound.taken));
+      world = (next, stands_landed (view_of s v k) (view_of t v' k') ws sound.world.0 next done (has_marked s ws (marks_but own (all_marks s ws)) v v' marked (marks_within s ws own sound.valid may orderly.regular)) sound.world.1 refl);
       none = none;
     }
 
@@ -95,17 +95,17 @@ fault_of_keeper Fault r memory e = refl
 fault_of_keeper KeepNoMemory r memory e = let h : r ≡ NoMemory = memory refl in cc
 
 -- the fields are sound, however the commit ended
-pub sound_committed : {T : Type 0} (s t : State) (v v' : WorkersView) (ws : List Write) (own : Option Key) (k k' : KeeperView) (staged staged' : List Write) (result : Result T CommitFault) → IsSound s v k staged → MayWriteAll s ws → IsOne ws
+pub sound_committed : {T : Type 0} (s t : State) (v v' : WorkersView) (ws : List Write) (own : Option Key) (k k' : KeeperView) (staged staged' : List Write) (result : Result T CommitFault) → IsSound s v k staged → MayWriteAll s ws → IsOrderly s ws
     → IfSome own (λ j. wanted_write (state_after s ws) j ≡ None) → staged' ≡ [] → OnOk result (HasLanded s k ws t k') → OnOk result (IsMarkedBy (marks_but own (all_marks s ws)) v v') → OnErr result (v' ≡ v)
     → (IsErrOf result NoMemory → t ≡ s) → (IsErrOf result NoMemory → k' ≡ k) → (IsErrOf result KeeperFault → HasFailed s k ws t k') → IsSound t v' k' staged'
-sound_committed s t v v' ws own k k' staged staged' (Ok l) sound may one nothing none done marked same state keeper fault = sound_landed s t v v' ws own k k' staged staged' sound may one nothing none done marked
-sound_committed s t v v' ws own k k' staged staged' (Err NoMemory) sound may one nothing none done marked same state keeper fault = sound_same s t v v' k k' staged staged' sound none (λ i. view_of (state refl i) (same i) (keeper refl i))
-sound_committed s t v v' ws own k k' staged staged' (Err KeeperFault) sound may one nothing none done marked same state keeper fault = sound_failed s t v v' ws k k' staged staged' sound none (fault refl) same
+sound_committed s t v v' ws own k k' staged staged' (Ok l) sound may orderly nothing none done marked same state keeper fault = sound_landed s t v v' ws own k k' staged staged' sound may orderly nothing none done marked
+sound_committed s t v v' ws own k k' staged staged' (Err NoMemory) sound may orderly nothing none done marked same state keeper fault = sound_same s t v v' k k' staged staged' sound none (λ i. view_of (state refl i) (same i) (keeper refl i))
+sound_committed s t v v' ws own k k' staged staged' (Err KeeperFault) sound may orderly nothing none done marked same state keeper fault = sound_failed s t v v' ws k k' staged staged' sound none (fault refl) same
 
 -- what is marked may be
-pub marked_committed : {T : Type 0} (s : State) (v v' : WorkersView) (ws : List Write) (own : Option Key) (result : Result T CommitFault) → IsValid s → MayWriteAll s ws → IsOne ws → OnOk result (IsMarkedBy (marks_but own (all_marks s ws)) v v') → OnOk result (HasMarked s ws v v')
-marked_committed s v v' ws own (Ok l) valid may one marked = has_marked s ws (marks_but own (all_marks s ws)) v v' marked (marks_within s ws own valid may one)
-marked_committed s v v' ws own (Err fault) valid may one marked = tt
+pub marked_committed : {T : Type 0} (s : State) (v v' : WorkersView) (ws : List Write) (own : Option Key) (result : Result T CommitFault) → IsValid s → MayWriteAll s ws → IsOrderly s ws → OnOk result (IsMarkedBy (marks_but own (all_marks s ws)) v v') → OnOk result (HasMarked s ws v v')
+marked_committed s v v' ws own (Ok l) valid may orderly marked = has_marked s ws (marks_but own (all_marks s ws)) v v' marked (marks_within s ws own valid may orderly.regular)
+marked_committed s v v' ws own (Err fault) valid may orderly marked = tt
 
 -- where no memory was left, nothing changed
 pub same_committed : {T : Type 0} (s t : State) (v v' : WorkersView) (k k' : KeeperView) (result : Result T CommitFault) → OnErr result (v' ≡ v) → (IsErrOf result NoMemory → t ≡ s) → (IsErrOf result NoMemory → k' ≡ k) → IsErrOf result NoMemory → view_of t v' k' ≡ view_of s v k

@@ -2,6 +2,7 @@
 --     again_free         a key that nobody holds isn't marked again
 --     short_by, given_job    a brief that is given
 --     sound_taken, sound_given, sound_let
+--     sound_ready              where nothing that is seen changes
 --     let_by, let_some, let_none, released, empty_after    a hand that is let go
 --     settled_now        where no key waits and none is held, the state is settled
 --     counts             how many keys wait and are held
@@ -25,6 +26,7 @@ use Rattle.hx_rules.specs.declared.brief.Facts.TheVariants as found
 use Rattle.hx_rules.proofs.Storable.{storable}
 use Rattle.hx_marks.proofs.Among.{same_key_itself}
 use Rattle.hx_marks.proofs.Settling.{settled_exactly}
+use Rattle.hx_marks.proofs.StayingCovered.{fresh_met}
 use Rattle.hx_core.specs.Inside.{IsSound, view_of}
 use Rattle.hx_core.specs.Refinement.{ClusterView, HasWorld, Simulates}
 use Rattle.hx_core.specs.Turns.{IsOf}
@@ -35,7 +37,6 @@ use Rattle.hx_core.specs.declared.turns.Take.TheVariants as take
 use Rattle.hx_core.proofs.Covering.{again_held, covered_taken, covered_let, waits_each}
 use Rattle.hx_core.proofs.Holding.{All-more, All-without, gone}
 use Rattle.hx_core.proofs.Making.{enters_still}
-use Rattle.hx_core.proofs.Meeting.{met_itself}
 use Rattle.hx_core.proofs.Since.{since_itself}
 use Rattle.hx_core.proofs.Turning.{facts_want, hand_stands, stands_taken, stands_back, stands_gone, wants_nothing}
 use Rattle.std.proofs.lemmas.Bool.{false_from_ne_true}
@@ -47,7 +48,7 @@ again_free v k apart free = false_from_ne_true (is_among k v.again) (λ e. true�
 
 -- a worker's new hand is up to date
 fresh_hand : (s : State) (worker : ℕ) (brief : Brief) → StandsFor brief s → IsUpToDate s (hand_by worker brief)
-fresh_hand s worker brief stands = record { wanted = facts_want s brief.key brief.facts stands.facts; met = ap (are_met s) stands.guards ∙ met_itself s brief.key }
+fresh_hand s worker brief stands = record { wanted = facts_want s brief.key brief.facts stands.facts; met = ap (are_met s) stands.guards ∙ fresh_met s brief.key }
 
 -- and is of the state
 new_of : (s : State) (worker : ℕ) (brief : Brief) → IsValid s → StandsFor brief s → IsShort brief.facts (planned_by brief) → IsOf s (hand_by worker brief)
@@ -78,6 +79,9 @@ pub short_by : (facts : Facts) (write : Option Write) → length (chain_in facts
 short_by (found.Tree ns takes_part chain) None short = tt
 short_by (found.Tree ns takes_part chain) (Some write) short = short
 short_by (found.Copy ns takes_part place mode sources) write short = tt
+short_by (found.Child takes_part anchored excluded taken) write short = tt
+short_by (found.Anchor live anchor status) write short = tt
+short_by (found.Purge leaving least) write short = tt
 short_by found.Unserved write short = tt
 
 -- a brief was given, and the worker has the same one
@@ -87,6 +91,10 @@ given_job s v mid v' worker key brief shared same one is stands short taken =
     subst (λ (b : Brief). IsGivenBy worker key s v (take.Job b) v') (sym one) (is, stands, short, subst (λ u. IsTakenBy (hand_by worker brief) u v') same taken)
 
 -- however the take ended
+-- where nothing that is seen changes, all of it stays sound
+pub sound_ready : (s s' : State) (v : WorkersView) (k : KeeperView) (staged staged' : List Write) → s' ≡ s → staged' ≡ staged → IsSound s v k staged → IsSound s' v k staged'
+sound_ready s s' v k staged staged' state ready sound = subst (λ (t : State). IsSound t v k staged') (sym state) (subst (λ (ws : List Write). IsSound s v k ws) (sym ready) sound)
+
 pub sound_given : (s : State) (v v' : WorkersView) (k : KeeperView) (staged : List Write) (worker : ℕ) (key : Key) (answer : Take) → IsSound s v k staged → hand_of worker v.hands ≡ None → is_held key v.hands ≡ false → AreApart v → IsGivenBy worker key s v answer v' → IsSound s v' k staged
 sound_given s v v' k staged worker key (take.Job brief) sound none free apart (is, stands, short, taken) =
     sound_taken s v v' k staged worker brief sound taken stands short none (ap (λ j. is_held j v.hands) is ∙ free) apart
@@ -148,8 +156,8 @@ sound_let s v v' k staged worker waits sound is_let done = by (hand_of worker v.
 
 -- ---- where nothing is left
 
-pub settled_now : (s : State) (v : WorkersView) → IsCovered s v.hands v.waiting v.again → AreApart v → v.waiting ≡ [] → v.hands ≡ [] → IsSettled s
-settled_now s v covered apart none empty = settled_exactly s (λ k. wants_nothing s v k covered apart none (ap (is_held k) empty))
+pub settled_now : (s : State) (v : WorkersView) → IsValid s → IsCovered s v.hands v.waiting v.again → AreApart v → v.waiting ≡ [] → v.hands ≡ [] → IsSettled s
+settled_now s v valid covered apart none empty = settled_exactly s valid (λ k. wants_nothing s v k covered apart none (ap (is_held k) empty))
 
 some_wanted : (o : Option Write) → is_some o ≡ true → o ≢ None
 some_wanted o e none = true≢false (sym e ∙ ap is_some none)
@@ -166,8 +174,8 @@ each_marked w (k ∷ keys) marked = (marked k (ap (λ b. b || is_among k keys) (
     later true b e = refl
     later false b e = e
 
-pub counts : (c : ClusterView) (waiting held : ℕ) → HasWorld c → IsCovered c.state c.workers.hands c.workers.waiting c.workers.again → AreApart c.workers → waiting ≡ length c.workers.waiting → held ≡ length c.workers.hands → Simulates c (Checked waiting held ∷ []) c
-counts c waiting held stood covered apart many few =
+pub counts : (c : ClusterView) (waiting held : ℕ) → HasWorld c → IsValid c.state → IsCovered c.state c.workers.hands c.workers.waiting c.workers.again → AreApart c.workers → waiting ≡ length c.workers.waiting → held ≡ length c.workers.hands → Simulates c (Checked waiting held ∷ []) c
+counts c waiting held stood valid covered apart many few =
     enters_still c c (Checked waiting held) stood refl refl (λ w stands. (
       (
         (
@@ -181,7 +189,7 @@ counts c waiting held stood covered apart many few =
           },
         ),
         few ∙ ap length (sym stands.hands),
-        λ nothing nobody. subst IsSettled (sym stands.state) (settled_now c.state c.workers covered apart (none_of_zero c.workers.waiting (sym many ∙ nothing)) (none_of_zero c.workers.hands (sym few ∙ nobody))),
+        λ nothing nobody. subst IsSettled (sym stands.state) (settled_now c.state c.workers valid covered apart (none_of_zero c.workers.waiting (sym many ∙ nothing)) (none_of_zero c.workers.hands (sym few ∙ nobody))),
       ),
       refl,
     ))

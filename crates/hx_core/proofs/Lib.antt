@@ -7,6 +7,7 @@ pub mod Holding
 pub mod Covering
 pub mod Marked
 pub mod Since
+pub mod Entering
 pub mod Meeting
 pub mod Starting
 pub mod Reopening

@@ -406,6 +406,11 @@ never_more (Err found) error kept now s key count is same more loaded full = sub
     by (Damaged row) given = not_one_more kept s key count (λ held. IsDamagedAt held row) loaded full given
     by NoMemory given = tt
 
+-- what is damaged in what a keeper held before calls that succeeded, by the fault of the last one
+pub damaged_on : {T : Type 0} (r : Result T StartFault) (error : StartFault) (kept now : Option Kept) → IsErrAnd r (λ found. found ≡ error) → now ≡ kept → IfDamaged error (λ row. IfSome now (λ held. IsDamagedAt held row)) → IfErr r (λ fault. IfDamaged fault (λ row. IfSome kept (λ held. IsDamagedAt held row)))
+damaged_on (Ok x) error kept now is same damaged = tt
+damaged_on (Err found) error kept now is same damaged = subst (λ fault. IfDamaged fault (λ row. IfSome kept (λ held. IsDamagedAt held row))) (sym is) (subst (λ k. IfDamaged error (λ row. IfSome k (λ held. IsDamagedAt held row))) same damaged)
+
 -- a keeper that holds on, and whose count stayed, shows the same
 pub same_view : (first old : KeeperView) → HoldsOn first old → old.faults ≡ first.faults → old ≡ first
 same_view first old holds same = λ i. record { place = holds.place i; kept = holds.kept i; broken = holds.broken i; faults = same i }

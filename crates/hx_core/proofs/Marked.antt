@@ -1,4 +1,4 @@
--- What the marks of a write leave.
+-- What the marks of writes leave.
 --     state_is           the state of a store is that which the marks are of
 --     but_by             marks but for one
 --     marks_within       marks that are made may be made
@@ -8,7 +8,6 @@ use Rattle.std.proofs.Common.{◌≡◌, Bool, true, false, cond, not, ◌&&◌,
 use Rattle.std.specs.Prelude.{◌⊎◌}
 use Rattle.std.specs.List.{AllByRecursion}
 use Rattle.std.proofs.lemmas.Bool.{or_cases, or_left, or_right, and_parts}
-use Rattle.std.proofs.lemmas.List.{append-nil}
 use Rattle.hx_model.specs.Covered.{IsCovered}
 use Rattle.hx_model.specs.Hands.{is_held}
 use Rattle.hx_model.specs.Keys.{same_key, is_among, may_mark}
@@ -20,10 +19,11 @@ use Rattle.hx_model.specs.declared.key.Key.{Key}
 use Rattle.hx_model.specs.declared.key.Write.{Write}
 use Rattle.hx_marks.proofs.Among.{same_key_is}
 use Rattle.hx_marks.specs.Before.{state_of}
-use Rattle.hx_marks.specs.Law.{marks_of, all_marks}
+use Rattle.hx_marks.specs.Halves.{IsRegular}
+use Rattle.hx_marks.specs.Law.{all_marks}
 use Rattle.hx_model.specs.declared.config.RunConfig.{RunConfig}
 use Rattle.hx_store.specs.Kept.{StoreView}
-use Rattle.hx_core.specs.Committing.{HasMarked, IsOne, marks_but}
+use Rattle.hx_core.specs.Committing.{HasMarked, marks_but}
 use Rattle.hx_core.specs.Turns.{IsOf}
 use Rattle.hx_queue.specs.Workers.{WorkersView, IsMarkedBy}
 use Rattle.hx_core.proofs.Laws.{within, stays_covered}
@@ -73,17 +73,10 @@ pub but_by : (own : Option Key) (new old : List Key) → IfSome own (λ key. new
 but_by None new old some none = none
 but_by (Some own) new old some none = some
 
--- the marks of one write
-marks_one : (s : State) (write : Write) → all_marks s (write ∷ []) ≡ marks_of s write
-marks_one s write = append-nil (marks_of s write)
-
 -- ---- what may be marked
 
-pub marks_within : (s : State) (ws : List Write) (own : Option Key) → IsValid s → MayWriteAll s ws → IsOne ws → (k : Key) → is_among k (marks_but own (all_marks s ws)) ≡ true → may_mark s ws k ≡ true
-marks_within s ws own valid may one k e =
-    let is : ws ≡ one.0 ∷ [] = one.1 in
-    let inside : is_among k (all_marks s (one.0 ∷ [])) ≡ true = subst (λ us. is_among k (all_marks s us) ≡ true) is (among_but own k (all_marks s ws) e) in
-    subst (λ us. may_mark s us k ≡ true) (sym is) (within s one.0 valid (subst (MayWriteAll s) is may) k (subst (λ keys. is_among k keys ≡ true) (marks_one s one.0) inside))
+pub marks_within : (s : State) (ws : List Write) (own : Option Key) → IsValid s → MayWriteAll s ws → IsRegular s ws → (k : Key) → is_among k (marks_but own (all_marks s ws)) ≡ true → may_mark s ws k ≡ true
+marks_within s ws own valid may regular k e = within s ws valid may regular k (among_but own k (all_marks s ws) e)
 
 pub has_marked : (s : State) (ws : List Write) (keys : List Key) (old new : WorkersView) → IsMarkedBy keys old new → ((k : Key) → is_among k keys ≡ true → may_mark s ws k ≡ true) → HasMarked s ws old new
 has_marked s ws keys old new marked may = record { hands = marked.hands; waiting = waiting; again = again }
@@ -116,15 +109,12 @@ marked_is keys old new k marked e = by (is_held k old.hands) refl
 wants_none : (s : State) (own : Option Key) (k : Key) → IfSome own (λ j. wanted_write s j ≡ None) → own ≡ Some k → wanted_write s k ≡ None
 wants_none s own k nothing is = subst (λ o. IfSome o (λ j. wanted_write s j ≡ None)) is nothing
 
-pub covered_marked : (s : State) (ws : List Write) (own : Option Key) (old new : WorkersView) → IsValid s → MayWriteAll s ws → IsOne ws → IfSome own (λ j. wanted_write (state_after s ws) j ≡ None) → AllByRecursion (IsOf s) old.hands
+pub covered_marked : (s : State) (ws : List Write) (own : Option Key) (old new : WorkersView) → IsValid s → MayWriteAll s ws → IsRegular s ws → IfSome own (λ j. wanted_write (state_after s ws) j ≡ None) → AllByRecursion (IsOf s) old.hands
     → IsCovered s old.hands old.waiting old.again → IsMarkedBy (marks_but own (all_marks s ws)) old new → IsCovered (state_after s ws) new.hands new.waiting new.again
-covered_marked s ws own old new valid may one nothing taken covered marked =
-    let is : ws ≡ one.0 ∷ [] = one.1 in
-    let here : IsMarkedBy (marks_but own (all_marks s (one.0 ∷ []))) old new = subst (λ us. IsMarkedBy (marks_but own (all_marks s us)) old new) is marked in
-    let none : IfSome own (λ j. wanted_write (state_after s (one.0 ∷ [])) j ≡ None) = subst (λ us. IfSome own (λ j. wanted_write (state_after s us) j ≡ None)) is nothing in
-    subst (λ us. IsCovered (state_after s us) new.hands new.waiting new.again) (sym is) (stays_covered s one.0 old new valid (subst (MayWriteAll s) is may) taken covered marked.hands
+covered_marked s ws own old new valid may regular nothing taken covered marked =
+    stays_covered s ws old new valid may regular taken covered marked.hands
     (λ k e. marked.waiting k ∙ or_left (is_among k old.waiting) _ e) (λ k e. marked.again k ∙ or_left (is_among k old.again) _ e)
-    (λ k e. elim (but_among own k (all_marks s (one.0 ∷ [])) (subst (λ keys. is_among k keys ≡ true) (sym (marks_one s one.0)) e)) [
-      | inl among ↦ elim (marked_is (marks_but own (all_marks s (one.0 ∷ []))) old new k here among) [ inl waits ↦ inl waits | inr again ↦ inr (inl again) ]
-      | inr own_is ↦ inr (inr (wants_none (state_after s (one.0 ∷ [])) own k none own_is))
-    ]))
+    (λ k e. elim (but_among own k (all_marks s ws) e) [
+      | inl among ↦ elim (marked_is (marks_but own (all_marks s ws)) old new k marked among) [ inl waits ↦ inl waits | inr again ↦ inr (inl again) ]
+      | inr own_is ↦ inr (inr (wants_none (state_after s ws) own k nothing own_is))
+    ])

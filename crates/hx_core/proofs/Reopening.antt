@@ -129,8 +129,8 @@ no_quota kind written is = true≢false (sym written ∙ ap is_written is)
 -- two objects that are stored under one text are one
 same_told : (last : ℕ) (x y : Object) → last ≤ greatest_version → IsStored last x → IsStored last y → told x ≡ told y → x ≡ y
 same_told last x y fits a b same =
-    text_told x y a.served.legal b.served.legal (no_quota x.id.kind a.served.written) a.served.given.labels a.served.given.annotations (let h : x.version < 2 ^ 64 = omega (arith, a.known, fits) in h)
-    b.served.given.labels b.served.given.annotations (let h : y.version < 2 ^ 64 = omega (arith, b.known, fits) in h) (ap (λ (p : ℕ × List ℕ). p.1) same)
+    text_told x y a.served.legal b.served.legal (no_quota x.id.kind a.served.written) a.served.kept.labels a.served.kept.annotations (let h : x.version < 2 ^ 64 = omega (arith, a.known, fits) in h)
+    b.served.kept.labels b.served.kept.annotations (let h : y.version < 2 ^ 64 = omega (arith, b.known, fits) in h) (ap (λ (p : ℕ × List ℕ). p.1) same)
 
 module _ (s t : State) (a : IsValid s) (b : IsValid t) (last : s.last ≡ t.last) (rows : rows_of s ≡ rows_of t) where
   same_look_up : (q : Id) → HasNoSlash q.ns → option_map told (object_at s.objects q) ≡ option_map told (object_at t.objects q)

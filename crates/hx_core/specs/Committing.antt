@@ -3,19 +3,27 @@
 --     Holds              a keeper that isn't broken holds the state
 --     HasLanded          the writes landed
 --     HasFailed          the keeper failed at them
---     IsOne              there is one write
+--     StaysOut           a write puts nothing new into a namespace that is on its way out
+--     IsOrderly          the writes are those of a request or of a key
 --     IsPrepared         the state may make the writes, and the batch is theirs
 --     marks_but          the keys that are marked, but for one
 --     HasMarked          keys were marked, of those that the writes may make wait
-use Rattle.std.specs.Prelude.{◌≡◌, ◌≢◌, ◌≤◌, ◌+◌, ◌⊎◌, true, false, not, List, [], ◌∷◌, filter, Option, Some, None, IfSome, option_map}
+use Rattle.std.specs.Prelude.{◌≡◌, ◌≢◌, ◌≤◌, ◌+◌, ◌⊎◌, true, false, not, is_some, List, [], filter, Option, Some, None, IfSome, option_map}
+use Rattle.std.specs.List.{AllByRecursion}
+use Rattle.hx_object.specs.Kinds.{is_in_cluster}
+use Rattle.hx_object.specs.declared.object.Id.{Id}
+use Rattle.hx_object.specs.declared.object.Object.{Object}
 use Rattle.hx_ports.specs.Causes.{Rose}
 use Rattle.hx_ports.specs.Views.{KeeperView}
 use Rattle.hx_ports.specs.declared.keeper.Batch.{Batch}
 use Rattle.hx_model.specs.Keys.{same_key, is_among, may_mark}
-use Rattle.hx_model.specs.State.{State, state_after}
+use Rattle.hx_marks.specs.Halves.{IsRegular}
+use Rattle.hx_model.specs.State.{State, namespace_id, object_at, state_after}
+use Rattle.hx_model.specs.Tree.{is_terminating}
 use Rattle.hx_model.specs.Writes.{MayWriteAll}
 use Rattle.hx_model.specs.declared.key.Key.{Key}
 use Rattle.hx_model.specs.declared.key.Write.{Write}
+use Rattle.hx_model.specs.declared.key.Write.TheVariants.{Put, Cut}
 use Rattle.hx_core.specs.Refinement.{kept_of}
 use Rattle.hx_core.specs.Rows.{batch_of, IsOfTexts}
 use Rattle.hx_queue.specs.Workers.{WorkersView}
@@ -50,9 +58,19 @@ pub record IsPrepared (s : State) (writes : List Write) (batch : Batch) : Type 0
   pub is : batch ≡ batch_of writes (s.last + 1)
   pub texts : IsOfTexts batch
 
--- there is one write
-abbrev pub IsOne : List Write → Type 0
-IsOne writes = (write : Write) × (writes ≡ write ∷ [])
+-- an object of this identity is there already, where its namespace is on its way out
+abbrev pub IsOutOrThere : State → Id → Type 0
+IsOutOrThere s id = (home : Object) → is_in_cluster id.kind ≡ false → object_at s.objects (namespace_id id.ns) ≡ Some home → is_terminating home.payload ≡ true → is_some (object_at s.objects id) ≡ true
+
+-- a write puts nothing new into a namespace that is on its way out
+abbrev pub StaysOut : State → Write → Type 0
+StaysOut s (Put x) = IsOutOrThere s x.id
+StaysOut s (Cut id) = Unit {0}
+
+-- The writes are those of a request or of a key: there is one, or each ends something, and nothing new comes into a namespace that is on its way out
+pub record IsOrderly (s : State) (writes : List Write) : Type 0 where
+  pub regular : IsRegular s writes
+  pub out : AllByRecursion (StaysOut s) writes
 
 -- the keys that are marked, but for one
 abbrev pub marks_but : Option Key → List Key → List Key

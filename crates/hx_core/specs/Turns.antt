@@ -1,5 +1,5 @@
 -- The entries that workers' calls make.
---     IsSince old s         a state that the other one became, or the same: what had a version then is as it was
+--     IsSince old s         a state that the other one became, or the same: what had a version then is as it was, and what was on its way out and empty stays empty
 --     IsOf s hand           a hand was taken in a state that became this one
 --     take_entry, take_key_entry      the entry of a take, by its answer
 --     IsInHand, IsOfKey     the worker has what it took;  it is the key that was named
@@ -12,7 +12,8 @@ use Rattle.hx_object.specs.declared.object.Object.{Object}
 use Rattle.hx_model.specs.Hands.{Hand, hand_at, hand_of}
 use Rattle.hx_model.specs.Machine.{Entry, History, Took, Idle, Already, HeldBy, LostTake, Finished, Checked}
 use Rattle.hx_model.specs.Serving.{IsServed}
-use Rattle.hx_model.specs.State.{State, object_at}
+use Rattle.hx_model.specs.State.{State, least_in, namespace_id, object_at}
+use Rattle.hx_model.specs.Tree.{is_terminating}
 use Rattle.hx_model.specs.Valid.{IsValid}
 use Rattle.hx_model.specs.declared.key.Finish.{Finish}
 use Rattle.hx_model.specs.declared.key.Finish.TheVariants as ending
@@ -28,12 +29,13 @@ use Rattle.hx_queue.specs.Workers.{WorkersView}
 
 -- ---- what was taken before
 
--- a state that came of another one: what had a version then, and is there, is as it was
+-- A state that came of another one: what had a version then, and is there, is as it was. A namespace that was on its way out, and in which nothing lay, stays empty for as long as it is there
 pub record IsSince (old s : State) : Type 0 where
   pub later : old.last ≤ s.last
   pub same : old.last ≡ s.last → old ≡ s
   pub config : s.config ≡ old.config
   pub kept : (id : Id) (x : Object) → object_at s.objects id ≡ Some x → x.version ≤ old.last → object_at old.objects id ≡ Some x
+  pub shut : (n : List ℕ) (x : Object) → object_at s.objects (namespace_id n) ≡ Some x → x.version ≤ old.last → is_terminating x.payload ≡ true → least_in old.objects n ≡ None → least_in s.objects n ≡ None
 
 -- a hand was taken in a valid state that this one came of, and what it puts may be stored
 pub record IsOf (s : State) (hand : Hand) : Type 0 where

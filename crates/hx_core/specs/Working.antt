@@ -8,6 +8,7 @@
 --     is_written                  a turn ended with its write
 --     IsKept                      what a worker is answered that holds a brief already
 --     chain_in                    the chain of facts that have one
+--     is_removal                  the key of a removal: once its write is made it may want the next one
 use Rattle.std.specs.Prelude.{◌≡◌, ◌<◌, ◌+◌, ℕ, Bool, true, false, List, [], ◌∷◌, Option, Some, None}
 use Rattle.hx_model.specs.Hands.{Hand, hand_of, are_met, may_write, versioned}
 use Rattle.hx_model.specs.Covered.{IsUpToDate}
@@ -17,6 +18,7 @@ use Rattle.hx_model.specs.Wanted.{wanted_write}
 use Rattle.hx_model.specs.declared.key.Finish.{Finish}
 use Rattle.hx_model.specs.declared.key.Finish.TheVariants as ending
 use Rattle.hx_model.specs.declared.key.Key.{Key}
+use Rattle.hx_model.specs.declared.key.Key.TheVariants as key
 use Rattle.hx_model.specs.declared.key.Write.{Write}
 use Rattle.hx_rules.specs.Briefs.{IsShort, StandsFor, hand_by, planned_by}
 use Rattle.hx_rules.specs.declared.brief.Brief.{Brief}
@@ -126,3 +128,8 @@ IsKept brief other = ⊥
 abbrev pub chain_in : Facts → List (List ℕ)
 chain_in (facts.Tree ns takes_part chain) = chain
 chain_in _ = []
+
+-- the key of a removal: once its write is made it may want the next one
+abbrev pub is_removal : Key → Bool
+is_removal (key.Purge n) = true
+is_removal _ = false

@@ -12,7 +12,7 @@ ghost use Rattle.hx_model.specs.Valid.{IsValid};
 ghost use Rattle.hx_model.specs.Wanted.{wanted_write};
 ghost use Rattle.hx_model.specs.Writes.{MayWriteAll};
 ghost use Rattle.hx_model.specs.declared.key.Key.{Key as key_of};
-ghost use Rattle.hx_core.specs.Committing.{HasLanded, HasFailed, HasMarked, IsOne};
+ghost use Rattle.hx_core.specs.Committing.{HasLanded, HasFailed, HasMarked, IsOrderly};
 ghost use Rattle.hx_core.specs.Loading.{Asked};
 ghost use Rattle.hx_core.specs.Refinement.{Represents, HasWorld, Simulates, kept_of};
 ghost use Rattle.hx_core.specs.Starting.{AreTexts, IsDamagedAt, IfDamaged, IsUndamaged, IsUntouched};
@@ -150,14 +150,15 @@ impl<K: Keeper> Cluster<K> {
         self.workers.law_apart();
     }
 
-    /// Makes one write, and marks the keys that it touches, but for one that wants nothing afterwards.
+    /// Makes writes, and marks the keys that they touch, but for one that wants nothing afterwards.
     pub(crate) fn write(
         &mut self,
         writes: Vec<Change>,
         own: Option<&Key>,
     ) -> Result<(), CommitFault>
         requires may { MayWriteAll self.old.state writes.items }
-        requires one { IsOne writes.items }
+        requires orderly { IsOrderly self.old.state writes.items }
+        requires some { writes.items ≢ [] }
         requires own { IfSome (option_copied own) (λ k. wanted_write (state_after self.old.state writes.items) k ≡ None) }
         ensures landed { OnOk result (HasLanded self.old.state self.old.keeper writes.items self.new.state self.new.keeper) }
         ensures marked { OnOk result (HasMarked self.old.state writes.items self.old.workers self.new.workers) }

@@ -89,7 +89,7 @@ pub fn commit<K: Keeper>(
     }
 }
 
-/// Makes one write, and marks the keys that it touches, but for one that wants nothing afterwards. All the memory that it takes is there before the keeper is asked.
+/// Makes writes, and marks the keys that they touch, but for one that wants nothing afterwards. All the memory that it takes is there before the keeper is asked.
 pub fn write_marked<K: Keeper>(
     keeper: &mut K,
     state: &mut IndexedState,

@@ -1,5 +1,5 @@
 // How a worker's turn ends.
-ghost use Rattle.std.specs.Prelude.{◌≡◌, ◌<◌, ◌&&◌, ◌∷◌, [], true, None, Some, IfOk, IfSome, is_some, nat_le, option_copied, option_map};
+ghost use Rattle.std.specs.Prelude.{◌≡◌, ◌<◌, ◌&&◌, ◌∷◌, [], false, true, None, Some, IfOk, IfSome, is_some, nat_le, option_copied, option_map};
 ghost use Rattle.std.specs.Option.{option_eq};
 ghost use Rattle.hx_model.specs.Limits.{greatest_version};
 ghost use Rattle.hx_model.specs.State.{object_at, same_id};
@@ -13,7 +13,7 @@ ghost use Rattle.hx_model.specs.Wanted.{wanted_write};
 ghost use Rattle.hx_rules.specs.Briefs.{StandsFor, hand_by, planned_by};
 ghost use Rattle.hx_core.specs.Refinement.{Simulates};
 ghost use Rattle.hx_core.specs.Turns.{IsPlanOf};
-ghost use Rattle.hx_core.specs.Working.{IsTried, is_written};
+ghost use Rattle.hx_core.specs.Working.{IsTried, is_removal, is_written};
 
 use crate::briefs::brief_of;
 use crate::cluster::Cluster;
@@ -158,14 +158,21 @@ fn is_spent(last: u64) -> bool
     last >= GREATEST_VERSION
 }
 
-/// The key of a brief, where nothing was written since it was made: its write satisfies it.
+/// The key of a brief, where nothing was written since it was made: its write satisfies it. That of a removal may want the next one.
 fn own_of(brief: &Brief, last: u64) -> Option<&Key>
-    ensures { IfSome (option_copied result) (λ key. (key ≡ brief.now.key) × (brief.now.seen ≡ last)) }
+    ensures { IfSome (option_copied result) (λ key. (key ≡ brief.now.key) × (brief.now.seen ≡ last) × (is_removal brief.now.key ≡ false)) }
 {
-    if brief.seen == last {
-        return Some(&brief.key);
+    if brief.seen != last || is_removal(&brief.key) {
+        return None;
     }
-    None
+    Some(&brief.key)
+}
+
+/// Whether a key is of a removal.
+fn is_removal(key: &Key) -> bool
+    ensures { result ≡ is_removal key.now }
+{
+    matches!(key, Key::Purge { .. })
 }
 
 /// Whether a turn ended with its write.

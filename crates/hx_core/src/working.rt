@@ -28,7 +28,10 @@ impl<K: Keeper> Cluster<K> {
         ensures idle { result ≡ Take.Idle → (self.old.workers.waiting ≡ []) × (hand_of worker self.old.workers.hands ≡ None) }
         ensures unnamed { (holder : ℕ) → result ≡ Take.Other holder → ⊥ }
     {
-        self.take_next(worker)
+        match self.workers.hand(worker) {
+            Some(brief) => already(brief),
+            None => self.take_free(worker),
+        }
     }
 
     /// Gives a worker the named key, whether it waits or not.
@@ -38,7 +41,13 @@ impl<K: Keeper> Cluster<K> {
         ensures key { IsOfKey key result }
         ensures busy { result ≡ Take.Idle → ⊥ }
     {
-        self.take_named(worker, key)
+        match self.workers.hand(worker) {
+            Some(brief) => {
+                drop(key);
+                already(brief)
+            }
+            None => self.take_unheld(worker, key),
+        }
     }
 
     /// What a worker holds.
@@ -101,17 +110,7 @@ impl<K: Keeper> Cluster<K> {
         all_objects(self.state.store())
     }
 
-    /// A worker takes the key that has waited longest.
-    fn take_next(&mut self, worker: u32) -> Take
-        ensures { IsTake worker self.old result self.new }
-    {
-        match self.workers.hand(worker) {
-            Some(brief) => already(brief),
-            None => self.take_free(worker),
-        }
-    }
-
-    /// The same of a worker that holds nothing.
+    /// A worker that holds nothing takes the key that has waited longest.
     fn take_free(&mut self, worker: u32) -> Take
         requires { hand_of worker self.old.workers.hands ≡ None }
         ensures { IsTake worker self.old result self.new }
@@ -131,20 +130,7 @@ impl<K: Keeper> Cluster<K> {
         }
     }
 
-    /// A worker takes a key that is named.
-    fn take_named(&mut self, worker: u32, key: Key) -> Take
-        ensures { IsTakeOf worker key self.old result self.new }
-    {
-        match self.workers.hand(worker) {
-            Some(brief) => {
-                drop(key);
-                already(brief)
-            }
-            None => self.take_unheld(worker, key),
-        }
-    }
-
-    /// The same of a worker that holds nothing.
+    /// A worker that holds nothing takes a key that is named.
     fn take_unheld(&mut self, worker: u32, key: Key) -> Take
         requires { hand_of worker self.old.workers.hands ≡ None }
         ensures { IsTakeOf worker key self.old result self.new }
@@ -168,6 +154,7 @@ impl<K: Keeper> Cluster<K> {
         ensures { IsGiven worker key self.old result self.new }
     {
         self.workers.law_apart();
+        make_ready(&mut self.state, &key);
         give_to(&self.state, &mut self.workers, worker, key)
     }
 
@@ -218,6 +205,16 @@ fn copy_of(key: &Key) -> Result<Key, NoMemory>
     ensures { IfOk result (λ copy. copy ≡ key.now) }
 {
     Ok(key.clone()?)
+}
+
+/// Makes ready for a key that is taken: what lies in a namespace on its way out goes in order.
+fn make_ready(state: &mut IndexedState, key: &Key)
+    ensures state { state.new.state ≡ state.old.state }
+    ensures staged { state.new.staged ≡ state.old.staged }
+{
+    if let Key::Purge { ns } = key {
+        state.sort(ns);
+    }
 }
 
 /// Gives a key to a worker.

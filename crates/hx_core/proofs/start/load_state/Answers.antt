@@ -1,6 +1,6 @@
 use Rattle.std.proofs.Common.{subst, ◌∙◌}
 use Rattle.hx_core.specs.Loading.{IsLoaded}
-use Rattle.hx_core.proofs.Loading.{asked_on, counted, holds_loaded, never_more, same_view, undamaged_loaded}
+use Rattle.hx_core.proofs.Loading.{asked_on, counted, damaged_on, holds_loaded, never_more, same_view, undamaged_loaded}
 use Rattle.hx_core.proofs.start.load_state.Goals as goal
 
 pub returns-clause-holds : goal.returns-clause-holds
@@ -12,6 +12,10 @@ pub returns-clause-undamaged : goal.returns-clause-undamaged
 returns-clause-undamaged g c =
     undamaged_loaded (g.K.Keeper.shown c.args.keeper.now).kept c.load_rows.new.state.state c.in_ok-last.last c.in_ok-meta.meta.rows (subst (λ k. IsLoaded c.load_rows.new.state.state k c.in_ok-last.last c.in_ok-meta.meta.rows) c.in_ok-meta.ensures.same.kept c.in_ok-last.ensures.loaded)
     (counted (g.K.Keeper.shown c.args.keeper.now).kept c.in_ok-meta.meta c.in_ok-meta.ensures.meta)
+
+pub returns-in_err-last-clause-damaged : goal.returns-in_err-last-clause-damaged
+returns-in_err-last-clause-damaged g c =
+    damaged_on c.from_residual-in_err-last.result c.in_err-last.field-0.0 (g.K.Keeper.shown c.args.keeper.now).kept (g.K.Keeper.shown c.meta.new.self).kept c.from_residual-in_err-last.ensures.1 c.in_ok-meta.ensures.same.kept c.in_err-last.ensures.damaged
 
 pub returns-in_err-check_end-clause-damaged : goal.returns-in_err-check_end-clause-damaged
 returns-in_err-check_end-clause-damaged g c =

@@ -2,7 +2,7 @@ use Rattle.std.proofs.Common.{◌≡◌, ◌+◌, ◌∷◌, [], Err, ap, ◌∙
 use Rattle.std.specs.Prelude.{option_copied}
 use Rattle.hx_model.specs.Hands.{versioned}
 use Rattle.hx_core.specs.Inside.{view_of}
-use Rattle.hx_core.proofs.Attempting.{hand_of_state, may_make, own_wants_none, tried_written, tried_failed}
+use Rattle.hx_core.proofs.Attempting.{hand_of_state, make_orderly, may_make, own_wants_none, some_write, tried_written, tried_failed}
 use Rattle.hx_core.proofs.cluster.Cluster.make.Goals as goal
 
 pub write-requires-clause-may : goal.write-requires-clause-may
@@ -11,8 +11,14 @@ write-requires-clause-may g c =
     let is : c.in-Ok.writes.items ≡ versioned (c.self.inside.state.state.last + 1) c.args.write ∷ [] = c.in-Ok.ensures ∙ ap (λ n. versioned (n + 1) c.args.write ∷ []) c.version-last.ensures in
     rw (← c.self.view_is) (may_make c.self.inside.state.state c.args.worker c.args.brief.now c.args.write c.in-Ok.writes.items (hand_of_state c.self.inside.state.state c.args.worker c.self.inside.workers.seen.hands c.args.brief.now c.self.invariant.taken requires.hand) requires.planned requires.may requires.fits is)
 
-pub write-requires-clause-one : goal.write-requires-clause-one
-write-requires-clause-one g c = (versioned (c.version-last.result + 1) c.args.write, c.in-Ok.ensures)
+pub write-requires-clause-orderly : goal.write-requires-clause-orderly
+write-requires-clause-orderly g c =
+    let requires = rw (← c.self.view_is) at c.requires in
+    let is : c.in-Ok.writes.items ≡ versioned (c.self.inside.state.state.last + 1) c.args.write ∷ [] = c.in-Ok.ensures ∙ ap (λ n. versioned (n + 1) c.args.write ∷ []) c.version-last.ensures in
+    rw (← c.self.view_is) (make_orderly c.self.inside.state.state c.args.worker c.args.brief.now c.args.write c.in-Ok.writes.items (hand_of_state c.self.inside.state.state c.args.worker c.self.inside.workers.seen.hands c.args.brief.now c.self.invariant.taken requires.hand) requires.planned requires.may is)
+
+pub write-requires-clause-some : goal.write-requires-clause-some
+write-requires-clause-some g c = some_write c.in-Ok.writes.items (versioned (c.version-last.result + 1) c.args.write) c.in-Ok.ensures
 
 pub write-requires-clause-own : goal.write-requires-clause-own
 write-requires-clause-own g c =

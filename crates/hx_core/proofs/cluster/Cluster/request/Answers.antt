@@ -1,6 +1,6 @@
 use Rattle.std.proofs.Common.{◌≡◌, ◌≢◌, [], Err, ap, rules}
 use Rattle.hx_core.specs.Inside.{view_of}
-use Rattle.hx_core.proofs.Asking.{asks_refused, asks_passed, asks_landed, asks_lost, passes_one}
+use Rattle.hx_core.proofs.Asking.{asks_refused, asks_passed, asks_landed, asks_lost, passes_orderly}
 use Rattle.hx_core.proofs.cluster.Cluster.request.Goals as goal
 
 pub returns-in-Err-clause-simulates : goal.returns-in-Err-clause-simulates
@@ -12,10 +12,9 @@ returns-then-is_empty-clause-simulates g c =
     let none : c.in-Ok.field-0.writes.items ≡ [] = search rules in
     rw (← c.self.view_is) (asks_passed (view_of c.self.inside.state.state c.self.inside.workers.seen (g.K.Keeper.shown c.self.inside.keeper)) c.args.ask c.in-Ok.field-0.writes.items c.in-Ok.field-0.answer c.self.invariant.world c.in-Ok.ensures.passes none)
 
-pub write-requires-clause-one : goal.write-requires-clause-one
-write-requires-clause-one g c =
-    let some : c.in-Ok.field-0.writes.items ≢ [] = search rules in
-    passes_one c.self.inside.state.state c.args.ask c.in-Ok.field-0.writes.items c.in-Ok.field-0.answer c.in-Ok.ensures.passes some
+pub write-requires-clause-orderly : goal.write-requires-clause-orderly
+write-requires-clause-orderly g c =
+    rw (← c.self.view_is) (passes_orderly c.self.inside.state.state c.args.ask c.in-Ok.field-0.writes.items c.in-Ok.field-0.answer c.self.invariant.valid c.in-Ok.ensures.passes)
 
 pub returns-in-Ok-write-clause-simulates : goal.returns-in-Ok-write-clause-simulates
 returns-in-Ok-write-clause-simulates g c =
