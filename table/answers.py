@@ -139,6 +139,7 @@ def has_version(resource, name, version):
 
 # What a refusal says of a rule of admission.
 RULES = {
+    "N4": "the namespace is terminating",
     "H7": "the name must be hierarchy",
     "C1": "the name must be config",
     "O1": "propagated copies cannot be made or changed",
@@ -152,6 +153,12 @@ RULES = {
     "C3": "the resource is named twice",
     "C4": "the mode of this resource is fixed",
     "C6": "the resource cannot be propagated",
+    "A2": "the namespace is excluded",
+    "A1": "the namespace exists elsewhere",
+    "A4": "the tree would be deeper than 64",
+    "A3": "the subnamespace has children",
+    "N1": "delete the anchor instead",
+    "N2": "cascading deletion is not allowed",
     "H5": "a source would be overwritten", "C5": "a source would be overwritten", "O2": "a source would overwrite or be overwritten",
     "O3": "the exception is not valid",
 }
@@ -273,7 +280,6 @@ STORED = [
 
 # The kinds that aren't stored yet: the resource, the paths in a namespace and in all, and the kind.
 UNWRITTEN = [
-    ("subnamespaceanchors.hnc.x-k8s.io", "/apis/hnc.x-k8s.io/v1alpha2/{}subnamespaceanchors", "SubnamespaceAnchor"),
     ("hierarchicalresourcequotas.hnc.x-k8s.io", "/apis/hnc.x-k8s.io/v1alpha2/{}hierarchicalresourcequotas", "HierarchicalResourceQuota"),
     ("pods", "/api/v1/{}pods", "Pod"),
     ("persistentvolumeclaims", "/api/v1/{}persistentvolumeclaims", "PersistentVolumeClaim"),
@@ -300,8 +306,7 @@ def namespaces(t):
     t.shows(put(f"{NAMESPACES}/acme", with_version(labelled, "2")), acme)
     t.refuses(put(f"{NAMESPACES}/none", with_version(thing("Namespace", "none"), "7")), not_found("namespaces", "none"))
     t.refuses(post(CONFIGMAPS, '{"apiVersion":"v1","kind":"ConfigMap","metadata":{"name":"x"},"n":1.5}'), NOT_WHOLE)
-    t.refuses(delete(f"{NAMESPACES}/acme"), NOT_SERVED)
-    t.refuses(delete(f"{NAMESPACES}/none"), NOT_SERVED)
+    t.refuses(delete(f"{NAMESPACES}/none"), not_found("namespaces", "none"))
     t.shows(get(f"{NAMESPACES}/acme"), acme)
     beta = t.creates(post(NAMESPACES, with_version(thing("Namespace", "beta"), 9)), namespace("beta"))
     dashed = t.creates(post(NAMESPACES, thing("Namespace", "acme-2")), namespace("acme-2"))
@@ -1102,7 +1107,7 @@ ORDERS = [
     ("GET /api/v1/namespaces/%ff/pods?labelSelector=,", BAD_PATH),
     ("POST /api/v1/namespaces/n/pods?labelSelector=, {", NOT_SERVED),
     ("POST /api/v1/namespaces/n/configmaps?labelSelector=,&dryRun=All {", bad_query("dryRun")),
-    ("DELETE /api/v1/namespaces/n?labelSelector=,", NOT_SERVED),
+    ("DELETE /api/v1/namespaces/n?labelSelector=,", not_found("namespaces", "n")),
     ("POST /api/v1/namespaces/%ff/pods {", BAD_PATH),
     ("PUT /api/v1/namespaces/%ff/configmaps/a {", BAD_PATH),
     ("PUT /api/v1/namespaces/a/configmaps/%C3 {", BAD_PATH),
@@ -1112,9 +1117,9 @@ ORDERS = [
     ("PUT /api/v1/namespaces/n/configmaps/a?admission=no {", bad_query("admission")),
     ("POST /api/v1/namespaces/n/pods {", NOT_SERVED),
     ("PUT /api/v1/namespaces/n/persistentvolumeclaims/A {", NOT_SERVED),
-    ("POST /apis/hnc.x-k8s.io/v1alpha2/namespaces/N/subnamespaceanchors", NOT_SERVED),
+    ("POST /apis/hnc.x-k8s.io/v1alpha2/namespaces/N/subnamespaceanchors", NOT_JSON),
     ("PUT /apis/hnc.x-k8s.io/v1alpha2/namespaces/n/hierarchicalresourcequotas/a", NOT_SERVED),
-    ("DELETE /api/v1/namespaces/N", NOT_SERVED),
+    ("DELETE /api/v1/namespaces/N", not_found("namespaces", "N")),
     ("POST /api/v1/namespaces/none/configmaps {", NOT_JSON),
 ]
 
@@ -2265,6 +2270,72 @@ NO_WORKERS = [
 LONGEST = 131_072
 
 
+ANCHORS_IN = "/apis/hnc.x-k8s.io/v1alpha2/namespaces/{}/subnamespaceanchors"
+ANCHOR = "subnamespaceanchors.hnc.x-k8s.io"
+
+
+def anchors(t):
+    t.part("anchors")
+    t.creates(post(NAMESPACES, thing("Namespace", "asks")), namespace("asks"))
+    kept = t.creates(post(NAMESPACES, thing("Namespace", "kept")), namespace("kept"))
+    here = ANCHORS_IN.format("asks")
+    # what a body says beside the metadata isn't kept
+    body = thing("SubnamespaceAnchor", "web", "asks", labels={"tier": "x"}, spec={"labels": [{"key": "a", "value": "b"}]}, status={"status": "Ok"})
+    web = t.creates(post(here, body), thing("SubnamespaceAnchor", "web", "asks", labels={"tier": "x"}))
+    t.refuses(post(here, body), exists(ANCHOR, "web"))
+    t.shows(get(f"{here}/web"), web)
+    t.shows(put(f"{here}/web", body), web)
+    t.refuses(put(f"{here}/web", with_version(body, 1)), has_version(ANCHOR, "web", web["metadata"]["resourceVersion"]))
+    web = t.changes(put(f"{here}/web", thing("SubnamespaceAnchor", "web")), thing("SubnamespaceAnchor", "web", "asks"))
+    t.lists(get(here), "SubnamespaceAnchor", [web])
+    t.lists(get("/apis/hnc.x-k8s.io/v1alpha2/subnamespaceanchors"), "SubnamespaceAnchor", [web])
+    for name in ("", "A", "a.b", "-a", "a" * 64):
+        t.refuses(post(here, thing("SubnamespaceAnchor", name)), BAD_NAME)
+    t.refuses(post(ANCHORS_IN.format("none"), thing("SubnamespaceAnchor", "web")), not_found("namespaces", "none"))
+    t.refuses(post(here, thing("SubnamespaceAnchor", "copied", labels={"hnc.x-k8s.io/inherited-from": "a"})), broken("O1"))
+    # a namespace of the name is there already
+    t.refuses(post(here, thing("SubnamespaceAnchor", "kept")), broken("A1"))
+    t.refuses(post(here, thing("SubnamespaceAnchor", "asks")), broken("A1"))
+    t.creates(post(f"{here}?admission=skip", thing("SubnamespaceAnchor", "kept")), thing("SubnamespaceAnchor", "kept", "asks"))
+    # it isn't that anchor's, and stays
+    t.removes(delete(f"{here}/kept"))
+    t.refuses(delete(f"{here}/kept"), not_found(ANCHOR, "kept"))
+    t.shows(get(f"{NAMESPACES}/kept"), kept)
+    # excluded names
+    for ns, name in (("asks", "kube-system"), ("kube-system", "web2"), ("kube-system", "hnc-system")):
+        t.refuses(post(ANCHORS_IN.format(ns), thing("SubnamespaceAnchor", name)), broken("A2"))
+    t.creates(post(f"{here}?admission=skip", thing("SubnamespaceAnchor", "kube-system")), thing("SubnamespaceAnchor", "kube-system", "asks"))
+    t.removes(delete(f"{here}/kube-system?admission=skip"))
+    t.removes(delete(f"{here}/web"))
+
+
+def deletion(t):
+    t.part("deletion of namespaces")
+    t.creates(post(NAMESPACES, thing("Namespace", "leaves", labels={"tier": "x"})), namespace("leaves", labels={"tier": "x"}))
+    roles, (line, role) = ROLES_IN.format("leaves"), role_in("leaves", "r", rules=[])
+    role = t.creates(line, role)
+    t.removes(delete(f"{NAMESPACES}/leaves"))
+    ended = with_version(thing("Namespace", "leaves", labels={"tier": "x"}, status={"phase": "Terminating"}), t.version)
+    t.shows(get(f"{NAMESPACES}/leaves"), ended)
+    # nothing comes in or changes, and what is there may go
+    t.refuses(put(f"{NAMESPACES}/leaves", thing("Namespace", "leaves", labels={"tier": "x"})), broken("N4"))
+    t.refuses(put(f"{NAMESPACES}/leaves?admission=skip", thing("Namespace", "leaves")), broken("N4"))
+    t.refuses(put(f"{NAMESPACES}/leaves", with_version(thing("Namespace", "leaves"), 1)), has_version("namespaces", "leaves", t.version))
+    t.refuses(post(NAMESPACES, thing("Namespace", "leaves")), exists("namespaces", "leaves"))
+    t.refuses(line, exists("roles.rbac.authorization.k8s.io", "r"))
+    t.refuses(post(roles, thing("Role", "s")), broken("N4"))
+    t.refuses(put(f"{roles}/r", thing("Role", "r", rules=[])), broken("N4"))
+    t.refuses(post(HIERARCHIES_IN.format("leaves"), thing("HierarchyConfiguration", "other", spec={})), broken("N4"))
+    t.refuses(post(ANCHORS_IN.format("leaves"), thing("SubnamespaceAnchor", "kube-system")), broken("N4"))
+    t.shows(get(f"{roles}/r"), role)
+    # to delete it once more changes nothing, and tells the last version
+    t.answers_with(delete(f"{NAMESPACES}/leaves"), 200, {"apiVersion": "v1", "kind": "Status", "metadata": {"resourceVersion": str(t.version)}, "status": "Success"})
+    t.removes(delete(f"{roles}/r"))
+    # it isn't a parent any more
+    t.refuses(post(HIERARCHIES_IN.format("kept"), thing("HierarchyConfiguration", "hierarchy", spec={"parent": "leaves"})), broken("H1"))
+    t.shows(get(f"{NAMESPACES}/leaves"), ended)
+
+
 def silent_lines(t):
     t.part("lines: those that answer nothing")
     for line in ("", "\r", "#", "#\r", "# GET /x", "#GET /x\r", "##", "#\u0000"):
@@ -2429,6 +2500,8 @@ PARTS = [
     copies,
     exceptions,
     conflicts,
+    anchors,
+    deletion,
     silent_lines,
     line_ends,
     line_forms,

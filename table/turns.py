@@ -1,14 +1,16 @@
-"""The machine of reconcilers in plain Python, for namespaces, their parents and Roles; and scripts in which two workers take and finish at each place among a user's writes.
+"""The machine of reconcilers in plain Python, for namespaces, their parents, anchors and Roles; and scripts in which two workers take and finish at each place among a user's writes.
 
-It is written from the words of docs/BEHAVIOUR.md. A user's requests skip the rules that can be skipped, so only O1 refuses one; takes name their keys.
-An object lies under its kind, its namespace and its name, with a value and a version: the value is its labels, its content (a namespace has none, a
-HierarchyConfiguration its parent, a Role its verb), its exception as `KEY=TEXT`, and the namespace that a copy comes from. Lines are in the short form
-of turns.txt.
+It is written from the words of docs/BEHAVIOUR.md. A user's requests on HierarchyConfigurations and Roles skip the rules that can be skipped; takes name
+their keys. An object lies under its kind, its namespace and its name, with a value and a version: the value is its labels, its content (of a namespace
+the parent that its annotation names, of a HierarchyConfiguration its parent and whether it lets deletion cascade, of a Role its verb), its exception as
+`KEY=TEXT`, the namespace that a copy comes from, and its status (a namespace that is on its way out, or what an anchor is told). Lines are in the short
+form of turns.txt.
 """
 import itertools
 from typing import NamedTuple, Optional
 
-KINDS = ("namespace", "hierarchy", "role")
+# in the order of their numbers
+KINDS = ("namespace", "hierarchy", "anchor", "role")
 DEPTH = ".tree.hnc.x-k8s.io/depth"
 INCLUDED = "hnc.x-k8s.io/included-namespace"
 
@@ -18,11 +20,15 @@ class Value(NamedTuple):
     content: Optional[str] = None
     rule: Optional[str] = None
     origin: Optional[str] = None
+    status: Optional[str] = None
 
 
-def shown(kind, ns, name, labels, content, rule, origin):
+ENDED = "Terminating"
+
+
+def shown(kind, ns, name, labels, content, rule, origin, status):
     """An object without its version."""
-    return (kind, ns, name), Value(frozenset(labels.items()), content, rule, origin)
+    return (kind, ns, name), Value(frozenset(labels.items()), content, rule, origin, status)
 
 
 class Hand(NamedTuple):
@@ -38,9 +44,15 @@ class Machine:
 
     # ---- the tree
 
+    def home(self, ns):
+        return self.value(("namespace", "", ns))
+
     def parent(self, ns):
-        value = self.value(("hierarchy", ns, "hierarchy"))
-        return value.content if value and value.content else None
+        home, value = self.home(ns), self.value(("hierarchy", ns, "hierarchy"))
+        return home and home.content or (value.content[0] if value and value.content[0] else None)
+
+    def is_live(self, ns):
+        return bool(self.home(ns)) and self.home(ns).status != ENDED
 
     def value(self, place):
         return self.objects[place][0] if place in self.objects else None
@@ -57,10 +69,27 @@ class Machine:
 
     def own_halt(self, ns):
         parent = self.parent(ns)
-        return parent is not None and (ns in self.chain(parent) or ("namespace", "", parent) not in self.objects)
+        return parent is not None and (ns in self.chain(parent) or not self.is_live(parent))
 
     def is_open(self, ns):
-        return ("namespace", "", ns) in self.objects and not any(map(self.own_halt, self.chain(ns)))
+        return self.is_live(ns) and not any(map(self.own_halt, self.chain(ns)))
+
+    def reach(self, ns):
+        """A namespace, and those whose annotations lead to it."""
+        members, more = set(), {ns}
+        while more:
+            members |= more
+            more = {place[2] for place, (value, _) in self.objects.items() if place[0] == "namespace" and value.content in members} - members
+        return members
+
+    def cascades(self, ns):
+        values = [self.value(("hierarchy", member, "hierarchy")) for member in self.chain(ns)]
+        return any(value.content[1] for value in values if value)
+
+    def least(self, ns):
+        """The place of the first object that lies in a namespace, in the order of kinds and then of names; or of the namespace."""
+        inner = [place for place in self.objects if place[1] == ns and place[0] != "namespace"]
+        return min(inner, key=lambda place: (KINDS.index(place[0]), place[2]), default=("namespace", "", ns))
 
     # ---- what keys want
 
@@ -74,14 +103,21 @@ class Machine:
     def wanted(self, key):
         """The place and the value that a key wants to be written, or nothing at the place; or that it wants no write."""
         what, ns, *rest = key.split(" ")
-        if what not in ("copy", "tree") or not self.is_open(ns):
+        if what == "purge":
+            return (self.least(ns), None) if self.home(ns) and not self.is_live(ns) else None
+        if what == "anchor":
+            return self.wanted_status(ns, rest[0])
+        if what not in ("copy", "tree", "child") or not self.is_open(ns):
             return None
+        if what == "child":
+            asked = ("anchor", ns, rest[0]) in self.objects and not self.home(rest[0])
+            return (("namespace", "", rest[0]), Value(content=ns)) if asked else None
         home = ("namespace", "", ns)
         labels = dict(self.value(home).labels)
         if what == "tree":
             own = {name: value for name, value in labels.items() if not name.endswith(DEPTH)}
             tree = {f"{member}{DEPTH}": str(far) for far, member in enumerate(self.chain(ns))}
-            value = Value(frozenset({**own, INCLUDED: "true", **tree}.items()))
+            value = self.value(home)._replace(labels=frozenset({**own, INCLUDED: "true", **tree}.items()))
             return None if value == self.value(home) else (home, value)
         place = ("role", ns, rest[1])
         there = self.value(place)
@@ -92,31 +128,88 @@ class Machine:
                 return None if copy == there else (place, copy)
         return (place, None) if there and there.origin else None
 
+    def wanted_status(self, ns, name):
+        place, home = ("anchor", ns, name), self.home(name)
+        there = self.value(place)
+        if there is None or not self.is_live(ns):
+            return None
+        status = "Missing" if home is None else "Ok" if home.content == ns else "Conflict"
+        return (place, there._replace(status=status)) if status != there.status else None
+
     def guards(self, key):
         what, ns, *rest = key.split(" ")
-        places = {"copy": [("role", ns, rest[-1] if rest else ""), ("namespace", "", ns)], "tree": [("namespace", "", ns)]}
-        return [(place, self.version(place)) for place in places[what]]
+        name = rest[-1] if rest else ""
+        inner = {
+            "copy": [("role", ns, name)],
+            "tree": [],
+            "child": [("anchor", ns, name), ("namespace", "", name)],
+            "anchor": [("anchor", ns, name)],
+            "purge": [self.least(ns)],
+        }
+        return [(place, self.version(place)) for place in [*inner[what], ("namespace", "", ns)]]
 
     # ---- lines
 
-    def write(self, place, value):
+    def write(self, *changes):
         self.last += 1
-        if value is None:
-            del self.objects[place]
-        else:
-            self.objects[place] = value, self.last
+        for place, value in changes:
+            if value is None:
+                del self.objects[place]
+            else:
+                self.objects[place] = value, self.last
 
-    def request(self, method, place, value):
-        """The code of a user's request that skips what can be skipped."""
+    def broken(self, method, place, skip):
+        """The first rule that a request breaks."""
+        kind, ns, name = place
+        subject, there, home = name if kind == "namespace" else ns, self.value(place), self.home(name)
+        if method != "DELETE" and self.home(subject) and not self.is_live(subject):
+            return "N4"
+        if method != "POST" and there.origin:
+            return "O1"
+        if kind == "anchor" and not skip:
+            if method == "POST" and home and home.content != ns:
+                return "A1"
+            children = any(self.parent(other[2]) == name for other in self.objects if other[0] == "namespace")
+            if method == "DELETE" and home and home.content == ns and children and not self.cascades(name):
+                return "A3"
+        if kind == "namespace" and method == "DELETE" and there.status != ENDED:
+            if there.content and ("anchor", there.content, name) in self.objects:
+                return "N1"
+            if self.reach(name) != {name} and not self.cascades(name):
+                return "N2"
+        return None
+
+    def ending(self, ns):
+        """What puts a namespace on its way out, and all that go with it."""
+        return [(("namespace", "", member), self.home(member)._replace(status=ENDED)) for member in self.reach(ns) if self.is_live(member)]
+
+    def changes(self, method, place, value, skip):
+        """What a request changes that nothing refuses."""
+        kind, ns, name = place
+        there, home = self.value(place), self.home(name)
+        if method == "DELETE" and kind == "namespace":
+            return [] if there.status == ENDED else self.ending(name)
+        if method == "DELETE":
+            return [(place, None), *(self.ending(name) if kind == "anchor" and not skip and home and home.content == ns else [])]
+        if there:
+            value = value._replace(status=there.status, content=there.content if kind == "namespace" else value.content)
+        return [(place, value)] if value != there else []
+
+    def request(self, method, place, value, skip):
+        """The code of a user's request."""
         there = self.value(place)
+        if method == "POST" and place[1] and not self.home(place[1]):
+            return "404"
         if method == "POST" and there:
             return "409"
         if method != "POST" and not there:
             return "404"
-        if method != "POST" and there.origin:
-            return "403 O1"
-        if there != value:
-            self.write(place, value)
+        rule = self.broken(method, place, skip)
+        if rule:
+            return f"403 {rule}"
+        changes = self.changes(method, place, value, skip)
+        if changes:
+            self.write(*changes)
         return "201" if method == "POST" else "200"
 
     def take(self, worker, key):
@@ -139,7 +232,7 @@ class Machine:
         overwrites = hand.write[0][0] == "role" and there and not there.origin
         if not met or overwrites and self.wanted(hand.key) != hand.write:
             return f"conflict seen {hand.seen} now {self.last}"
-        self.write(*hand.write)
+        self.write(hand.write)
         return f"written {self.last}"
 
     def drop(self, worker):
@@ -152,12 +245,12 @@ class Machine:
             worker = int(words[0])
             return self.take(worker, " ".join(words[1:])) if word == "take" else getattr(self, word)(worker)
         kind, at, *said = words
-        place = {"namespace": ("namespace", "", at), "hierarchy": ("hierarchy", at, "hierarchy"), "role": ("role", *at.split("/")[:2])}[kind]
+        place = {"namespace": ("namespace", "", at), "hierarchy": ("hierarchy", at, "hierarchy")}.get(kind) or (kind, *at.split("/"))
         told = dict(each.split("=", 1) for each in said)
         labels = frozenset((key[6:], text) for key, text in told.items() if key.startswith("label:"))
-        content = {"namespace": None, "hierarchy": told.get("parent", ""), "role": told.get("verb")}[kind]
+        content = {"hierarchy": (told.get("parent", ""), "cascade" in told), "role": told.get("verb")}.get(kind)
         rule = next((f"{key}={told[key]}" for key in ("none", "select", "treeSelect") if key in told), None)
-        return self.request(word.rstrip("!"), place, None if word.startswith("DELETE") else Value(labels, content, rule))
+        return self.request(word.rstrip("!"), place, None if word.startswith("DELETE") else Value(labels, content, rule), word.endswith("!"))
 
     # ---- settling
 
@@ -166,9 +259,11 @@ class Machine:
 
     def settled(self):
         """The objects, without their versions, in which it may settle: keys may be taken in any order."""
-        names = [place[2] for place in self.objects if place[0] == "namespace"]
+        names = {place[2] for place in self.objects if place[0] in ("namespace", "anchor")}
         roles = {place[2] for place in self.objects if place[0] == "role"}
-        keys = [f"tree {ns}" for ns in names] + [f"copy {ns} roles {role}" for ns in names for role in roles]
+        anchors = [place[1:] for place in self.objects if place[0] == "anchor"]
+        keys = [f"{what} {ns}" for ns in names for what in ("tree", "purge")] + [f"copy {ns} roles {role}" for ns in names for role in roles]
+        keys += [f"{what} {ns} {name}" for ns, name in anchors for what in ("child", "anchor")]
         todo, seen, ends = [self.objects], set(), set()
         while todo:
             self.objects = todo.pop()
@@ -190,6 +285,8 @@ TREE = ["POST! namespace a", "POST! namespace b", "POST! hierarchy b parent=a"]
 SOURCE = ["POST! role a/r verb=get"]
 LABELLED = ["take 1 tree a", "finish 1", "take 1 tree b", "finish 1"]
 COPIED = ["take 1 copy b roles r", "finish 1"]
+ASKED = ["POST! namespace a", "POST anchor a/b"]
+SUBNAMESPACE = [*ASKED, "take 1 child a b", "finish 1", "take 1 anchor a b", "finish 1"]
 
 # Of each story: its title, what stands before, the keys of the two workers, how the second one ends, and the user's writes.
 STORIES = [
@@ -204,6 +301,16 @@ STORIES = [
     ("the tree selects", [*TREE, "POST! role a/r verb=get treeSelect=b", *LABELLED], ("copy b roles r", "tree b"), "finish", ["PUT! namespace b label:tier=x", "PUT! role a/r verb=get treeSelect=!a", "PUT! role a/r verb=get"]),
     ("an exception comes", [*TREE, *SOURCE, *LABELLED, *COPIED], ("copy b roles r", "tree b"), "finish", ["PUT! role a/r verb=get none=true", "PUT! namespace b", "PUT! role a/r verb=list none=false"]),
     ("a cycle comes and goes", [*TREE, *SOURCE, *LABELLED], ("copy b roles r", "tree a"), "finish", ["POST! hierarchy a parent=b", "PUT! role a/r verb=list", "DELETE! hierarchy a"]),
+    ("a subnamespace is asked for", ASKED, ("child a b", "anchor a b"), "finish", ["DELETE! anchor a/b", "POST! namespace b", "POST anchor a/b"]),
+    ("an anchor takes its subnamespace along", [*SUBNAMESPACE, *SOURCE], ("copy b roles r", "anchor a b"), "finish", ["DELETE anchor a/b", "PUT! role a/r verb=list", "POST anchor a/b"]),
+    ("an anchor goes alone", [*SUBNAMESPACE, *SOURCE], ("copy b roles r", "child a b"), "finish", ["DELETE! anchor a/b", "DELETE namespace b", "POST anchor a/b"]),
+    ("a subnamespace has a child", [*SUBNAMESPACE, "POST! namespace c", "POST! hierarchy c parent=b"], ("tree c", "anchor a b"), "finish", ["DELETE anchor a/b", "POST! hierarchy a cascade=true", "DELETE anchor a/b"]),
+    ("a namespace begins to leave", [*TREE, *SOURCE], ("copy b roles r", "purge b"), "finish", ["DELETE namespace b", "POST! role b/s verb=own", "PUT! role a/r verb=list"]),
+    ("a namespace is emptied", [*TREE, "POST! role b/r verb=own", "POST! role b/s verb=own", "DELETE namespace b"], ("purge b", "tree b"), "finish", ["DELETE! hierarchy b", "DELETE! role b/r", "DELETE namespace b"]),
+    ("the last object goes", [*TREE, "DELETE namespace b", "take 1 purge b", "finish 1"], ("purge b", "purge b"), "finish", ["DELETE namespace b", "POST! namespace b", "POST! role b/r verb=get"]),
+    ("the parent leaves", [*TREE, *SOURCE, *LABELLED], ("copy b roles r", "purge a"), "finish", ["DELETE namespace a", "PUT! hierarchy b", "POST! role b/s verb=own"]),
+    ("the parent comes back", [*TREE, *SOURCE, *LABELLED, *COPIED, "DELETE namespace a", "take 1 purge a", "finish 1", "take 1 purge a", "finish 1"], ("copy b roles r", "tree b"), "finish", ["POST! namespace a", "POST! role a/r verb=list", "DELETE namespace a"]),
+    ("a subnamespace leaves and is asked for again", [*SUBNAMESPACE, "DELETE anchor a/b"], ("purge b", "child a b"), "finish", ["POST anchor a/b", "POST! role a/r verb=get", "DELETE namespace b"]),
     ("the parent goes missing", [*TREE, *SOURCE], ("copy b roles r", "tree b"), "finish", ["PUT! hierarchy b parent=gone", "POST! namespace gone", "PUT! role a/r verb=list"]),
 ]
 

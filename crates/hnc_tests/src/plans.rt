@@ -70,6 +70,39 @@ fn brief_of_tree(alloc: Global) -> Result<Brief, NoMemory> {
     })
 }
 
+/// The brief of the subnamespace that an anchor asks for in acme.
+fn brief_of_child(alloc: Global) -> Result<Brief, NoMemory> {
+    Ok(Brief {
+        key: Key::Child {
+            ns: Text::of(alloc, "acme")?,
+            name: Text::of(alloc, "team")?,
+        },
+        seen: 3,
+        guards: List::of(Vec::new(alloc)),
+        facts: Facts::Child {
+            is_open: true,
+            is_anchored: true,
+            is_excluded: false,
+            is_taken: false,
+        },
+    })
+}
+
+/// The brief of the removal of acme, in which nothing lies any more.
+fn brief_of_purge(alloc: Global) -> Result<Brief, NoMemory> {
+    Ok(Brief {
+        key: Key::Purge {
+            ns: Text::of(alloc, "acme")?,
+        },
+        seen: 3,
+        guards: List::of(Vec::new(alloc)),
+        facts: Facts::Purge {
+            is_leaving: true,
+            least: None,
+        },
+    })
+}
+
 /// Whether a plan puts an object with this label.
 fn puts(planned: &Result<Plan, SharedBrief>, key: &str, value: &str) -> bool {
     let Ok(plan) = planned else {
@@ -91,9 +124,39 @@ fn puts_tree_labels(alloc: Global) -> Result<bool, NoMemory> {
     Ok(puts(&planned, "acme.tree.hnc.x-k8s.io/depth", "1"))
 }
 
+fn makes_subnamespace(alloc: Global) -> Result<bool, NoMemory> {
+    let planned = plan(alloc, SharedBrief::new(alloc, brief_of_child(alloc)?)?);
+    let Ok(plan) = &planned else {
+        return Ok(false);
+    };
+    Ok(match plan.write() {
+        Some(Write::Put(object)) => {
+            object
+                .annotations
+                .get("hnc.x-k8s.io/subnamespace-of")
+                .map(Text::as_str)
+                == Some("acme")
+        }
+        _ => false,
+    })
+}
+
+fn removes_namespace(alloc: Global) -> Result<bool, NoMemory> {
+    let planned = plan(alloc, SharedBrief::new(alloc, brief_of_purge(alloc)?)?);
+    let Ok(plan) = &planned else {
+        return Ok(false);
+    };
+    Ok(match plan.write() {
+        Some(Write::Cut(id)) => id.kind.is_namespace() && id.name.as_str() == "acme",
+        _ => false,
+    })
+}
+
 #[test]
 fn plans(rt: HostRuntime) -> Result<(), Fail> {
     assert!(rt; puts_copy(rt.alloc())?);
     assert!(rt; puts_tree_labels(rt.alloc())?);
+    assert!(rt; makes_subnamespace(rt.alloc())?);
+    assert!(rt; removes_namespace(rt.alloc())?);
     Ok(())
 }

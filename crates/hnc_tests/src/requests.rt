@@ -49,7 +49,8 @@ fn requests(rt: HostRuntime) -> Result<(), Fail> {
         (Method::Post, "/api/v1/services", Err(405)),
         (Method::Get, "/api/v1/namespaces/%ff", Err(400)),
         (Method::Get, "/api/v1/services?watch=1", Err(400)),
-        (Method::Delete, "/api/v1/namespaces/a", Err(501)),
+        (Method::Delete, "/api/v1/namespaces/a", Ok("delete")),
+        (Method::Post, "/api/v1/namespaces/a/pods", Err(501)),
     ] {
         let found = reading(&mut reader, method, target);
         assert!(rt; found == wanted, "{target}");

@@ -10,7 +10,7 @@ use std::cmp::Ordering;
 use std::hash::RandomState;
 use std::test::Fail;
 
-const KINDS: [Kind; 2] = [Kind::Role, Kind::Secret];
+const KINDS: [Kind; 2] = [Kind::SubnamespaceAnchor, Kind::Role];
 
 const NAMESPACES: [&str; 2] = ["a", "b"];
 
@@ -135,8 +135,40 @@ fn lists_alike(
     Ok(are_same(listed.as_slice(), wanted.as_slice()))
 }
 
+/// Whether the store gives the first object of the plain list that lies in a namespace.
+fn is_least_alike(store: &Store, objects: &[Object], ns: &Text) -> bool {
+    let first = objects.iter().find(|object| object.id.ns == *ns);
+    match (store.least(ns), first) {
+        (Some(found), Some(object)) => found.object().is_same(object),
+        (None, None) => true,
+        _ => false,
+    }
+}
+
+/// Whether the store gives the anchors of the plain list that have a name.
+fn are_anchors_alike(store: &Store, objects: &[Object], name: &str) -> Result<bool, NoMemory> {
+    let mut wanted = Vec::new(store.allocator());
+    for object in objects {
+        if object.id.kind == Kind::SubnamespaceAnchor && object.id.name.as_str() == name {
+            wanted.push(object.copy()?)?;
+        }
+    }
+    let anchors = store.anchors(name)?;
+    Ok(are_same(anchors.as_slice(), wanted.as_slice()))
+}
+
 fn are_alike(store: &Store, objects: &[Object]) -> Result<bool, NoMemory> {
     let alloc = store.allocator();
+    for ns in NAMESPACES {
+        if !is_least_alike(store, objects, &Text::of(alloc, ns)?) {
+            return Ok(false);
+        }
+    }
+    for name in NAMES {
+        if !are_anchors_alike(store, objects, name)? {
+            return Ok(false);
+        }
+    }
     for kind in KINDS {
         for ns in NAMESPACES {
             let ns = Text::of(alloc, ns)?;
