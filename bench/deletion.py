@@ -1,0 +1,101 @@
+#!/usr/bin/env python3
+"""What it costs to delete namespaces in `hnc run`: the turns that empty one, by how many objects lie in it, and the request, by how many namespaces go along.
+
+Usage: bench/deletion.py PROGRAM
+PROGRAM is the built program, which bin/hnc leaves as crates/hnc/out/hnc. Beside what is measured stand 3,800 namespaces with 16 Roles in each.
+Prints, a line for each:
+- a turn that removes an object of a terminating namespace, where 4,000 Roles lie in it and where 40 do, and the ratio: the mean over all turns of
+  the namespace;
+- the DELETE of an anchor whose subnamespace has a reach of 256, per namespace of it, and where it has one of 16, and the ratio. All others of the
+  reach lie below its first one;
+- the same of reaches of 60 and of 8, in which each lies below the one before.
+Each is the least of so many rounds. Times are the processor's. Everything runs on one.
+"""
+import os
+import sys
+
+from conflicts import ROLE, make
+from program import Kind, Run, namespace, report
+from trees import HIERARCHY
+
+ANCHOR = Kind("hnc.x-k8s.io/v1alpha2", "SubnamespaceAnchor", "subnamespaceanchors")
+BESIDE = 3_800
+OBJECTS = 16
+SIZES = (40, 4_000)
+REACHES = (16, 256)
+DEPTHS = (8, 60)
+ROUNDS = 8
+
+
+def kept(ns, name):
+    """The line that makes a Role that goes nowhere."""
+    return f"POST {ROLE.path(ns)} {ROLE.body(name, metadata={'name': name, 'annotations': {'propagate.hnc.x-k8s.io/none': 'true'}})}\n"
+
+
+def end(ns):
+    return f"DELETE /api/v1/namespaces/{ns}\n"
+
+
+class Beside(Run):
+    """A settled run with namespaces and Roles that nothing touches."""
+
+    def __init__(self, program):
+        super().__init__(program)
+        self.ask([namespace(f"n{i}") for i in range(BESIDE)])
+        self.ask([kept(f"n{i}", f"r{i}-{at}") for i in range(BESIDE) for at in range(OBJECTS)])
+        self.ask([namespace("top"), f"POST {HIERARCHY.path('top')} {HIERARCHY.body('hierarchy', spec={'allowCascadingDeletion': True})}\n"])
+        self.settle()
+
+    def turns(self, count):
+        """The time of so many turns, each of which writes."""
+        before = self.used()
+        ends = self.settle(count)
+        took = self.used() - before
+        assert ends == [b"written"] * count
+        return took
+
+    def emptied(self, objects):
+        """The time of a turn that empties a namespace of so many Roles."""
+        self.ask([namespace("goes"), *(make("goes", f"r{at}") for at in range(objects))])
+        self.settle()
+        self.ask([end("goes")])
+        # its tree labels want nothing any more
+        assert self.settle(1) == [b"nothing"]
+        took = self.turns(objects) / objects
+        # the last turn removes the namespace
+        self.turns(1)
+        return took
+
+    def cut(self, levels):
+        """The time of a DELETE of the first of anchors that ask for these namespaces, level by level, for each namespace that goes along."""
+        for above, names in zip(["top", *(names[0] for names in levels)], levels):
+            self.ask([f"POST {ANCHOR.path(above)} {ANCHOR.body(name)}\n" for name in names])
+            self.settle()
+        took = self.seconds([f"DELETE {ANCHOR.path('top')}/s0\n"])
+        self.settle()
+        return took / sum(map(len, levels))
+
+
+def flat(reach):
+    """The names of a reach in two levels."""
+    return [["s0"], [f"s{at}" for at in range(1, reach)]]
+
+
+def deep(reach):
+    """The names of a reach in which each lies below the one before."""
+    return [[f"s{at}"] for at in range(reach)]
+
+
+def main():
+    os.sched_setaffinity(0, {max(os.sched_getaffinity(0))})
+    run = Beside(sys.argv[1])
+    rounds = [[run.emptied(objects) for objects in SIZES] for _ in range(ROUNDS)]
+    names = [f"{size:,} Roles" for size in SIZES]
+    report("a turn that removes an object", names, rounds, 1)
+    report("DELETE of an anchor, for each namespace that goes along", [f"{reach} of them" for reach in REACHES], [[run.cut(flat(reach)) for reach in REACHES] for _ in range(ROUNDS)], 1)
+    report("the same, each below the one before", [f"{reach} of them" for reach in DEPTHS], [[run.cut(deep(reach)) for reach in DEPTHS] for _ in range(ROUNDS)], 1)
+    run.close()
+
+
+if __name__ == "__main__":
+    main()
