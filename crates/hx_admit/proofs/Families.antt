@@ -8,8 +8,7 @@ use Rattle.std.specs.Prelude.{is_some, option_and_then}
 use Rattle.std.specs.List.{list_any}
 use Rattle.std.specs.Str.{bytes_eq}
 use Rattle.std.proofs.lemmas.Bool.{ne_eqb, and_parts, and_from, or_cases, or_left, or_right, not-true, not_from_false, false_from_ne_true, cases_Bool}
-use Rattle.hx_forest.specs.Children.{is_child, children_of}
-use Rattle.hx_model.specs.Forest.{Forest, is_in, names_of, node_of, is_there, parent_of, in_chain}
+use Rattle.hx_model.specs.Forest.{Forest, is_in, names_of, node_of, is_there, parent_of, in_chain, is_child, children_of}
 use Rattle.hx_model.specs.Subnamespaces.{has_children}
 use Rattle.hx_model.specs.declared.node.Node.{Node}
 use Rattle.hx_model.proofs.Climbing.{Above, itself, through, chain_above, above_chain, is_same, same_itself}

@@ -66,14 +66,3 @@ pub struct Family<'a> {
     /// Whether its chain allows cascading deletion, where others would go with it.
     pub cascades: bool,
 }
-
-/// Whether both are there and alike, or neither is there.
-pub fn is_same_name(a: Option<&Text>, b: Option<&Text>) -> bool
-    ensures { result ≡ same_name (option_copied a.entry) (option_copied b.entry) }
-{
-    match (a, b) {
-        (Some(a), Some(b)) => a.as_str() == b.as_str(),
-        (None, None) => true,
-        _ => false,
-    }
-}

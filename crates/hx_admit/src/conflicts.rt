@@ -16,11 +16,10 @@ ghost use Rattle.hx_model.specs.Tree.{forest_of};
 ghost use Rattle.hx_model.specs.TreeLabels.{is_open};
 ghost use Rattle.hx_admit.specs.Conflicting.{with_object, is_source_of, is_source_in, goes_as_before, goes_down, is_reached, is_taken, is_hit, hits, with_written, would_go, has_overwritten, comes_over};
 
-use crate::case::is_same_name;
 use crate::indexed_state::IndexedState;
 use crate::plan::object_in;
 use hx_forest::{Ancestors, Forest};
-use hx_model::{COPIED_KINDS, is_source, mode_in};
+use hx_model::{COPIED_KINDS, is_same_name, is_source, mode_in};
 use hx_object::well_known::{CONFIG, NONE_EXCEPTION, SELECT_EXCEPTION, TREE_SELECT_EXCEPTION};
 use hx_object::{Id, Kind, Mode, NoMemory, Object, Pairs, Shared, Text};
 use hx_rules::{exception, goes_to, prescribed_labels, stays_home};

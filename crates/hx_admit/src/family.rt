@@ -10,13 +10,13 @@ ghost use Rattle.hx_model.specs.Subnamespaces.{is_owned_by, is_anchored, has_fol
 ghost use Rattle.hx_model.specs.Tree.{forest_of};
 ghost use Rattle.hx_admit.specs.Families.{IsFamilyFor, allows_cascade_in};
 
-use crate::case::{Family, is_same_name};
+use crate::case::Family;
 use crate::indexed_state::IndexedState;
 use crate::plan::object_in;
-use crate::tree::subnamespace_parent;
 use hx_forest::Ancestors;
+use hx_model::{allows_cascade, subnamespace_parent};
 use hx_object::well_known::HIERARCHY;
-use hx_object::{Id, Kind, Object, Payload, Text};
+use hx_object::{Id, Kind, Object, Text};
 
 impl IndexedState {
     /// What a rule looks at of the namespace that has a name, where one does.
@@ -164,20 +164,4 @@ fn has_other(names: &[Text], name: &Text) -> bool
     ensures { result ≡ list_any (λ n. not (bytes_eq n name.now)) names.now }
 {
     names.iter().any(|other| other.as_str() != name.as_str())
-}
-
-/// Whether the annotation of a namespace names this one.
-pub(crate) fn is_owned_by(namespace: &Object, parent: &Text) -> bool
-    ensures { result ≡ is_owned_by parent.now namespace.now }
-{
-    is_same_name(subnamespace_parent(namespace), Some(parent))
-}
-
-fn allows_cascade(payload: &Payload) -> bool
-    ensures { result ≡ allows_cascade payload.now }
-{
-    match payload {
-        Payload::Hierarchy { cascade, .. } => *cascade,
-        _ => false,
-    }
 }

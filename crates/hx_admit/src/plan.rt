@@ -12,9 +12,8 @@ ghost use Rattle.hx_admit.specs.Planning.{IsPlan, MayMakeAll, planting, moving, 
 use crate::indexed_state::IndexedState;
 use crate::limits::LimitCounts;
 use crate::names::NameChange;
-use crate::tree::{is_terminating, parent_by, subnamespace_parent};
 use hx_forest::Change as TreeChange;
-use hx_model::Node;
+use hx_model::{Node, is_terminating, parent_by, subnamespace_parent};
 use hx_object::well_known::HIERARCHY;
 use hx_object::{Id, Kind, NoMemory, Object, Shared, Text};
 use hx_store::Change;

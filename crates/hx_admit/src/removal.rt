@@ -6,9 +6,9 @@ ghost use Rattle.hx_model.specs.State.{object_at};
 ghost use Rattle.hx_model.specs.Valid.{IsValid};
 ghost use Rattle.hx_admit.specs.Removing.{ended_at};
 
-use crate::family::{is_anchor, is_owned_by};
+use crate::family::is_anchor;
 use crate::indexed_state::IndexedState;
-use crate::tree::is_terminating;
+use hx_model::{is_owned_by, is_terminating};
 use hx_object::{Id, NoMemory, Object, Payload, Shared, Text};
 use hx_store::Change;
 

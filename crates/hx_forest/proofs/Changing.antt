@@ -9,7 +9,7 @@ use Rattle.std.specs.Str.{bytes_eq}
 use Rattle.std.proofs.lemmas.List.Kept.{IsStrictlySortedBy-filter}
 use Rattle.hx_object.specs.Texts.{bytes_cmp}
 use Rattle.hx_model.specs.declared.node.Node.{Node}
-use Rattle.hx_model.specs.Forest.{Forest, is_in, is_there, names_of, node_of, parent_of, with_parent}
+use Rattle.hx_model.specs.Forest.{Forest, is_in, is_there, names_of, node_of, parent_of, with_parent, is_child, children_of}
 use Rattle.hx_model.specs.ForestChanges.{with_node, without_node, with_terminating}
 use Rattle.hx_model.proofs.Climbing.{is_same, same_itself}
 use Rattle.hx_model.proofs.Parents.{is_in_filter, swap_same}
@@ -18,7 +18,7 @@ use Rattle.hx_model.proofs.Moving.{changed_node}
 use Rattle.hx_forest.specs.declared.change.Change.{Change}
 use Rattle.hx_forest.specs.declared.change.Change.TheVariants.{Add, SetParent, SetTerminating, Remove}
 use Rattle.hx_forest.specs.Names.{IsAscending, NamesView}
-use Rattle.hx_forest.specs.Children.{Lists, list_of, names_at, unless_empty, is_child, children_of, IsIndex, HasList}
+use Rattle.hx_forest.specs.Children.{Lists, list_of, names_at, unless_empty, IsIndex, HasList}
 use Rattle.hx_forest.specs.Kept.{changed_by, MayChange}
 use Rattle.hx_forest.specs.Staged.{left_by, joined_by, IsLeft, IsJoined}
 use Rattle.hx_forest.proofs.Nodes.{ascends, ascends-with_node, ascends-without_node, ascends-with_changed, node_of-with_node, node_of-without_node}

@@ -7,12 +7,11 @@ use Rattle.std.specs.List.{list_any}
 use Rattle.std.specs.Option.{option_map_or}
 use Rattle.std.specs.Str.{bytes_eq}
 use Rattle.std.proofs.lemmas.Bool.{and_parts, and_from, or_cases, or_left, or_right, not-true, not_from_false, ltb-true, lt-ltb, le-ltb, ltb-false}
-use Rattle.hx_model.specs.Forest.{Forest, is_in, is_there, names_of, with_parent, reaches_deeper}
+use Rattle.hx_model.specs.Forest.{Forest, is_in, is_there, names_of, with_parent, reaches_deeper, children_of}
 use Rattle.hx_model.specs.Walks.{walk_to, length_from}
 use Rattle.hx_model.proofs.Climbing.{same_itself, above_chain}
 use Rattle.hx_model.proofs.Walking.{both, passes_in, names_have, walk_to_has, walk_has_chain}
 use Rattle.hx_model.proofs.Moving.{Steps, arrived, step, walk_to_Steps, one_count, steps_above, IsApart, moved_reaches_deeper}
-use Rattle.hx_forest.specs.Children.{children_of}
 use Rattle.hx_forest.specs.Inside.{is_over, goes_deeper}
 use Rattle.hx_forest.proofs.Changing.{children_has}
 use Rattle.hx_forest.proofs.Descending.{child_parent, parent_child, parent_there}

@@ -17,12 +17,11 @@ use Rattle.std.proofs.lemmas.List.Sorted.{list_any-IsPermutation}
 use Rattle.std.proofs.lemmas.Map.Keys.{IsDistinct-push, IsDistinct-head, IsDistinct-tail, IsDistinct-IsPermutation, apart_from_distinct}
 use Rattle.std.proofs.lemmas.Option.{none-some, same_Some}
 use Rattle.hx_object.specs.Texts.{bytes_cmp}
-use Rattle.hx_model.specs.Forest.{Forest, is_in, is_there, names_of, parent_of, in_chain, subtree_of}
+use Rattle.hx_model.specs.Forest.{Forest, is_in, is_there, names_of, parent_of, in_chain, subtree_of, is_child, children_of}
 use Rattle.hx_model.proofs.Climbing.{is_same, same_itself, few, Above, itself, through, chain_above, above_chain, is_in_push}
 use Rattle.hx_model.proofs.Parents.{in_below, is_in_filter, swap_same}
 use Rattle.hx_model.proofs.Walking.{both, names_have, no_parent, IsDistinct-filter}
 use Rattle.hx_model.proofs.Moving.{Steps, arrived, step}
-use Rattle.hx_forest.specs.Children.{is_child, children_of}
 use Rattle.hx_forest.proofs.Nodes.{ascends}
 use Rattle.hx_forest.proofs.Listing.{names_sorted, same_names, ascending}
 use Rattle.hx_forest.proofs.Ascending.{distinct_names}

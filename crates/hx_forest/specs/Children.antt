@@ -1,23 +1,13 @@
 -- Children by the names of their parents.
---     is_child f p n       n names p as its parent
---     children_of f p      the namespaces that name p as their parent, in ascending order
 --     IsIndex lists f      each name has the list of its children, and none where it has no child
 --     HasList              one list has become that of the names that a test takes, and the others stay
 --     Fits k list          where there is a list, k more names fit without taking memory
-use Rattle.std.specs.Prelude.{◌≡◌, ℕ, ◌≤◌, Bool, false, List, [], ◌∷◌, filter, Option, Some, None, option_map}
+use Rattle.std.specs.Prelude.{◌≡◌, ℕ, ◌≤◌, Bool, false, List, [], ◌∷◌, Option, Some, None, option_map}
 use Rattle.std.specs.Option.{option_map_or}
 use Rattle.std.specs.Map.{lookup}
 use Rattle.std.specs.Str.{bytes_eq}
-use Rattle.hx_model.specs.Forest.{Forest, is_in, names_of, parent_of}
+use Rattle.hx_model.specs.Forest.{Forest, children_of, is_in}
 use Rattle.hx_forest.specs.Names.{IsAscending, NamesView}
-
--- n names p as its parent
-abbrev pub is_child : Forest → List ℕ → List ℕ → Bool
-is_child f p n = option_map_or (bytes_eq p) (parent_of f n) false
-
--- the namespaces that name p as their parent, in ascending order
-abbrev pub children_of : Forest → List ℕ → List (List ℕ)
-children_of f p = filter (is_child f p) (names_of f)
 
 abbrev pub Lists : Type 0
 Lists = List (List ℕ × NamesView)

@@ -11,8 +11,7 @@ use Rattle.std.specs.List.{list_any}
 use Rattle.std.specs.Option.{option_map_or}
 use Rattle.std.specs.Str.{bytes_eq}
 use Rattle.hx_model.specs.First.{so, first}
-use Rattle.hx_model.specs.Forest.{Forest, node_of, is_there, parent_of}
-use Rattle.hx_forest.specs.Children.{children_of}
+use Rattle.hx_model.specs.Forest.{Forest, node_of, is_there, parent_of, children_of}
 use Rattle.hx_model.specs.Walks.{walk_to}
 use Rattle.hx_model.specs.declared.node.Node.{Node}
 use Rattle.hx_model.specs.declared.node.Halt.{Halt}

@@ -1,8 +1,7 @@
 // The forest.
 ghost use Rattle.std.specs.Prelude.{◌≡◌, ◌==◌, ◌<◌, ◌^◌, [], is_ok, if◌then◌else◌, length, option_copied};
-ghost use Rattle.hx_model.specs.Forest.{node_of, parent_of};
+ghost use Rattle.hx_model.specs.Forest.{node_of, parent_of, children_of};
 ghost use Rattle.hx_forest.specs.Names.{IsAscending};
-ghost use Rattle.hx_forest.specs.Children.{children_of};
 ghost use Rattle.hx_forest.specs.Kept.{changed_by_all, MayChangeAll};
 
 use crate::change::Change;

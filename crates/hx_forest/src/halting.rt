@@ -1,7 +1,8 @@
 // Why namespaces are halted.
 ghost use Rattle.std.specs.Prelude.{◌≡◌, ◌+◌, false, Some, [], ◌∷◌, is_some, length, option_copied, IfSome};
+ghost use Rattle.hx_model.specs.Cases.{is_leaving};
 ghost use Rattle.hx_model.specs.First.{so, first};
-ghost use Rattle.hx_model.specs.Forest.{own_halt_of, halt_of};
+ghost use Rattle.hx_model.specs.Forest.{own_halt_of, halt_of, is_live};
 ghost use Rattle.hx_model.specs.Moves.{is_calm};
 ghost use Rattle.hx_model.specs.TreeLabels.{is_open};
 ghost use Rattle.hx_model.specs.Walks.{walk_ends};
@@ -20,6 +21,26 @@ impl Forest {
         ensures { result ≡ halt_of self.now.nodes name.now }
     {
         self.nodes.halt(name)
+    }
+
+    /// Whether a namespace is there and not on its way out.
+    pub fn is_live(&self, name: &Text) -> bool
+        ensures { result ≡ is_live self.now.nodes name.now }
+    {
+        match self.node(name) {
+            Some(node) => !node.terminating,
+            None => false,
+        }
+    }
+
+    /// Whether a namespace is there and on its way out.
+    pub fn is_leaving(&self, name: &Text) -> bool
+        ensures { result ≡ is_leaving self.now.nodes name.now }
+    {
+        match self.node(name) {
+            Some(node) => node.terminating,
+            None => false,
+        }
     }
 
     /// Whether a namespace is there and not on its way out, and isn't excluded.

@@ -31,10 +31,10 @@ use Rattle.hx_model.specs.declared.refusal.Refusal.TheVariants.{Broken}
 use Rattle.hx_model.specs.declared.rule.Rule.TheVariants.{N1, N2, N4, A1, A2, A3, A4}
 use Rattle.hx_model.specs.Answers.{same_object, answer_to, refusal_of, writes_of}
 use Rattle.hx_model.specs.Keys.{same_key}
-use Rattle.hx_model.specs.Limits.{is_copy, is_anchor, counts}
+use Rattle.hx_model.specs.Limits.{is_copy, is_anchor, is_namespace, counts}
 use Rattle.hx_model.specs.Machine.{History, Request, Took, Finished, opening_world, IsHistory, replay}
 use Rattle.hx_model.specs.Propagation.{id_in}
-use Rattle.hx_model.specs.Settled.{IsSettled, IsSettledIn, HasCopies, HasChild, HasStatus}
+use Rattle.hx_model.specs.Settled.{IsSettled, IsSettledIn, HasCopies, HasChild, HasReport, HasStatus}
 use Rattle.hx_model.specs.State.{State, Objects, ascends, least_in, namespace_id, opening_state, with_version}
 use Rattle.hx_model.specs.Subnamespaces.{anchor_id, is_reached}
 use Rattle.hx_model.specs.Texts.{new_namespace, two_digits}
@@ -482,16 +482,27 @@ team_row = record (owned team acme 6) { labels = far acme (codes "1") ∷ includ
 abbrev anchor_row : Object
 anchor_row = anchor acme team (Some Ok) 4
 
-abbrev done : State
-done = state (acme_row ∷ team_row ∷ anchor_row ∷ []) 6
+-- what is told of acme: its child
+abbrev report_row : Object
+report_row = record (hierarchy acme None false 7) { payload = Hierarchy None false (team ∷ []) [] }
 
--- two more turns after the anchor's leave that state
+abbrev done : State
+done = state (acme_row ∷ team_row ∷ report_row ∷ anchor_row ∷ []) 7
+
+-- three more turns after the anchor's leave that state
 abbrev labelling : History
-labelling = Took 1 (key.Tree acme) false ∷ Finished 1 (Written 5) ∷ Took 2 (key.Tree team) false ∷ Finished 2 (Written 6) ∷ []
+labelling =
+    Took 1 (key.Tree acme) false
+    ∷ Finished 1 (Written 5)
+    ∷ Took 2 (key.Tree team) false
+    ∷ Finished 2 (Written 6)
+    ∷ Took 1 (key.Report acme) false
+    ∷ Finished 1 (Written 7)
+    ∷ []
 
 pub labelling_legal : IsHistory (replay (opening_world false (opening_state no_config 0)) asked) labelling
 unfolding is_copy is_tree_key is_reconciled_key is_counted counts size_of digits same_object same_key
-labelling_legal = ((refl, refl, λ _. refl), ((refl, refl, refl, omega arith), ((refl, refl, λ _. refl), ((refl, refl, refl, omega arith), tt))))
+labelling_legal = ((refl, refl, λ _. refl), ((refl, refl, refl, omega arith), ((refl, refl, λ _. refl), ((refl, refl, refl, omega arith), ((refl, refl, λ _. refl), ((refl, refl, refl, omega arith), tt))))))
 
 pub labelling_leaves : (replay (opening_world false (opening_state no_config 0)) (asked ++ labelling)).state ≡ done
 unfolding is_copy is_tree_key is_reconciled_key is_counted counts size_of digits same_object same_key
@@ -544,8 +555,11 @@ place_of_team n same = subst (λ (id : Id). IsSettledIn done id.name team_row) s
 no_place : SaysPlace anchor_row
 no_place n same = other_kinds anchor_row.id (namespace_id n) refl refl same
 
+report_no_place : SaysPlace report_row
+report_no_place n same = absurd (true≢false (sym (ap (λ (id : Id). is_namespace id.kind) same)))
+
 places_of_done : AllByRecursion SaysPlace done.objects
-places_of_done = (place_of_acme, (place_of_team, (no_place, tt)))
+places_of_done = (place_of_acme, (place_of_team, (report_no_place, (no_place, tt))))
 
 -- the anchor has its subnamespace, and its status
 child_of_anchor : HasChild done acme team
@@ -555,13 +569,35 @@ anchor_of_row : SaysAnchor anchor_row
 anchor_of_row n m same = subst (λ (id : Id). HasChild done id.ns id.name × HasStatus done id.ns id.name anchor_row) same (child_of_anchor, refl)
 
 anchors_of_done : AllByRecursion SaysAnchor done.objects
-anchors_of_done =
-    ((λ n m same. other_kinds (anchor_id n m) acme_row.id refl refl (sym same)), ((λ n m same. other_kinds (anchor_id n m) team_row.id refl refl (sym same)), (anchor_of_row, tt)))
+anchors_of_done = (
+  (λ n m same. other_kinds (anchor_id n m) acme_row.id refl refl (sym same)),
+  ((λ n m same. other_kinds (anchor_id n m) team_row.id refl refl (sym same)), ((λ n m same. other_kinds (anchor_id n m) report_row.id refl refl (sym same)), (anchor_of_row, tt))),
+)
+
+-- of acme its child is told, and of team there is nothing to tell
+abbrev SaysReport : Object → Type 0
+SaysReport x = (n : List ℕ) → x.id ≡ namespace_id n → HasReport done n
+
+report_of_acme : SaysReport acme_row
+report_of_acme n same = subst (λ (id : Id). HasReport done id.name) same (λ _. (None, false, refl))
+
+report_of_team : SaysReport team_row
+report_of_team n same = subst (λ (id : Id). HasReport done id.name) same (λ _. (refl, refl))
+
+reports_of_done : AllByRecursion SaysReport done.objects
+reports_of_done = (
+  report_of_acme,
+  (
+    report_of_team,
+    ((λ n same. absurd (true≢false (sym (ap (λ (id : Id). is_namespace id.kind) same)))), ((λ n same. other_kinds anchor_row.id (namespace_id n) refl refl same), tt)),
+  ),
+)
 
 pub done_is_settled : IsSettled done
 done_is_settled = record {
-  none_leaving = λ n x at. All-found (λ (y : Object). is_terminating y.payload ≡ false) (namespace_id n) x done.objects (refl, (refl, (refl, tt))) at;
+  none_leaving = λ n x at. All-found (λ (y : Object). is_terminating y.payload ≡ false) (namespace_id n) x done.objects (refl, (refl, (refl, (refl, tt)))) at;
   places = λ n x at acts. All-found SaysPlace (namespace_id n) x done.objects places_of_done at n (sym (found_id done.objects (namespace_id n) x at));
   children = λ n m x at. (All-found SaysAnchor (anchor_id n m) x done.objects anchors_of_done at n m (sym (found_id done.objects (anchor_id n m) x at))).0;
   statuses = λ n m x at. (All-found SaysAnchor (anchor_id n m) x done.objects anchors_of_done at n m (sym (found_id done.objects (anchor_id n m) x at))).1;
+  reports = λ n x at. All-found SaysReport (namespace_id n) x done.objects reports_of_done at n (sym (found_id done.objects (namespace_id n) x at));
 }

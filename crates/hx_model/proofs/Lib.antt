@@ -27,3 +27,4 @@ pub mod NextParents
 pub mod Displacing
 pub mod TurnExamples
 pub mod DeletionExamples
+pub mod ChargeExamples

@@ -6,6 +6,7 @@
 --     in_chain f n a    whether a is in the chain of n
 --     depth_of f n      how far n is from the end of its chain
 --     subtree_of f a    the namespaces whose chain has a
+--     children_of f a   the namespaces that name a as their parent
 --     reaches_deeper    a namespace of a subtree is at a depth over a bound
 --     halt_of f n       why n is halted: the first reason that holds
 --     with_parent f n       the forest where n has another parent
@@ -46,6 +47,14 @@ is_excluded f n = option_map_or (λ node. node.excluded) (node_of f n) false
 -- what a namespace names as its parent
 abbrev pub parent_of : Forest → List ℕ → Option (List ℕ)
 parent_of f n = option_and_then (λ node. node.parent) (node_of f n)
+
+-- m names n as its parent
+abbrev pub is_child : Forest → List ℕ → List ℕ → Bool
+is_child f n m = option_map_or (bytes_eq n) (parent_of f m) false
+
+-- the namespaces that name n as their parent, whether it is there or not
+abbrev pub children_of : Forest → List ℕ → List (List ℕ)
+children_of f n = filter (is_child f n) (names_of f)
 
 -- ---- chains
 

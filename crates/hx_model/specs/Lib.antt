@@ -10,6 +10,7 @@ pub mod Replies
 pub mod Messages
 pub mod Bodies
 pub mod Limits
+pub mod Charges
 pub mod Modes
 pub mod Exceptions
 pub mod TreeLabels
@@ -26,6 +27,7 @@ pub mod RulesConfig
 pub mod RulesCopies
 pub mod Rules
 pub mod Answers
+pub mod Reports
 pub mod Wanted
 pub mod Serving
 pub mod Valid

@@ -1,7 +1,7 @@
 -- What is served so far.
 --     is_written       the kinds whose objects may be stored: quotas, Pods and claims aren't yet
 --     is_given         a payload that requests give: no namespace that is on its way out, and nothing that reconcilers report
---     is_kept          a payload that may be stored: what is reported of hierarchies and quotas isn't yet
+--     is_kept          a payload that may be stored: what is reported of quotas isn't yet
 --     is_text_or_none  a text, or none
 --     has_type         the type of a Secret is a text, where it has one
 --     is_typed         the same of what is kept of it
@@ -54,12 +54,11 @@ is_given (Quota hard []) = true
 is_given (Quota hard status) = false
 is_given (Plain members need) = true
 
--- A payload that may be stored: modes that bodies may name. What reconcilers report of hierarchies and quotas comes with them
+-- A payload that may be stored: modes that bodies may name. What reconcilers report of quotas comes with them
 abbrev pub is_kept : Payload → Bool
 is_kept (NamespaceOf terminating) = true
 is_kept (Config entries) = list_all (λ (e : ModeEntry). is_given_mode e.mode) entries
-is_kept (Hierarchy parent cascade [] []) = true
-is_kept (Hierarchy parent cascade children conditions) = false
+is_kept (Hierarchy parent cascade children conditions) = true
 is_kept (Anchor status) = true
 is_kept (Quota hard []) = true
 is_kept (Quota hard status) = false

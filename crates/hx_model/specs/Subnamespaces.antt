@@ -17,7 +17,7 @@ use Rattle.hx_object.specs.declared.object.Object.{Object}
 use Rattle.hx_object.specs.declared.object.Payload.{Payload}
 use Rattle.hx_object.specs.declared.object.Payload.TheVariants.{Hierarchy}
 use Rattle.hx_model.specs.Cases.{same_name}
-use Rattle.hx_model.specs.Forest.{Forest, chain_of, in_chain, names_of, parent_of}
+use Rattle.hx_model.specs.Forest.{Forest, chain_of, in_chain, is_child, names_of}
 use Rattle.hx_model.specs.Propagation.{id_in}
 use Rattle.hx_model.specs.State.{State, Objects, object_at}
 use Rattle.hx_model.specs.Tree.{forest_of, hierarchy_id, namespaces_in, subnamespace_parent}
@@ -69,4 +69,4 @@ cascades s n = list_any (λ a. option_map_or (λ (x : Object). allows_cascade x.
 
 -- some namespace names it as its parent
 abbrev pub has_children : Forest → List ℕ → Bool
-has_children f n = list_any (λ m. option_map_or (bytes_eq n) (parent_of f m) false) (names_of f)
+has_children f n = list_any (is_child f n) (names_of f)

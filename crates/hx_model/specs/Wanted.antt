@@ -1,8 +1,9 @@
 -- What the keys of reconcilers prescribe: for each at most one write, by the state as it is.
 --     wanted_copy, wanted_tree     the write of a place of copies;  of a namespace's tree labels
 --     wanted_child, wanted_anchor  of the subnamespace that an anchor asks for;  of an anchor's status
+--     wanted_report                of the HierarchyConfiguration that tells of a namespace
 --     wanted_purge                 of a namespace that is on its way out: its objects go one by one, and then the namespace
---     wanted_write s key           the write of a key. The keys of reports and of quotas want nothing yet
+--     wanted_write s key           the write of a key. The keys of quotas want nothing yet
 --     guards_of s key              the identities that the write rests on, each with its version or absent
 -- Objects are compared without their versions, and a write that would change nothing is none. What is put has no version yet.
 use Rattle.std.specs.Prelude.{ℕ, Bool, false, not, ◌&&◌, ◌||◌, is_some, List, [], ◌∷◌, Option, Some, None, option_map, if◌then◌else◌}
@@ -17,14 +18,16 @@ use Rattle.hx_object.specs.declared.object.Object.{Object}
 use Rattle.hx_object.specs.declared.object.Payload.TheVariants.{Namespace as NamespaceOf, Anchor}
 use Rattle.hx_model.specs.Answers.{same_object}
 use Rattle.hx_model.specs.First.{so}
-use Rattle.hx_model.specs.Forest.{chain_of, is_in, is_live}
+use Rattle.hx_model.specs.Forest.{chain_of, children_of, is_in, is_live}
 use Rattle.hx_model.specs.Limits.{is_copy}
 use Rattle.hx_model.specs.Modes.{mode_of}
+use Rattle.hx_model.specs.Moves.{is_calm}
 use Rattle.hx_model.specs.Propagation.{copy_of, id_in, sources_above, top_of}
+use Rattle.hx_model.specs.Reports.{conditions_of, report_write}
 use Rattle.hx_model.specs.State.{State, object_at, namespace_id, with_version, least_in}
 use Rattle.hx_model.specs.Subnamespaces.{anchor_id, is_owned_by}
 use Rattle.hx_model.specs.Cases.{is_leaving}
-use Rattle.hx_model.specs.Tree.{forest_of}
+use Rattle.hx_model.specs.Tree.{forest_of, hierarchy_id}
 use Rattle.hx_model.specs.TreeLabels.{is_open, prescribed_labels}
 use Rattle.hx_model.specs.declared.key.Guard.{Guard}
 use Rattle.hx_model.specs.declared.key.Key.{Key}
@@ -117,6 +120,12 @@ anchor_write live status (Some x) = if live then placed (with_status_of status x
 abbrev pub wanted_anchor : State → List ℕ → List ℕ → Option Write
 wanted_anchor s n m = anchor_write (is_live (forest_of s) n) (anchor_status s n m) (object_at s.objects (anchor_id n m))
 
+-- ---- reports
+
+-- where the namespace is there, included and not on its way out
+abbrev pub wanted_report : State → List ℕ → Option Write
+wanted_report s n = report_write (is_calm (forest_of s) n) (object_at s.objects (hierarchy_id n)) (children_of (forest_of s) n) (conditions_of s n) n
+
 -- ---- removals
 
 -- the first object that lies in the namespace or, where none does, the namespace itself
@@ -139,6 +148,7 @@ wanted_purge s n = purge_write (is_leaving (forest_of s) n) (least_id s n) n
 abbrev pub wanted_write : State → Key → Option Write
 wanted_write s (key.Copy n kind name) = wanted_copy s n kind name
 wanted_write s (key.Tree n) = wanted_tree s n
+wanted_write s (key.Report n) = wanted_report s n
 wanted_write s (key.Child n name) = wanted_child s n name
 wanted_write s (key.Anchor n name) = wanted_anchor s n name
 wanted_write s (key.Purge n) = wanted_purge s n
@@ -156,6 +166,7 @@ purge_guards s (Some id) n = guard_at s id ∷ guard_at s (namespace_id n) ∷ [
 abbrev pub guards_of : State → Key → List Guard
 guards_of s (key.Copy n kind name) = guard_at s (id_in kind name n) ∷ guard_at s (namespace_id n) ∷ []
 guards_of s (key.Tree n) = guard_at s (namespace_id n) ∷ []
+guards_of s (key.Report n) = guard_at s (hierarchy_id n) ∷ guard_at s (namespace_id n) ∷ []
 guards_of s (key.Child n name) = guard_at s (anchor_id n name) ∷ guard_at s (namespace_id n) ∷ guard_at s (namespace_id name) ∷ []
 guards_of s (key.Anchor n name) = guard_at s (anchor_id n name) ∷ guard_at s (namespace_id n) ∷ []
 guards_of s (key.Purge n) = purge_guards s (least_id s n) n

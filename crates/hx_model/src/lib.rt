@@ -13,9 +13,11 @@ mod node;
 pub mod plain;
 mod reason;
 mod refusal;
+mod resource;
 mod rule;
 mod source;
 mod status;
+mod tree;
 
 pub use ask::{Answer, Ask};
 pub use config::RunConfig;
@@ -26,6 +28,11 @@ pub use mode::{entries_of, mode_in, names_kind};
 pub use node::{Halt, Node};
 pub use reason::Reason;
 pub use refusal::Refusal;
+pub use resource::{RESOURCES, Resource};
 pub use rule::Rule;
 pub use source::{COPIED_KINDS, is_copy, is_source};
 pub use status::{Message, RefusalStatus};
+pub use tree::{
+    allows_cascade, is_owned_by, is_same_name, is_terminating, named_parent, parent_by,
+    subnamespace_parent,
+};

@@ -10,8 +10,7 @@ ghost use Rattle.hx_admit.specs.Ruling.{case_of};
 use super::check_rule;
 use super::hierarchy::GREATEST_DEPTH;
 use crate::case::Case;
-use crate::family::is_owned_by;
-use hx_model::{Denial, Rule};
+use hx_model::{Denial, Rule, is_owned_by};
 use hx_object::{Object, Text};
 
 pub fn check_rules(case: &Case) -> Result<(), Denial>

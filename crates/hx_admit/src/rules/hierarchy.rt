@@ -1,17 +1,17 @@
 // The rules on HierarchyConfigurations.
 ghost use Rattle.std.specs.Prelude.{◌≡◌, false, is_some, option_copied};
 ghost use Rattle.hx_model.specs.First.{first};
-ghost use Rattle.hx_model.specs.Forest.{is_live, halt_of};
+ghost use Rattle.hx_model.specs.Forest.{halt_of};
 ghost use Rattle.hx_model.specs.Cases.{any_of, is_kept_out};
 ghost use Rattle.hx_model.specs.RulesHierarchy.{misses_hierarchy, hierarchy_rules, tree_rules, new_parent, parent_after, changes_parent, lacks_parent, closes_cycle, contradicts, moves_halted, meets_excluded, grows_too_deep, is_ancestor};
 ghost use Rattle.hx_admit.specs.Refusing.{fault_in};
 ghost use Rattle.hx_admit.specs.Ruling.{case_of, IsAtHome};
 
 use super::check_rule;
-use crate::case::{Case, is_same_name};
-use crate::tree::{annotated_parent, given_parent, parent_by};
+use crate::case::Case;
+use crate::tree::{annotated_parent, given_parent};
 use hx_forest::{Forest, Halt};
-use hx_model::{Denial, Rule};
+use hx_model::{Denial, Rule, is_same_name, parent_by};
 use hx_object::Text;
 use hx_object::well_known::HIERARCHY;
 
@@ -82,17 +82,7 @@ fn lacks_parent(case: &Case) -> bool
     ensures { result ≡ lacks_parent (case_of case.now) }
 {
     match new_parent(case) {
-        Some(parent) => !is_live(case.forest, parent),
-        None => false,
-    }
-}
-
-/// Whether a namespace is there, and isn't on its way out.
-fn is_live(forest: &Forest, name: &Text) -> bool
-    ensures { result ≡ is_live forest.now.nodes name.now }
-{
-    match forest.node(name) {
-        Some(node) => !node.terminating,
+        Some(parent) => !case.forest.is_live(parent),
         None => false,
     }
 }

@@ -1,6 +1,6 @@
 // The rules on namespaces, and on what lies in them.
 ghost use Rattle.std.specs.Prelude.{◌≡◌, ◌&&◌, not, option_copied};
-ghost use Rattle.hx_model.specs.Cases.{any_of, is_leaving};
+ghost use Rattle.hx_model.specs.Cases.{any_of};
 ghost use Rattle.hx_model.specs.First.{first};
 ghost use Rattle.hx_model.specs.RulesNamespace.{enters_leaving, changes_annotation, begins_removal, namespace_rules};
 ghost use Rattle.hx_model.specs.Tree.{is_terminating};
@@ -8,10 +8,10 @@ ghost use Rattle.hx_admit.specs.Refusing.{fault_in};
 ghost use Rattle.hx_admit.specs.Ruling.{case_of};
 
 use super::check_rule;
-use crate::case::{Case, is_same_name};
-use crate::tree::{annotated_parent, is_terminating};
+use crate::case::Case;
+use crate::tree::annotated_parent;
 use hx_forest::Forest;
-use hx_model::{Denial, Rule};
+use hx_model::{Denial, Rule, is_same_name, is_terminating};
 use hx_object::{Object, Text};
 
 pub fn check_rules(case: &Case) -> Result<(), Denial>
@@ -26,17 +26,7 @@ pub fn check_rules(case: &Case) -> Result<(), Denial>
 pub fn enters_leaving(case: &Case) -> bool
     ensures { result ≡ enters_leaving (case_of case.now) }
 {
-    case.is_write() && is_leaving(case.forest, case.subject())
-}
-
-/// Whether a namespace is there, and on its way out.
-fn is_leaving(forest: &Forest, name: &Text) -> bool
-    ensures { result ≡ is_leaving forest.now.nodes name.now }
-{
-    match forest.node(name) {
-        Some(node) => node.terminating,
-        None => false,
-    }
+    case.is_write() && case.forest.is_leaving(case.subject())
 }
 
 /// Whether the given namespace has another annotation of a subnamespace than the one that is there. Only reconcilers set it.

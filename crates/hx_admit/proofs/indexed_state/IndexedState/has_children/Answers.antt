@@ -1,6 +1,5 @@
 use Rattle.std.proofs.Common.{◌==◌, not, length, ap, ◌∙◌}
-use Rattle.hx_forest.specs.Children.{children_of}
-use Rattle.hx_model.specs.Forest.{Forest}
+use Rattle.hx_model.specs.Forest.{Forest, children_of}
 use Rattle.hx_model.specs.Tree.{forest_of}
 use Rattle.hx_admit.proofs.Families.{any_child}
 use Rattle.hx_admit.proofs.Seen.{planted_seen}

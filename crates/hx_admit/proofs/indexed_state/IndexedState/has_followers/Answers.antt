@@ -1,8 +1,7 @@
 use Rattle.std.proofs.Common.{◌≡◌, true, false, not, ap, sym, ◌∙◌, rules}
 use Rattle.std.specs.List.{list_any}
 use Rattle.std.specs.Str.{bytes_eq}
-use Rattle.hx_forest.specs.Children.{children_of}
-use Rattle.hx_model.specs.Forest.{Forest, is_there}
+use Rattle.hx_model.specs.Forest.{Forest, is_there, children_of}
 use Rattle.hx_model.specs.Subnamespaces.{owners_of}
 use Rattle.hx_admit.proofs.Families.{any_follower, no_follower}
 use Rattle.hx_admit.proofs.indexed_state.IndexedState.has_followers.Goals as goal

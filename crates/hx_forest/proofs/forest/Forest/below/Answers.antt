@@ -1,8 +1,7 @@
 use Rattle.std.proofs.Common.{rules, ◌≡◌, ◌+◌, ◌≤◌, ◌<◌, ◌∙◌, ◌++◌, true, false, not, List, [], ◌∷◌, ℕ, length, filter, is_some, option_copied, sym, ap, subst, arith, length-append}
 use Rattle.std.proofs.lemmas.List.{take_all}
 use Rattle.std.specs.Str.{bytes_eq}
-use Rattle.hx_model.specs.Forest.{Forest, is_there}
-use Rattle.hx_forest.specs.Children.{children_of}
+use Rattle.hx_model.specs.Forest.{Forest, is_there, children_of}
 use Rattle.hx_forest.specs.Ways.{nodes_of}
 use Rattle.hx_forest.proofs.Nodes.{ascends, ascends-forest}
 use Rattle.hx_forest.proofs.Descending.{IsDescent, descent_start, descent_on, descent_end, few_found, nothing_below}
