@@ -67,9 +67,7 @@ refused kind ask p body fault r gives is h = by (faults p body fault h)
 given_kept : (payload : Payload) → is_given payload ≡ true → is_kept payload ≡ true
 given_kept (Namespace terminating) h = refl
 given_kept (Config entries) h = h
-given_kept (Hierarchy parent cascade [] []) h = h
-given_kept (Hierarchy parent cascade [] (c ∷ cs)) h = h
-given_kept (Hierarchy parent cascade (c ∷ cs) conditions) h = h
+given_kept (Hierarchy parent cascade children conditions) h = refl
 given_kept (Anchor status) h = refl
 given_kept (Quota hard []) h = h
 given_kept (Quota hard (u ∷ us)) h = h

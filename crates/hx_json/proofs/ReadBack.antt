@@ -12,12 +12,14 @@ use Rattle.serde_json.proofs.Views.{get_member-put_other}
 use Rattle.json.specs.Json.{Json}
 use Rattle.hx_object.specs.Canonical.{IsCanonical}
 use Rattle.hx_object.specs.Faults.{IsPayloadOf, object_fault}
-use Rattle.hx_object.specs.Json.{pairs_members, metadata_of, phase_of, mode_text, entry_data, entries_items, anchor_text, hierarchy_spec, own_members, object_data, object_text}
+use Rattle.hx_object.specs.Json.{pairs_members, unless_empty, texts_items, metadata_of, phase_of, mode_text, entry_data, entries_items, condition_data, conditions_items, anchor_text, hierarchy_spec, hierarchy_status, own_members, object_data, object_text}
 use Rattle.hx_object.specs.Kinds.{is_plain}
 use Rattle.hx_object.specs.declared.kind.Kind.{Kind}
 use Rattle.hx_object.specs.declared.kind.Kind.TheVariants as of
 use Rattle.hx_object.specs.declared.object.AnchorStatus.{AnchorStatus}
 use Rattle.hx_object.specs.declared.object.AnchorStatus.TheVariants.{Missing, Ok, Conflict, Forbidden}
+use Rattle.hx_object.specs.declared.object.Condition.{Condition}
+use Rattle.hx_object.specs.declared.object.Condition.TheVariants.{InCycle, ParentMissing, IllegalParent, Ancestor, AnchorMissing}
 use Rattle.hx_object.specs.declared.object.Id.{Id}
 use Rattle.hx_object.specs.declared.object.Mode.{Mode}
 use Rattle.hx_object.specs.declared.object.Mode.TheVariants.{Propagate, AllowPropagate, Remove, Ignore}
@@ -28,7 +30,7 @@ use Rattle.hx_object.specs.declared.object.Payload.TheVariants.{Namespace, Confi
 use Rattle.hx_model.specs.Serving.{IsServed, has_type, is_given_mode, is_kept, is_typed, is_written}
 use Rattle.hx_json.specs.Reading.{counted_member, entry_of, entries_of, in_spec, is_this, items_in, kept_members, metadata_in, mode_of_text, pairs_in, pairs_of, payload_of, plain_of, text_in, truth_in, unless_empty_text, unless_null}
 use Rattle.hx_json.specs.ReadObject.{is_read}
-use Rattle.hx_json.specs.Rows.{Gives, IsTextOf, IsUnsound, in_status, reported, row_fault, said_object, status_named, with_status}
+use Rattle.hx_json.specs.Rows.{Gives, IsTextOf, IsUnsound, condition_in, conditions_of, in_front, in_status, reported, row_fault, said_object, status_named, texts_of, with_status}
 use Rattle.hx_json.specs.Trees.{data_of, is_ordered, tree_of, IsNoTree, IsOrdered}
 use Rattle.hx_json.specs.declared.fault.JsonFault.{JsonFault}
 use Rattle.hx_json.specs.declared.fault.JsonFault.TheVariants as faults
@@ -81,6 +83,40 @@ status_back Ok = refl
 status_back Conflict = refl
 status_back Forbidden = refl
 
+texts_back : (texts : List (List ℕ)) → texts_of (texts_items texts) ≡ texts
+texts_back [] = refl
+texts_back (text ∷ texts) = ap (λ ts. text ∷ ts) (texts_back texts)
+
+condition_back : (c : Condition) → condition_in (condition_data c) ≡ Some c
+condition_back InCycle = refl
+condition_back ParentMissing = refl
+condition_back IllegalParent = refl
+condition_back Ancestor = refl
+condition_back AnchorMissing = refl
+
+conditions_back : (cs : List Condition) → conditions_of (conditions_items cs) ≡ cs
+conditions_back [] = refl
+conditions_back (c ∷ cs) = λ i. in_front (condition_back c i) (conditions_back cs i)
+
+-- a member of what is reported of a hierarchy
+reported_member : List ℕ → List (List ℕ) → List Condition → Option Data
+reported_member name children conditions =
+    let own = unless_empty (codes "status") (hierarchy_status children conditions) no_members in
+    option_and_then (counted_member name) (unless_null (get_member (codes "status") own))
+
+children_back : (children : List (List ℕ)) (conditions : List Condition) → texts_of (items_in (reported_member (codes "children") children conditions)) ≡ children
+unfolding reported_member
+children_back [] [] = refl
+children_back [] (c ∷ cs) = refl
+children_back (text ∷ texts) conditions = texts_back (text ∷ texts)
+
+halts_back : (children : List (List ℕ)) (conditions : List Condition) → conditions_of (items_in (reported_member (codes "conditions") children conditions)) ≡ conditions
+unfolding reported_member
+halts_back [] [] = refl
+halts_back [] (c ∷ cs) = conditions_back (c ∷ cs)
+halts_back (text ∷ texts) [] = refl
+halts_back (text ∷ texts) (c ∷ cs) = conditions_back (c ∷ cs)
+
 plain_kind : (kind : Kind) (d : Data) → is_plain kind ≡ true → payload_of kind d ≡ plain_of kind (kept_members d)
 plain_kind of.Namespace d h = absurd (true≢false (sym h))
 plain_kind of.HncConfiguration d h = absurd (true≢false (sym h))
@@ -111,7 +147,7 @@ module _ (version kind metadata : Data) where
   row_payload k own = reported (whole own) (payload_of k (whole own))
 
   payload_back : (k : Kind) (payload : Payload) → IsPayloadOf k payload → is_kept payload ≡ true → is_written k ≡ true → row_payload k (own_members payload) ≡ payload
-  unfolding row_payload
+  unfolding row_payload reported_member
   payload_back k (Namespace terminating) h kept written =
       let own = own_members (Namespace terminating) in
       ap (λ k. row_payload k own) h
@@ -121,13 +157,13 @@ module _ (version kind metadata : Data) where
       ap (λ k. row_payload k (own_members (Config entries))) h
       ∙ ap (λ o. Config (entries_of (items_in o))) (spec_there (codes "resources") (own_members (Config entries)))
       ∙ ap Config (entries_back entries kept)
-  payload_back k (Hierarchy parent cascade [] []) h kept written =
-      let own = own_members (Hierarchy parent cascade [] []) in
+  payload_back k (Hierarchy parent cascade children conditions) h kept written =
+      let own = own_members (Hierarchy parent cascade children conditions) in
       let parents : _ ≡ parent = ap (λ o. unless_empty_text (text_in o)) (spec_there (codes "parent") own) ∙ parent_back parent cascade h.1 in
       let cascades : _ ≡ cascade = ap truth_in (spec_there (codes "allowCascadingDeletion") own) ∙ cascade_back parent cascade in
-      ap (λ k. row_payload k own) h.0 ∙ (λ i. Hierarchy (parents i) (cascades i) [] [])
-  payload_back k (Hierarchy parent cascade [] (c ∷ cs)) h kept written = absurd (true≢false (sym kept))
-  payload_back k (Hierarchy parent cascade (c ∷ cs) conditions) h kept written = absurd (true≢false (sym kept))
+      let child : _ ≡ children = ap (λ o. texts_of (items_in o)) (status_there (codes "children") own) ∙ children_back children conditions in
+      let condition : _ ≡ conditions = ap (λ o. conditions_of (items_in o)) (status_there (codes "conditions") own) ∙ halts_back children conditions in
+      ap (λ k. row_payload k own) h.0 ∙ (λ i. Hierarchy (parents i) (cascades i) (child i) (condition i))
   payload_back k (Anchor None) h kept written =
       ap (λ k. row_payload k no_members) h
       ∙ ap (λ o. Anchor (option_and_then status_named (text_in o))) (status_there (codes "status") no_members)

@@ -5,6 +5,7 @@ use Rattle.hx_object.specs.Faults.{object_fault, has_legal_names}
 use Rattle.hx_object.specs.Names.{is_dns_label}
 use Rattle.hx_object.specs.declared.kind.Kind.TheVariants.{Namespace, HncConfiguration, HierarchyConfiguration, Secret, ConfigMap}
 use Rattle.hx_object.specs.declared.object.AnchorStatus.TheVariants.{Conflict}
+use Rattle.hx_object.specs.declared.object.Condition.TheVariants.{InCycle, Ancestor}
 use Rattle.hx_object.specs.declared.object.Mode.TheVariants.{Propagate}
 use Rattle.hx_object.specs.declared.object.Payload.TheVariants.{Namespace as NamespaceOf, Config, Hierarchy, Anchor}
 use Rattle.hx_object.specs.declared.object.ObjectFault.TheVariants.{BadName}
@@ -196,3 +197,16 @@ status_said = refl
 
 no_status_said : reported (one (codes "status") null) (Anchor None) ≡ Anchor None
 no_status_said = refl
+
+-- an item that is no text counts as an empty one, and a condition is known by its reason alone
+abbrev condition : Data → Data
+condition reason = one (codes "reason") reason
+
+hierarchy_said : reported (one (codes "status") (object
+    (member (codes "children") (array (item (text (codes "a")) (item seven no_items)))
+    (member (codes "conditions") (array (item (condition (text (codes "AncestorHaltActivities"))) (item (condition (text (codes "Halted"))) (item seven (item (condition (text (codes "InCycle"))) no_items))))) no_members))))
+    (Hierarchy (Some (codes "p")) true [] []) ≡ Hierarchy (Some (codes "p")) true (codes "a" ∷ [] ∷ []) (Ancestor ∷ InCycle ∷ [])
+hierarchy_said = refl
+
+no_list_said : reported (one (codes "status") (object (member (codes "children") seven (member (codes "conditions") null no_members)))) (Hierarchy None false [] []) ≡ Hierarchy None false [] []
+no_list_said = refl

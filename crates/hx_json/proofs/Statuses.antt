@@ -2,13 +2,14 @@
 --     with_legal, with_kept    it is legal, and may be stored
 --     reported_typed           its type is the same
 --     still_sound              it has no fault that it hasn't without it
-use Rattle.std.proofs.Common.{◌≡◌, [], ◌∷◌, Bool, true, Option, sym, refl, ◌∙◌}
+use Rattle.std.proofs.Common.{◌≡◌, ℕ, List, [], ◌∷◌, Bool, true, Option, sym, refl, ◌∙◌}
 use Rattle.serde_json.specs.Data.{Data}
 use Rattle.hx_object.specs.Faults.{IsLegal, IsPayloadOf, has_legal_labels, object_fault}
 use Rattle.hx_object.specs.Sizes.{size_of}
 use Rattle.hx_object.specs.declared.kind.Kind.{Kind}
 use Rattle.hx_object.specs.declared.kind.Kind.TheVariants as of
 use Rattle.hx_object.specs.declared.object.AnchorStatus.{AnchorStatus}
+use Rattle.hx_object.specs.declared.object.Condition.{Condition}
 use Rattle.hx_object.specs.declared.object.Object.{Object}
 use Rattle.hx_object.specs.declared.object.Payload.{Payload}
 use Rattle.hx_object.specs.declared.object.Payload.TheVariants.{Namespace, Config, Hierarchy, Anchor, Quota, Plain}
@@ -18,9 +19,7 @@ use Rattle.hx_json.specs.Rows.{reported, with_status}
 reported_kept : (d : Data) (payload : Payload) → is_given payload ≡ true → is_kept (reported d payload) ≡ true
 reported_kept d (Namespace terminating) h = refl
 reported_kept d (Config entries) h = h
-reported_kept d (Hierarchy parent cascade [] []) h = h
-reported_kept d (Hierarchy parent cascade [] (c ∷ cs)) h = h
-reported_kept d (Hierarchy parent cascade (c ∷ cs) conditions) h = h
+reported_kept d (Hierarchy parent cascade children conditions) h = refl
 reported_kept d (Anchor status) h = refl
 reported_kept d (Quota hard []) h = h
 reported_kept d (Quota hard (u ∷ us)) h = h
@@ -42,11 +41,15 @@ no_anchor_type : (kind : Kind) (status : Option AnchorStatus) → is_typed kind 
 no_anchor_type of.Secret status = refl
 no_anchor_type kind status = refl
 
+no_hierarchy_type : (kind : Kind) (parent : Option (List ℕ)) (cascade : Bool) (children : List (List ℕ)) (conditions : List Condition) → is_typed kind (Hierarchy parent cascade children conditions) ≡ true
+no_hierarchy_type of.Secret parent cascade children conditions = refl
+no_hierarchy_type kind parent cascade children conditions = refl
+
 pub reported_typed : (d : Data) (kind : Kind) (payload : Payload) → is_typed kind (reported d payload) ≡ is_typed kind payload
 reported_typed d kind (Namespace terminating) = no_type kind _ ∙ sym (no_type kind terminating)
 reported_typed d kind (Anchor status) = no_anchor_type kind _ ∙ sym (no_anchor_type kind status)
 reported_typed d kind (Config entries) = refl
-reported_typed d kind (Hierarchy parent cascade children conditions) = refl
+reported_typed d kind (Hierarchy parent cascade children conditions) = no_hierarchy_type kind parent cascade _ _ ∙ sym (no_hierarchy_type kind parent cascade children conditions)
 reported_typed d kind (Quota hard status) = refl
 reported_typed d kind (Plain members need) = refl
 

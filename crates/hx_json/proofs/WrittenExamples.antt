@@ -1,7 +1,8 @@
 -- Texts of objects, lists and refusals, each written out by hand.
 use Rattle.std.specs.Prelude.{codes}
-use Rattle.std.proofs.Common.{◌≡◌, ℕ, true, false, List, [], ◌∷◌, Some, None, refl}
+use Rattle.std.proofs.Common.{◌≡◌, ℕ, true, false, List, [], ◌∷◌, Some, None, option_map, refl}
 use Rattle.std.specs.Fmt.{digits}
+use Rattle.serde_json.specs.Read.{read}
 use Rattle.serde_json.proofs.OnLiterals.{serde_json_on_literals}
 use Rattle.hx_object.specs.Json.{object_text}
 use Rattle.hx_object.specs.declared.kind.Kind.{Kind}
@@ -11,11 +12,13 @@ use Rattle.hx_object.specs.declared.object.Payload.{Payload}
 use Rattle.hx_object.specs.declared.object.Payload.TheVariants.{Namespace as NamespaceOf, Config, Hierarchy, Anchor, Quota, Plain}
 use Rattle.hx_object.specs.declared.object.Mode.TheVariants.{Remove}
 use Rattle.hx_object.specs.declared.object.AnchorStatus.TheVariants.{Ok}
-use Rattle.hx_object.specs.declared.object.Condition.TheVariants.{Ancestor}
+use Rattle.hx_object.specs.declared.object.Condition.TheVariants.{ParentMissing, Ancestor, AnchorMissing}
 use Rattle.hx_object.specs.declared.object.Need.{Need}
 use Rattle.hx_model.specs.Json.{list_text}
 use Rattle.hx_model.specs.Replies.{status_text, message_about}
+use Rattle.hx_model.specs.Texts.{key_text, stored_entry}
 use Rattle.hx_model.specs.declared.refusal.Refusal.TheVariants.{NotFound}
+use Rattle.hx_json.specs.Rows.{said_object, with_status}
 
 -- an object without labels and annotations
 abbrev bare : Kind → List ℕ → List ℕ → Payload → Object
@@ -30,6 +33,28 @@ tree = Hierarchy (Some (codes "top")) true (codes "low" ∷ []) (Ancestor ∷ []
 pub text_of_tree : object_text (bare HierarchyConfiguration (codes "mid") (codes "hierarchy") tree) ≡ codes "{\"apiVersion\":\"hnc.x-k8s.io/v1alpha2\",\"kind\":\"HierarchyConfiguration\",\"metadata\":{\"name\":\"hierarchy\",\"namespace\":\"mid\",\"resourceVersion\":\"7\"},\"spec\":{\"allowCascadingDeletion\":true,\"parent\":\"top\"},\"status\":{\"children\":[\"low\"],\"conditions\":[{\"message\":\"an ancestor is halted\",\"reason\":\"AncestorHaltActivities\",\"status\":\"True\",\"type\":\"ActivitiesHalted\"}]}}"
 unfolding object_text digits serde_json_on_literals
 text_of_tree = refl
+
+-- the row of a namespace with two children and two conditions: its key, its version and its text
+abbrev halted : Object
+halted = record {
+  id = record { kind = HierarchyConfiguration; ns = codes "x"; name = codes "hierarchy" };
+  labels = [];
+  annotations = [];
+  payload = Hierarchy None false (codes "a" ∷ codes "b" ∷ []) (ParentMissing ∷ AnchorMissing ∷ []);
+  version = 4;
+}
+
+abbrev halted_text : List ℕ
+halted_text = codes "{\"apiVersion\":\"hnc.x-k8s.io/v1alpha2\",\"kind\":\"HierarchyConfiguration\",\"metadata\":{\"name\":\"hierarchy\",\"namespace\":\"x\",\"resourceVersion\":\"4\"},\"spec\":{},\"status\":{\"children\":[\"a\",\"b\"],\"conditions\":[{\"message\":\"the parent does not exist\",\"reason\":\"ParentMissing\",\"status\":\"True\",\"type\":\"ActivitiesHalted\"},{\"message\":\"the parent has no anchor of this name\",\"reason\":\"SubnamespaceAnchorMissing\",\"status\":\"True\",\"type\":\"BadConfiguration\"}]}}"
+
+row_of_halted : stored_entry halted ≡ (codes "03/x/hierarchy", (4, halted_text))
+unfolding key_text object_text digits serde_json_on_literals
+row_of_halted = refl
+
+-- what is read of that text
+halted_back : option_map (λ d. with_status d (said_object halted.id 4 d)) (read halted_text) ≡ Some halted
+unfolding serde_json_on_literals
+halted_back = refl
 
 pub text_of_root : object_text (bare HierarchyConfiguration (codes "top") (codes "hierarchy") (Hierarchy None false [] [])) ≡ codes "{\"apiVersion\":\"hnc.x-k8s.io/v1alpha2\",\"kind\":\"HierarchyConfiguration\",\"metadata\":{\"name\":\"hierarchy\",\"namespace\":\"top\",\"resourceVersion\":\"7\"},\"spec\":{}}"
 unfolding object_text digits serde_json_on_literals

@@ -6,7 +6,9 @@
 --     may_lie_in k ns    a key of the kind may name the namespace
 --     IsKeyOf key id     the key of an identity whose object may be stored
 --     said_object        the object of an identity that a value says
---     reported d p       a payload, with the phase or the status that a value says
+--     children_said d    the children that a value says
+--     conditions_said d  the conditions that a value says
+--     reported d p       a payload, with what a value reports of it
 --     with_status d x    the same of an object
 --     IsUnsound x f      the fault is that of an object
 --     IsTextOf id v t x  the text is that of an object that may be stored, of an identity and a version
@@ -16,7 +18,7 @@
 use Rattle.std.specs.Prelude.{◌≡◌, ℕ, Bool, true, false, not, ◌==◌, ◌&&◌, ◌||◌, List, [], ◌∷◌, ◌++◌, codes, find, Option, option_and_then, Result, Ok, Err, IsUtf8, Some, None, if◌then◌else◌}
 use Rattle.std.specs.List.{AllByRecursion}
 use Rattle.std.specs.Str.{bytes_eq}
-use Rattle.serde_json.specs.Data.{Data}
+use Rattle.serde_json.specs.Data.{Data, Items, no_items, item}
 use Rattle.hx_object.specs.Faults.{object_fault}
 use Rattle.hx_object.specs.Json.{object_text}
 use Rattle.hx_object.specs.Kinds.{all_kinds, is_in_cluster, number_of}
@@ -24,13 +26,15 @@ use Rattle.hx_object.specs.Names.{slash}
 use Rattle.hx_object.specs.declared.kind.Kind.{Kind}
 use Rattle.hx_object.specs.declared.object.AnchorStatus.{AnchorStatus}
 use Rattle.hx_object.specs.declared.object.AnchorStatus.TheVariants as anchor
+use Rattle.hx_object.specs.declared.object.Condition.{Condition}
+use Rattle.hx_object.specs.declared.object.Condition.TheVariants as condition
 use Rattle.hx_object.specs.declared.object.Id.{Id}
 use Rattle.hx_object.specs.declared.object.Object.{Object}
 use Rattle.hx_object.specs.declared.object.Payload.{Payload}
-use Rattle.hx_object.specs.declared.object.Payload.TheVariants.{Namespace as NamespaceOf, Anchor}
+use Rattle.hx_object.specs.declared.object.Payload.TheVariants.{Namespace as NamespaceOf, Hierarchy, Anchor}
 use Rattle.hx_model.specs.Serving.{IsServed, is_written}
 use Rattle.hx_model.specs.Texts.{key_text, stored_entry, two_digits}
-use Rattle.hx_json.specs.Reading.{counted_member, is_this, metadata_in, pairs_in, payload_of, text_in}
+use Rattle.hx_json.specs.Reading.{counted_member, is_this, items_in, metadata_in, pairs_in, payload_of, text_in, text_or}
 use Rattle.hx_json.specs.declared.fault.JsonFault.{JsonFault}
 use Rattle.hx_json.specs.declared.fault.JsonFault.TheVariants as of
 use Rattle.hx_json.specs.declared.fault.RowFault.{RowFault}
@@ -108,9 +112,46 @@ status_named text =
 abbrev pub anchor_status : Data → Option AnchorStatus
 anchor_status d = option_and_then status_named (text_in (in_status (codes "status") d))
 
--- a payload, with the phase or the status that a value says, where its kind has one
+-- the texts that items are. An item that is no text counts as an empty one
+abbrev pub texts_of : Items → List (List ℕ)
+texts_of no_items = []
+texts_of (item d ds) = text_or [] (Some d) ∷ texts_of ds
+
+-- the children of a namespace, where a value says some
+abbrev pub children_said : Data → List (List ℕ)
+children_said d = texts_of (items_in (in_status (codes "children") d))
+
+-- the condition whose reason a text is
+abbrev pub condition_named : List ℕ → Option Condition
+condition_named text =
+    if bytes_eq text (codes "InCycle") then Some condition.InCycle
+    else (if bytes_eq text (codes "ParentMissing") then Some condition.ParentMissing
+    else (if bytes_eq text (codes "IllegalParent") then Some condition.IllegalParent
+    else (if bytes_eq text (codes "AncestorHaltActivities") then Some condition.Ancestor
+    else (if bytes_eq text (codes "SubnamespaceAnchorMissing") then Some condition.AnchorMissing else None))))
+
+-- the condition that an item says, by its reason alone
+abbrev pub condition_in : Data → Option Condition
+condition_in d = option_and_then condition_named (text_in (counted_member (codes "reason") d))
+
+-- a condition, where there is one, and others behind it
+abbrev pub in_front : Option Condition → List Condition → List Condition
+in_front None conditions = conditions
+in_front (Some c) conditions = c ∷ conditions
+
+-- the conditions that items say. An item with another reason is left out
+abbrev pub conditions_of : Items → List Condition
+conditions_of no_items = []
+conditions_of (item d ds) = in_front (condition_in d) (conditions_of ds)
+
+-- the conditions of a namespace, where a value says some
+abbrev pub conditions_said : Data → List Condition
+conditions_said d = conditions_of (items_in (in_status (codes "conditions") d))
+
+-- a payload, with what a value reports of it, where its kind has something that is reported
 abbrev pub reported : Data → Payload → Payload
 reported d (NamespaceOf terminating) = NamespaceOf (says_terminating d)
+reported d (Hierarchy parent cascade children conditions) = Hierarchy parent cascade (children_said d) (conditions_said d)
 reported d (Anchor status) = Anchor (anchor_status d)
 reported d payload = payload
 

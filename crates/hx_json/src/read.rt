@@ -13,6 +13,7 @@ ghost use Rattle.hx_json.specs.ReadObject.{IsFaultOf, IsReadOf, is_read};
 ghost use Rattle.hx_json.specs.Rows.{IsUnsound, said_object};
 ghost use Rattle.hx_json.specs.Trees.{IsOrdered, IsUnordered, is_ordered, said};
 
+mod conditions;
 mod kept;
 mod member_checks;
 mod members;

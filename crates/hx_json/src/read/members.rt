@@ -4,6 +4,7 @@ ghost use Rattle.json.specs.Find as find;
 ghost use Rattle.json.specs.Value.{value_view};
 ghost use Rattle.serde_json.specs.Find.{get};
 ghost use Rattle.hx_json.specs.Reading.{counted_member, in_spec, metadata_in, text_in, truth_in};
+ghost use Rattle.hx_json.specs.Rows.{in_status};
 ghost use Rattle.hx_json.specs.Trees.{said};
 
 use json::Value;
@@ -42,6 +43,16 @@ pub fn in_spec<'v, 'a>(value: &'v Value<'a>, name: &str) -> Option<&'v Value<'a>
 {
     match member(value, "spec") {
         Some(spec) => member(spec, name),
+        None => None,
+    }
+}
+
+/// A member of `status`.
+pub fn in_status<'v, 'a>(value: &'v Value<'a>, name: &str) -> Option<&'v Value<'a>>
+    ensures { option_map (λ v. said v.now) result ≡ in_status name.now (said value.now) }
+{
+    match member(value, "status") {
+        Some(status) => member(status, name),
         None => None,
     }
 }

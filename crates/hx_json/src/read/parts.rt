@@ -19,7 +19,7 @@ use json::Value;
 use std::alloc::Global;
 
 /// The text of a member that is one, and else an empty text.
-fn text_or_empty(alloc: Global, found: Option<&Value<'_>>) -> Result<Text, NoMemory>
+pub fn text_or_empty(alloc: Global, found: Option<&Value<'_>>) -> Result<Text, NoMemory>
     ensures { IfOk result (λ t. t ≡ text_or [] (option_map (λ v. said v.now) found.entry)) }
 {
     Text::of(alloc, text_in(found).unwrap_or(""))

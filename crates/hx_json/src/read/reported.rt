@@ -1,20 +1,23 @@
-// What a row's body reports of a namespace or an anchor, which a request's body doesn't.
-ghost use Rattle.std.specs.Prelude.{◌≡◌, option_map};
+// What a row's body reports, which a request's body doesn't.
+ghost use Rattle.std.specs.Prelude.{◌≡◌, IfOk};
 ghost use Rattle.hx_object.specs.Faults.{IsLegal};
 ghost use Rattle.hx_model.specs.Serving.{IsGiven, IsKept};
-ghost use Rattle.hx_json.specs.Rows.{anchor_status, in_status, reported, says_terminating, status_named, with_status};
-ghost use Rattle.hx_json.specs.Trees.{said};
+ghost use Rattle.hx_json.specs.Rows.{anchor_status, children_said, reported, says_terminating, status_named, texts_of, with_status};
+ghost use Rattle.hx_json.specs.Trees.{said, said_items};
 
-use super::members::{member, text_in};
-use hx_object::{AnchorStatus, Object, Payload};
+use super::conditions::conditions_said;
+use super::members::{in_status, text_in};
+use super::parts::text_or_empty;
+use hx_object::{AnchorStatus, List, NoMemory, Object, Payload, Text};
 use json::Value;
+use std::alloc::Global;
 
-/// The object of a row, by what its body says as a request's, and with the phase or the status that it says besides.
-pub fn with_status(object: Object, value: &Value<'_>) -> Object
+/// The object of a row, by what its body says as a request's, and with what it reports besides.
+pub fn with_status(alloc: Global, object: Object, value: &Value<'_>) -> Result<Object, NoMemory>
     requires legal { IsLegal object }
     requires given { IsGiven object }
-    ensures object { result ≡ with_status (said value.now) object }
-    ensures legal { IsLegal result × IsKept result }
+    ensures object { IfOk result (λ x. x ≡ with_status (said value.now) object) }
+    ensures legal { IfOk result (λ x. IsLegal x × IsKept x) }
 {
     let Object {
         id,
@@ -23,26 +26,36 @@ pub fn with_status(object: Object, value: &Value<'_>) -> Object
         payload,
         version,
     } = object;
-    Object {
+    Ok(Object {
         id,
         labels,
         annotations,
-        payload: reported(payload, value),
+        payload: reported(alloc, payload, value)?,
         version,
-    }
+    })
 }
 
-fn reported(payload: Payload, value: &Value<'_>) -> Payload
-    ensures { result ≡ reported (said value.now) payload }
+fn reported(alloc: Global, payload: Payload, value: &Value<'_>) -> Result<Payload, NoMemory>
+    ensures { IfOk result (λ p. p ≡ reported (said value.now) payload) }
 {
     match payload {
-        Payload::Namespace { .. } => Payload::Namespace {
+        Payload::Namespace { .. } => Ok(Payload::Namespace {
             terminating: is_terminating(value),
-        },
-        Payload::Anchor { .. } => Payload::Anchor {
+        }),
+        Payload::Hierarchy {
+            parent,
+            cascade,
+            ..
+        } => Ok(Payload::Hierarchy {
+            parent,
+            cascade,
+            children: children_said(alloc, value)?,
+            conditions: conditions_said(alloc, value)?,
+        }),
+        Payload::Anchor { .. } => Ok(Payload::Anchor {
             status: anchor_status(value),
-        },
-        payload => payload,
+        }),
+        payload => Ok(payload),
     }
 }
 
@@ -73,12 +86,23 @@ fn status_named(text: &str) -> Option<AnchorStatus>
     }
 }
 
-/// A member of `status`.
-fn in_status<'v, 'a>(value: &'v Value<'a>, name: &str) -> Option<&'v Value<'a>>
-    ensures { option_map (λ v. said v.now) result ≡ in_status name.now (said value.now) }
+/// The children of a namespace, where the body says some.
+fn children_said(alloc: Global, value: &Value<'_>) -> Result<List<Text>, NoMemory>
+    ensures { IfOk result (λ l. l ≡ children_said (said value.now)) }
 {
-    match member(value, "status") {
-        Some(status) => member(status, name),
-        None => None,
+    match in_status(value, "children") {
+        Some(Value::Array(items)) => texts_of(alloc, items),
+        _ => Ok(List::of(Vec::new(alloc))),
     }
+}
+
+/// The texts that items are. An item that is no text counts as an empty one.
+fn texts_of(alloc: Global, items: &[Value<'_>]) -> Result<List<Text>, NoMemory>
+    ensures { IfOk result (λ l. l ≡ texts_of (said_items items.now)) }
+{
+    let mut texts = Vec::new(alloc);
+    for item in items {
+        texts.push(text_or_empty(alloc, Some(item))?)?;
+    }
+    Ok(List::of(texts))
 }

@@ -103,7 +103,7 @@ fn read_body(
         return Err(RowFault::NoObject);
     }
     match object_at(alloc, room, &value, id, version) {
-        Ok(object) => Ok(with_status(object, &value)),
+        Ok(object) => Ok(with_status(alloc, object, &value)?),
         Err(fault) => Err(row_fault(fault)),
     }
 }

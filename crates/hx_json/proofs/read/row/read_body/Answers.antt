@@ -29,7 +29,7 @@ object_at-requires-clause-shallow c = ordered_shallow c.args.text.now c.args.id.
 
 pub returns-in-Ok-object_at-clause-back : goal.returns-in-Ok-object_at-clause-back
 returns-in-Ok-object_at-clause-back c = λ x h.
-    c.with_status.ensures.object
+    c.in_ok-with_status-in-Ok-object_at.ensures.object
     ∙ ap (with_status (said c.in-Ok.value)) c.in-Ok-object_at.ensures.object
     ∙ told c.args.id c.args.version c.args.text.now x h (value_view c.in-Ok.value) c.in-Ok.ensures.ok (sym c.is_ordered.ensures ∙ c.if-not-is_ordered.false)
 
