@@ -18,6 +18,7 @@ use Rattle.hx_object.specs.declared.object.Object.{Object}
 use Rattle.hx_model.specs.Cases.{is_leaving}
 use Rattle.hx_model.specs.Forest.{Forest, node_of, is_live, is_excluded, halt_of, chain_of}
 use Rattle.hx_model.specs.Keys.{is_among}
+use Rattle.hx_model.specs.Moves.{is_calm}
 use Rattle.hx_model.specs.State.{State, Objects}
 use Rattle.hx_model.specs.Tree.{forest_of, namespaces_in, node_in}
 use Rattle.hx_model.specs.TreeLabels.{is_open}
@@ -28,8 +29,10 @@ use Rattle.hx_model.specs.declared.key.Write.{Write}
 use Rattle.hx_model.specs.declared.node.Node.{Node}
 use Rattle.hx_model.proofs.Climbing.{is_same}
 use Rattle.hx_marks.proofs.Among.{among_append, among_here}
+use Rattle.hx_marks.proofs.Reporting.{own_report}
 use Rattle.hx_marks.proofs.Wanting.{all_known}
 use Rattle.hx_marks.specs.Law.{all_of, known_of, leaving_keys, status_keys}
+use Rattle.hx_marks.specs.Reports.{report_keys}
 use Rattle.hx_rules.specs.Briefs.{StandsFor, facts_of, planned, planned_by}
 use Rattle.hx_rules.specs.declared.brief.Brief.{Brief}
 use Rattle.hx_rules.specs.declared.brief.Facts.{Facts}
@@ -143,20 +146,33 @@ module _ (s : State) where
         ap (λ (xs : List Object). list_any (λ (x : Object). is_among k (known_of s.objects (forest_of s) x.id.name)) xs) (namespaces_are s.objects)
         ∙ listed_passes (node_in s.config.excluded s.objects) (λ n. is_among k (known_of s.objects (forest_of s) n)) m (namespaces_in s.objects) there known
 
+    -- a report, a status or a removal
+    abbrev others : List Key
+    others = report_keys (forest_of s) m ++ (status_keys s.objects m ++ leaving_keys (forest_of s) m)
+
+    beside : is_among k others ≡ true → is_among k (known_of s.objects (forest_of s) m) ≡ true
+    beside mem = among_append k (open_keys m) others ∙ or_right (is_among k (open_keys m)) (is_among k others) mem
+
     -- a status or a removal
     behind : is_among k (status_keys s.objects m ++ leaving_keys (forest_of s) m) ≡ true → is_among k (known_of s.objects (forest_of s) m) ≡ true
-    behind mem = among_append k (open_keys m) (status_keys s.objects m ++ leaving_keys (forest_of s) m) ∙ or_right (is_among k (open_keys m)) (is_among k (status_keys s.objects m ++ leaving_keys (forest_of s) m)) mem
+    behind mem = beside (among_append k (report_keys (forest_of s) m) (status_keys s.objects m ++ leaving_keys (forest_of s) m) ∙ or_right (is_among k (report_keys (forest_of s) m)) _ mem)
 
     open_listed : is_open (forest_of s) m ≡ true → is_among k (all_of s.objects (chain_of (forest_of s) m) m) ≡ true → IsListed k
     open_listed acts mem =
         listed (open_there (forest_of s) m acts)
-        (among_append k (open_keys m) (status_keys s.objects m ++ leaving_keys (forest_of s) m)
-        ∙ or_left (is_among k (open_keys m)) (is_among k (status_keys s.objects m ++ leaving_keys (forest_of s) m)) (ap (λ b. is_among k (if b then all_of s.objects (chain_of (forest_of s) m) m else [])) acts ∙ mem))
+        (among_append k (open_keys m) others
+        ∙ or_left (is_among k (open_keys m)) (is_among k others) (ap (λ b. is_among k (if b then all_of s.objects (chain_of (forest_of s) m) m else [])) acts ∙ mem))
 
     status_listed : is_live (forest_of s) m ≡ true → is_among k (status_keys s.objects m) ≡ true → IsListed k
     status_listed live mem =
         listed (live_there (node_of (forest_of s) m) live)
         (behind (among_append k (status_keys s.objects m) (leaving_keys (forest_of s) m) ∙ or_left (is_among k (status_keys s.objects m)) (is_among k (leaving_keys (forest_of s) m)) mem))
+
+  report_listed : (m : List ℕ) → is_calm (forest_of s) m ≡ true → IsListed (key.Report m)
+  report_listed m calm =
+      let k = key.Report m in
+      listed k m (live_there (node_of (forest_of s) m) (and_parts (is_live (forest_of s) m) (not (is_excluded (forest_of s) m)) calm).0)
+      (beside k m (among_append k (report_keys (forest_of s) m) (status_keys s.objects m ++ leaving_keys (forest_of s) m) ∙ or_left (is_among k (report_keys (forest_of s) m)) _ (own_report (forest_of s) m calm)))
 
   removal_listed : (m : List ℕ) → is_leaving (forest_of s) m ≡ true → IsListed (key.Purge m)
   removal_listed m leaves =
@@ -169,7 +185,7 @@ module _ (s : State) where
   pub known_listed : (k : Key) → wanted_write s k ≢ None → IsListed k
   known_listed (key.Copy n kind name) wants = let known = all_known s (key.Copy n kind name) wants in open_listed (key.Copy n kind name) known.0 known.1 known.2
   known_listed (key.Tree n) wants = let known = all_known s (key.Tree n) wants in open_listed (key.Tree n) known.0 known.1 known.2
-  known_listed (key.Report n) wants = absurd (wants refl)
+  known_listed (key.Report n) wants = report_listed n (all_known s (key.Report n) wants)
   known_listed (key.Child n name) wants = let known = all_known s (key.Child n name) wants in open_listed (key.Child n name) known.0 known.1 known.2
   known_listed (key.Anchor n name) wants = let known = all_known s (key.Anchor n name) wants in status_listed (key.Anchor n name) n known.0 known.1
   known_listed (key.Used n name) wants = absurd (wants refl)

@@ -1,6 +1,6 @@
 -- What a brief is copied out of.
 --     facts_by excluded objects f k   the facts of a key, by objects and their tree, where these names are excluded
---     copy_facts, tree_facts, child_facts, anchor_facts, purge_facts   by the kind of key
+--     copy_facts, tree_facts, report_facts, child_facts, anchor_facts, purge_facts   by the kind of key
 --     guards_by objects k    what its write rests on
 --     nearest_first          the sources of a kind and name in the namespaces of a chain, the nearest first
 use Rattle.std.specs.Prelude.{ℕ, ◌||◌, is_some, List, [], ◌∷◌, ◌++◌, Option, Some, None, option_map}
@@ -8,11 +8,14 @@ use Rattle.hx_object.specs.declared.kind.Kind.{Kind}
 use Rattle.hx_object.specs.declared.object.Id.{Id}
 use Rattle.hx_object.specs.declared.object.Object.{Object}
 use Rattle.hx_model.specs.Cases.{is_leaving}
-use Rattle.hx_model.specs.Forest.{Forest, chain_of, is_in, is_live, tail_of}
+use Rattle.hx_model.specs.Forest.{Forest, chain_of, children_of, is_in, is_live, tail_of}
 use Rattle.hx_model.specs.Modes.{config_id, mode_in}
+use Rattle.hx_model.specs.Moves.{is_calm}
 use Rattle.hx_model.specs.Propagation.{as_list, id_in, source_at, sources_along}
+use Rattle.hx_model.specs.Reports.{conditions_in}
 use Rattle.hx_model.specs.State.{Objects, object_at, namespace_id, least_in}
 use Rattle.hx_model.specs.Subnamespaces.{anchor_id}
+use Rattle.hx_model.specs.Tree.{hierarchy_id}
 use Rattle.hx_model.specs.TreeLabels.{is_open}
 use Rattle.hx_model.specs.Wanted.{status_by}
 use Rattle.hx_model.specs.declared.key.Guard.{Guard}
@@ -40,6 +43,10 @@ copy_facts objects f n kind name =
 abbrev pub tree_facts : Objects → Forest → List ℕ → Facts
 tree_facts objects f n = facts.Tree (object_at objects (namespace_id n)) (is_open f n) (chain_of f n)
 
+-- of a report
+abbrev pub report_facts : Objects → Forest → List ℕ → Facts
+report_facts objects f n = facts.Report (is_calm f n) (object_at objects (hierarchy_id n)) (children_of f n) (conditions_in objects f n)
+
 -- of a subnamespace
 abbrev pub child_facts : List (List ℕ) → Objects → Forest → List ℕ → List ℕ → Facts
 child_facts excluded objects f n name = facts.Child (is_open f n) (is_some (object_at objects (anchor_id n name))) (is_in name excluded) (is_some (object_at objects (namespace_id name)))
@@ -57,6 +64,7 @@ purge_facts f least n = facts.Purge (is_leaving f n) least
 abbrev pub facts_by : List (List ℕ) → Objects → Forest → Key → Facts
 facts_by excluded objects f (key.Copy n kind name) = copy_facts objects f n kind name
 facts_by excluded objects f (key.Tree n) = tree_facts objects f n
+facts_by excluded objects f (key.Report n) = report_facts objects f n
 facts_by excluded objects f (key.Child n name) = child_facts excluded objects f n name
 facts_by excluded objects f (key.Anchor n name) = anchor_facts excluded objects f n name
 facts_by excluded objects f (key.Purge n) = purge_facts f (least_by objects n) n
@@ -77,6 +85,7 @@ purge_guards_by objects (Some id) n = guard_in objects id ∷ guard_in objects (
 abbrev pub guards_by : Objects → Key → List Guard
 guards_by objects (key.Copy n kind name) = guard_in objects (id_in kind name n) ∷ guard_in objects (namespace_id n) ∷ []
 guards_by objects (key.Tree n) = guard_in objects (namespace_id n) ∷ []
+guards_by objects (key.Report n) = guard_in objects (hierarchy_id n) ∷ guard_in objects (namespace_id n) ∷ []
 guards_by objects (key.Child n name) = guard_in objects (anchor_id n name) ∷ guard_in objects (namespace_id n) ∷ guard_in objects (namespace_id name) ∷ []
 guards_by objects (key.Anchor n name) = guard_in objects (anchor_id n name) ∷ guard_in objects (namespace_id n) ∷ []
 guards_by objects (key.Purge n) = purge_guards_by objects (least_by objects n) n

@@ -2,18 +2,18 @@
 ghost use Rattle.std.specs.Prelude.{◌≡◌, ◌||◌, IfOk, option_copied};
 ghost use Rattle.hx_model.specs.Forest.{is_in};
 ghost use Rattle.hx_model.specs.State.{object_at, namespace_id};
-ghost use Rattle.hx_model.specs.Subnamespaces.{is_owned_by};
 ghost use Rattle.hx_model.specs.Wanted.{status_by};
-ghost use Rattle.hx_briefs.specs.Briefing.{anchor_facts, child_facts, copy_facts, facts_by, id_found, purge_facts, tree_facts};
+ghost use Rattle.hx_briefs.specs.Briefing.{anchor_facts, child_facts, copy_facts, facts_by, id_found, purge_facts, report_facts, tree_facts};
 
-use crate::lookups::{anchor, is_leaving, is_live, mode_of, namespace, share};
+use crate::conditions::conditions_of;
+use crate::lookups::{anchor, hierarchy, mode_of, namespace, share};
 use crate::sources::sources_above;
 use hx_forest::Forest;
-use hx_model::{Key, RunConfig};
-use hx_object::well_known::SUBNAMESPACE_OF;
-use hx_object::{AnchorStatus, Id, Kind, List, NoMemory, Object, Shared, Text};
+use hx_model::{Key, RunConfig, is_owned_by};
+use hx_object::{AnchorStatus, Id, Kind, List, NoMemory, Shared, Text};
 use hx_rules::Facts;
 use hx_store::Store;
+use std::alloc::Global;
 
 /// What the write of a key depends on.
 pub fn facts_of(
@@ -27,10 +27,11 @@ pub fn facts_of(
     match key {
         Key::Copy { ns, kind, name } => copy_facts(store, forest, ns, *kind, name),
         Key::Tree { ns } => tree_facts(store, forest, ns),
+        Key::Report { ns } => report_facts(store, forest, ns),
         Key::Child { ns, name } => Ok(child_facts(store, forest, config, ns, name)),
         Key::Anchor { ns, name } => anchor_facts(store, forest, config, ns, name),
         Key::Purge { ns } => purge_facts(forest, store.least(ns), ns),
-        Key::Report { .. } | Key::Used { .. } => Ok(Facts::Unserved),
+        Key::Used { .. } => Ok(Facts::Unserved),
     }
 }
 
@@ -64,6 +65,18 @@ fn tree_facts(store: &Store, forest: &Forest, ns: &Text) -> Result<Facts, NoMemo
     })
 }
 
+/// What the report of a namespace depends on.
+fn report_facts(store: &Store, forest: &Forest, ns: &Text) -> Result<Facts, NoMemory>
+    ensures { IfOk result (λ made. made ≡ report_facts store.now.objects forest.now.nodes ns.now) }
+{
+    Ok(Facts::Report {
+        is_calm: forest.is_calm(ns),
+        hierarchy: share(hierarchy(store, ns))?,
+        children: List::of(copies_of(store.allocator(), forest.children(ns))?),
+        conditions: List::of(conditions_of(store, forest, ns)?),
+    })
+}
+
 /// What the subnamespace that an anchor asks for depends on.
 fn child_facts(store: &Store, forest: &Forest, config: &RunConfig, ns: &Text, name: &Text) -> Facts
     ensures { result ≡ child_facts config.now.excluded store.now.objects forest.now.nodes ns.now name.now }
@@ -87,7 +100,7 @@ fn anchor_facts(
     ensures { IfOk result (λ made. made ≡ anchor_facts config.now.excluded store.now.objects forest.now.nodes ns.now name.now) }
 {
     Ok(Facts::Anchor {
-        is_live: is_live(forest, ns),
+        is_live: forest.is_live(ns),
         anchor: share(anchor(store, ns, name))?,
         status: status_of(store, config, ns, name),
     })
@@ -102,7 +115,7 @@ pub(crate) fn purge_facts(
     ensures { IfOk result (λ made. made ≡ purge_facts forest.now.nodes (id_found (option_copied least.entry)) ns.now) }
 {
     Ok(Facts::Purge {
-        is_leaving: is_leaving(forest, ns),
+        is_leaving: forest.is_leaving(ns),
         least: id_of(least)?,
     })
 }
@@ -126,17 +139,17 @@ fn status_of(store: &Store, config: &RunConfig, ns: &Text, name: &Text) -> Ancho
     }
     match namespace(store, name) {
         None => AnchorStatus::Missing,
-        Some(found) if is_owned_by(ns, found.object()) => AnchorStatus::Ok,
+        Some(found) if is_owned_by(found.object(), ns) => AnchorStatus::Ok,
         Some(_) => AnchorStatus::Conflict,
     }
 }
 
-/// Whether the annotation of a namespace names this one.
-fn is_owned_by(ns: &Text, namespace: &Object) -> bool
-    ensures { result ≡ is_owned_by ns.now namespace.now }
+fn copies_of(alloc: Global, names: &[Text]) -> Result<Vec<Text>, NoMemory>
+    ensures { IfOk result (λ copies. copies.items ≡ names.now) }
 {
-    match namespace.annotations.get(SUBNAMESPACE_OF) {
-        Some(parent) => parent.as_str() == ns.as_str(),
-        None => false,
+    let mut copies = Vec::new(alloc);
+    for name in names {
+        copies.push(name.clone()?)?;
     }
+    Ok(copies)
 }

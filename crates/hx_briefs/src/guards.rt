@@ -2,9 +2,11 @@
 ghost use Rattle.std.specs.Prelude.{◌≡◌, IfOk, option_copied};
 ghost use Rattle.hx_model.specs.Propagation.{id_in};
 ghost use Rattle.hx_model.specs.State.{namespace_id};
+ghost use Rattle.hx_model.specs.Tree.{hierarchy_id};
 ghost use Rattle.hx_briefs.specs.Briefing.{guard_in, guards_by, id_found, purge_guards_by};
 
 use hx_model::{Guard, Key};
+use hx_object::well_known::HIERARCHY;
 use hx_object::{Id, Kind, List, NoMemory, Shared, Text};
 use hx_store::Store;
 
@@ -19,6 +21,10 @@ pub fn guards_of(store: &Store, key: &Key) -> Result<List<Guard>, NoMemory>
             guards.push(namespace_guard(store, ns)?)?;
         }
         Key::Tree { ns } => guards.push(namespace_guard(store, ns)?)?,
+        Key::Report { ns } => {
+            guards.push(report_guard(store, ns)?)?;
+            guards.push(namespace_guard(store, ns)?)?;
+        }
         Key::Child { ns, name } => {
             guards.push(inner_guard(store, Kind::SubnamespaceAnchor, ns, name)?)?;
             guards.push(namespace_guard(store, ns)?)?;
@@ -29,7 +35,7 @@ pub fn guards_of(store: &Store, key: &Key) -> Result<List<Guard>, NoMemory>
             guards.push(namespace_guard(store, ns)?)?;
         }
         Key::Purge { ns } => return purge_guards(store, store.least(ns), ns),
-        Key::Report { .. } | Key::Used { .. } => {}
+        Key::Used { .. } => {}
     }
     Ok(List::of(guards))
 }
@@ -60,6 +66,14 @@ fn inner_guard(store: &Store, kind: Kind, ns: &Text, name: &Text) -> Result<Guar
         name: name.clone()?,
     };
     Ok(guard_at(store, id))
+}
+
+/// A guard of the HierarchyConfiguration that tells of a namespace.
+fn report_guard(store: &Store, ns: &Text) -> Result<Guard, NoMemory>
+    ensures { IfOk result (λ guard. guard ≡ guard_in store.now.objects (hierarchy_id ns.now)) }
+{
+    let name = Text::of(store.allocator(), HIERARCHY)?;
+    inner_guard(store, Kind::HierarchyConfiguration, ns, &name)
 }
 
 /// A guard of a namespace.

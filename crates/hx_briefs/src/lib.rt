@@ -2,6 +2,7 @@
 #![tactic(auto)]
 
 mod briefs;
+mod conditions;
 mod facts;
 mod guards;
 mod lookups;

@@ -1,14 +1,12 @@
 // What is looked up in a state.
 ghost use Rattle.std.specs.Prelude.{◌≡◌, IfOk, option_copied};
-ghost use Rattle.hx_model.specs.Cases.{is_leaving};
-ghost use Rattle.hx_model.specs.Forest.{is_live};
 ghost use Rattle.hx_model.specs.Modes.{config_id, mode_in};
 ghost use Rattle.hx_model.specs.State.{object_at, namespace_id};
 ghost use Rattle.hx_model.specs.Subnamespaces.{anchor_id};
+ghost use Rattle.hx_model.specs.Tree.{hierarchy_id};
 
-use hx_forest::Forest;
 use hx_model::mode_in;
-use hx_object::well_known::CONFIG;
+use hx_object::well_known::{CONFIG, HIERARCHY};
 use hx_object::{Kind, Mode, NoMemory, Shared, Text};
 use hx_store::Store;
 
@@ -17,6 +15,13 @@ pub(crate) fn namespace<'a>(store: &'a Store, name: &Text) -> Option<&'a Shared>
     ensures { option_copied result ≡ object_at store.now.objects (namespace_id name.now) }
 {
     store.find(Kind::Namespace, "", name.as_str())
+}
+
+/// The HierarchyConfiguration of a namespace.
+pub(crate) fn hierarchy<'a>(store: &'a Store, ns: &Text) -> Option<&'a Shared>
+    ensures { option_copied result ≡ object_at store.now.objects (hierarchy_id ns.now) }
+{
+    store.find(Kind::HierarchyConfiguration, ns.as_str(), HIERARCHY)
 }
 
 /// The anchor by which a namespace asks for a subnamespace.
@@ -33,26 +38,6 @@ pub(crate) fn mode_of(store: &Store, kind: Kind) -> Mode
     match store.find(Kind::HncConfiguration, "", CONFIG) {
         Some(config) => mode_in(Some(config.object()), kind),
         None => mode_in(None, kind),
-    }
-}
-
-/// Whether a namespace is there and not on its way out.
-pub(crate) fn is_live(forest: &Forest, name: &Text) -> bool
-    ensures { result ≡ is_live forest.now.nodes name.now }
-{
-    match forest.node(name) {
-        Some(node) => !node.terminating,
-        None => false,
-    }
-}
-
-/// Whether a namespace is there and on its way out.
-pub(crate) fn is_leaving(forest: &Forest, name: &Text) -> bool
-    ensures { result ≡ is_leaving forest.now.nodes name.now }
-{
-    match forest.node(name) {
-        Some(node) => node.terminating,
-        None => false,
     }
 }
 

@@ -9,6 +9,8 @@ use Rattle.hx_object.specs.Sizes.{is_tree_key}
 use Rattle.hx_object.specs.declared.kind.Kind.TheVariants.{Role}
 use Rattle.hx_object.specs.declared.object.AnchorStatus.{AnchorStatus}
 use Rattle.hx_object.specs.declared.object.AnchorStatus.TheVariants.{Missing, Ok as Fine, Conflict, Forbidden}
+use Rattle.hx_object.specs.declared.object.Condition.{Condition}
+use Rattle.hx_object.specs.declared.object.Condition.TheVariants as told
 use Rattle.hx_object.specs.declared.object.Mode.{Mode}
 use Rattle.hx_object.specs.declared.object.Mode.TheVariants.{Propagate, Remove, Ignore}
 use Rattle.hx_object.specs.declared.object.Need.{Need}
@@ -294,10 +296,53 @@ then_itself = refl
 staying : removal_in (with_team false (far [] ∷ near ∷ [])) ≡ None
 staying = refl
 
+-- ---- reports
+
+abbrev report_in : State → List ℕ → Option Write
+report_in s n = planned (key.Report n) (facts_of s (key.Report n))
+
+-- a HierarchyConfiguration that tells these
+abbrev telling : List ℕ → List (List ℕ) → List Condition → Object
+telling n children conditions = record { id = hierarchy_id n; labels = []; annotations = []; payload = Hierarchy None false children conditions; version = 0 }
+
+-- of acme its child is told, and of a subnamespace with its anchor nothing
+told_child : report_in (anchors (Some Fine) [] (with_version (team_of acme) 2 ∷ [])) acme ≡ Some (Put (telling acme (team ∷ []) []))
+told_child = refl
+
+untold : report_in (anchors (Some Fine) [] (with_version (team_of acme) 2 ∷ [])) team ≡ None
+untold = refl
+
+-- of one that is excluded nothing
+kept_out : report_in (anchors (Some Fine) (acme ∷ []) (with_version (team_of acme) 2 ∷ [])) acme ≡ None
+kept_out = refl
+
+-- a subnamespace of app, which isn't there, or which is there and has no anchor
+missing_parent : report_in (anchors (Some Fine) [] (with_version (team_of app) 2 ∷ [])) team ≡ Some (Put (telling team [] (told.ParentMissing ∷ [])))
+missing_parent = refl
+
+without_anchor : report_in (anchors (Some Fine) [] (with_version (new_namespace app) 2 ∷ with_version (team_of app) 3 ∷ [])) team ≡ Some (Put (telling team [] (told.AnchorMissing ∷ [])))
+without_anchor = refl
+
+-- why it is halted comes first
+both_told : report_in (anchors (Some Fine) [] (record (with_version (new_namespace app) 2) { payload = NamespaceOf true } ∷ with_version (team_of app) 3 ∷ [])) team ≡ Some (Put (telling team [] (told.ParentMissing ∷ told.AnchorMissing ∷ [])))
+both_told = refl
+
+-- what it gives stays, and where it tells the same nothing is written
+abbrev flagged : List (List ℕ) → Object
+flagged children = record { id = hierarchy_id acme; labels = []; annotations = pair (codes "note") (codes "x"); payload = Hierarchy None true children []; version = 3 }
+
+given_stays : report_in (anchors (Some Fine) [] (with_version (team_of acme) 2 ∷ flagged [] ∷ [])) acme ≡ Some (Put (record (flagged (team ∷ [])) { version = 0 }))
+unfolding same_object
+given_stays = refl
+
+right_report : report_in (anchors (Some Fine) [] (with_version (team_of acme) 2 ∷ flagged (team ∷ []) ∷ [])) acme ≡ None
+unfolding same_object
+right_report = refl
+
 -- ---- other keys
 
 -- nothing of a state counts, and nothing is planned
-other_keys : planned (key.Report app) (facts_of (tree []) (key.Report app)) ≡ None
+other_keys : planned (key.Used app team) (facts_of (tree []) (key.Used app team)) ≡ None
 other_keys = refl
 
 -- facts that aren't of the key plan nothing

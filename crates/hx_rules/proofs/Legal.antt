@@ -4,18 +4,21 @@
 --     labelled_served      a namespace that may be stored, with the labels that a short chain of such names prescribes
 --     subnamespace_served  a subnamespace, where its name and its parent's are legal
 --     status_served        an anchor that may be stored, with another status
+--     report_served, bare_report_served   a HierarchyConfiguration that may be stored, with another report;  one that only reports
 use Rattle.std.proofs.Common.{◌≡◌, ℕ, suc, ◌+◌, ◌<◌, ◌≤◌, ◌^◌, Bool, true, false, not, ◌||◌, List, [], ◌∷◌, length, sum_by, codes, Option, None, Some, decimal, nat_lt, refl, sym, ap, ◌∙◌, true≢false, arith, if◌then◌else◌}
 use Rattle.std.specs.List.{list_all, AllByRecursion}
 use Rattle.std.proofs.lemmas.Bool.{and_parts, and_from, leb-true, le-leb}
+use Rattle.json.specs.Print.{escape_byte}
 use Rattle.hx_object.specs.Faults.{IsLegal, IsPayloadOf, object_fault, has_legal_names, has_legal_labels, has_legal_namespace, is_legal_label, is_legal_annotation, most_labels}
 use Rattle.hx_object.specs.Kinds.{can_be_copied, is_in_cluster, is_plain}
 use Rattle.hx_object.specs.Names.{is_dns_label, is_name_of, is_key, is_subdomain, is_dns_part, is_qualified_part}
 use Rattle.hx_object.specs.Pairs.{has_ascending_keys, with_pair}
-use Rattle.hx_object.specs.Sizes.{counted, greatest_size, is_counted, is_tree_key, is_reconciled_key, pair_size, size_of, specified_size}
+use Rattle.hx_object.specs.Sizes.{counted, greatest_size, hierarchy_size, is_counted, is_tree_key, is_reconciled_key, pair_size, size_of, specified_size}
 use Rattle.hx_object.specs.WellKnown.{inherited_from, included_namespace, subnamespace_of}
 use Rattle.hx_object.specs.declared.kind.Kind.{Kind}
 use Rattle.hx_object.specs.declared.kind.Kind.TheVariants.{Namespace, HncConfiguration, HierarchyConfiguration, SubnamespaceAnchor, HierarchicalResourceQuota, Role, RoleBinding, ConfigMap, Secret, NetworkPolicy, LimitRange, Pod, Service, PersistentVolumeClaim}
 use Rattle.hx_object.specs.declared.object.AnchorStatus.{AnchorStatus}
+use Rattle.hx_object.specs.declared.object.Condition.{Condition}
 use Rattle.hx_object.specs.declared.object.Object.{Object}
 use Rattle.hx_object.specs.declared.object.ObjectFault.{ObjectFault}
 use Rattle.hx_object.specs.declared.object.ObjectFault.TheVariants.{BadName, BadLabel, TooManyLabels, TooLarge}
@@ -23,8 +26,11 @@ use Rattle.hx_object.specs.declared.object.Payload.{Payload}
 use Rattle.hx_object.specs.declared.object.Payload.TheVariants.{Namespace as NamespaceOf, Config, Hierarchy, Anchor, Quota, Plain}
 use Rattle.hx_object.proofs.Putting.{ascending-with_pair, ascending-filter}
 use Rattle.hx_model.specs.Propagation.{copy_of, is_hnc_key}
+use Rattle.hx_model.specs.Reports.{bare_report, with_report}
 use Rattle.hx_model.specs.Serving.{IsServed, is_typed}
 use Rattle.hx_model.specs.State.{namespace_id}
+use Rattle.hx_model.specs.Subnamespaces.{allows_cascade}
+use Rattle.hx_model.specs.Tree.{hierarchy_id, spec_parent}
 use Rattle.hx_model.specs.TreeLabels.{own_labels, tree_key, tree_labels_from, with_pairs}
 use Rattle.hx_model.specs.Wanted.{labelled, subnamespace, with_status_of}
 use Rattle.hx_rules.proofs.LabelNames.{label_length, label_value, tree_key_legal, tree_key_of_tree, depth_legal}
@@ -278,4 +284,69 @@ status_served status x served kind =
       };
       written = served.written;
       kept = record { labels = served.kept.labels; annotations = served.kept.annotations; payload = refl; typed = ap (λ k. is_typed k (Anchor (Some status))) kind };
+    }
+
+-- ---- reports
+
+-- what is reported counts for nothing in the size
+same_size : (children : List (List ℕ)) (conditions : List Condition) (kind : Kind) (p : Payload) → kind ≡ HierarchyConfiguration → IsPayloadOf kind p → specified_size (Hierarchy (spec_parent p) (allows_cascade p) children conditions) ≡ specified_size p
+same_size children conditions kind (Hierarchy parent cascade told known) e is = refl
+same_size children conditions kind (NamespaceOf terminating) e is = absurd (let h : HierarchyConfiguration ≡ Namespace = sym e ∙ is in cc)
+same_size children conditions kind (Anchor status) e is = absurd (let h : HierarchyConfiguration ≡ SubnamespaceAnchor = sym e ∙ is in cc)
+same_size children conditions kind (Config entries) e is = absurd (let h : HierarchyConfiguration ≡ HncConfiguration = sym e ∙ is in cc)
+same_size children conditions kind (Quota hard status) e is = absurd (let h : HierarchyConfiguration ≡ HierarchicalResourceQuota = sym e ∙ is.0 in cc)
+same_size children conditions kind (Plain members need) e is = absurd (true≢false (sym is.0 ∙ ap is_plain e))
+
+-- a parent that is given has a name
+named_still : (kind : Kind) (p : Payload) → kind ≡ HierarchyConfiguration → IsPayloadOf kind p → (spec_parent p ≡ Some []) → ⊥
+named_still kind (Hierarchy parent cascade told known) e is = is.1
+named_still kind (NamespaceOf terminating) e is = λ h. let g : None ≡ Some [] = h in cc
+named_still kind (Anchor status) e is = λ h. let g : None ≡ Some [] = h in cc
+named_still kind (Config entries) e is = λ h. let g : None ≡ Some [] = h in cc
+named_still kind (Quota hard status) e is = λ h. let g : None ≡ Some [] = h in cc
+named_still kind (Plain members need) e is = λ h. let g : None ≡ Some [] = h in cc
+
+pub report_served : (children : List (List ℕ)) (conditions : List Condition) (x : Object) → IsServed x → x.id.kind ≡ HierarchyConfiguration → IsServed (with_report children conditions x)
+report_served children conditions x served kind =
+    let none = no_fault x served.legal.sound in
+    let legal = label_parts x none.labels in
+    let y = with_report children conditions x in
+    record {
+      legal = record {
+        sound = no_new_fault x y (record { counted_same = refl; annotations = omega arith; specified = same_size children conditions x.id.kind x.payload kind served.legal.payload }) none.names (labels_from y legal.0 legal.1) served.legal.sound;
+        home = served.legal.home;
+        payload = (kind, named_still x.id.kind x.payload kind served.legal.payload);
+      };
+      written = served.written;
+      kept = record { labels = served.kept.labels; annotations = served.kept.annotations; payload = refl; typed = ap (λ k. is_typed k y.payload) kind };
+    }
+
+report_names : (n : List ℕ) → is_dns_label n ≡ true → has_legal_names (hierarchy_id n) ≡ true
+unfolding has_legal_names is_subdomain is_dns_part
+report_names n label = and_from (is_dns_label n) _ label refl
+
+bare_size : hierarchy_size None false ≡ 11
+unfolding hierarchy_size escape_byte
+bare_size = refl
+
+report_size : (n : List ℕ) (children : List (List ℕ)) (conditions : List Condition) → size_of (bare_report n children conditions) ≤ 100
+unfolding size_of
+report_size n children conditions = omega (arith, bare_size)
+
+pub bare_report_served : (n : List ℕ) (children : List (List ℕ)) (conditions : List Condition) → is_dns_label n ≡ true → IsServed (bare_report n children conditions)
+bare_report_served n children conditions label =
+    let y = bare_report n children conditions in
+    record {
+      legal = record {
+        sound = sound_of y (record {
+          names = report_names n label;
+          labels = labels_from y refl refl;
+          few = refl;
+          small = still_small greatest_size (size_of y) 100 (report_size n children conditions) refl;
+        });
+        home = λ inside. absurd (true≢false (sym inside));
+        payload = (refl, λ h. let g : None ≡ Some [] = h in cc);
+      };
+      written = refl;
+      kept = record { labels = refl; annotations = refl; payload = refl; typed = refl };
     }

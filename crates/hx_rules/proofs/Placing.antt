@@ -3,19 +3,27 @@
 --     put_where_new                what is put where it isn't there yet
 --     labels_stand, labels_differ  a namespace that has the prescribed labels isn't written;  one that hasn't is
 --     status_stands, status_differs  the same of an anchor and its status
-use Rattle.std.proofs.Common.{◌≡◌, ℕ, Bool, true, false, not, List, Option, Some, None, refl, sym, ap, ◌∙◌, true≢false}
+--     report_stands, report_differs  and of a HierarchyConfiguration and what it reports
+--     same_condition-Decides         the test of two conditions says whether they are one
+use Rattle.std.proofs.Common.{◌≡◌, ℕ, Bool, true, false, not, List, Option, Some, None, refl, sym, ap, ◌∙◌, subst, true≢false}
 use Rattle.std.specs.Bool.{Decides}
 use Rattle.std.specs.Cmp.{both_ways}
-use Rattle.hx_object.proofs.Sameness.{same_object_from}
+use Rattle.hx_object.proofs.Sameness.{exact_condition, same_object_from}
+use Rattle.hx_object.specs.contracts.object.ConditionPartialEq.TheImpl as condition_eq
 use Rattle.hx_object.specs.declared.object.AnchorStatus.{AnchorStatus}
+use Rattle.hx_object.specs.declared.object.Condition.{Condition}
+use Rattle.hx_object.specs.declared.object.Condition.TheVariants.{InCycle, ParentMissing, IllegalParent, Ancestor, AnchorMissing}
 use Rattle.hx_object.specs.declared.object.Id.{Id}
 use Rattle.hx_object.specs.declared.object.Object.{Object}
 use Rattle.hx_object.specs.declared.object.Payload.{Payload}
-use Rattle.hx_object.specs.declared.object.Payload.TheVariants.{Anchor}
+use Rattle.hx_object.specs.declared.object.Payload.TheVariants.{Anchor, Hierarchy}
 use Rattle.hx_model.specs.Answers.{same_object}
 use Rattle.hx_model.specs.First.{so}
 use Rattle.hx_model.specs.Propagation.{copy_of}
+use Rattle.hx_model.specs.Reports.{report_write, with_report}
 use Rattle.hx_model.specs.State.{with_version}
+use Rattle.hx_model.specs.Subnamespaces.{allows_cascade}
+use Rattle.hx_model.specs.Tree.{spec_parent}
 use Rattle.hx_model.specs.TreeLabels.{prescribed_labels}
 use Rattle.hx_model.specs.Wanted.{labelled, placed, with_status_of}
 use Rattle.hx_model.specs.declared.key.Write.TheVariants.{Put}
@@ -82,3 +90,32 @@ pub status_differs : (status : AnchorStatus) (x : Object) (id : Id) (labels anno
 status_differs status x id labels annotations p q r apart =
     (λ i. Some (Put (made (p i) (q i) (r i) (Anchor (Some status)))))
     ∙ put_where_new (with_status_of status x) (Some x) (differ (with_version x 0) (with_status_of status x) (λ e. apart (ap (λ (o : Object). o.payload) e)))
+
+-- what a HierarchyConfiguration holds that tells them, and gives what it gave
+abbrev pub telling : List (List ℕ) → List Condition → Payload → Payload
+telling children conditions p = Hierarchy (spec_parent p) (allows_cascade p) children conditions
+
+pub report_stands : (children : List (List ℕ)) (conditions : List Condition) (x : Object) (n : List ℕ) → x.payload ≡ telling children conditions x.payload → None ≡ report_write true (Some x) children conditions n
+report_stands children conditions x n same =
+    kept_where_placed (with_report children conditions x) (Some x) ((same_object-Decides (with_version x 0) (with_report children conditions x)).1 (λ i. made x.id x.labels x.annotations (same i)))
+
+pub report_differs : (children told : List (List ℕ)) (conditions known : List Condition) (parent : Option (List ℕ)) (cascade : Bool) (x : Object) (n : List ℕ) (id : Id) (labels annotations : List (List ℕ × List ℕ)) → id ≡ x.id → labels ≡ x.labels → annotations ≡ x.annotations
+    → parent ≡ spec_parent x.payload → cascade ≡ allows_cascade x.payload → told ≡ children → known ≡ conditions → (x.payload ≡ telling children conditions x.payload → ⊥)
+    → Some (Put (made id labels annotations (Hierarchy parent cascade told known))) ≡ report_write true (Some x) children conditions n
+report_differs children told conditions known parent cascade x n id labels annotations p q r u c t k apart =
+    (λ i. Some (Put (made (p i) (q i) (r i) (Hierarchy (u i) (c i) (t i) (k i)))))
+    ∙ put_where_new (with_report children conditions x) (Some x) (differ (with_version x 0) (with_report children conditions x) (λ e. apart (ap (λ (o : Object). o.payload) e)))
+
+-- the test of two conditions
+abbrev pub same_condition : Condition → Condition → Bool
+same_condition = (condition_eq.ghosts).eq
+
+condition_itself : (a : Condition) → same_condition a a ≡ true
+condition_itself InCycle = refl
+condition_itself ParentMissing = refl
+condition_itself IllegalParent = refl
+condition_itself Ancestor = refl
+condition_itself AnchorMissing = refl
+
+pub same_condition-Decides : (a b : Condition) → Decides (same_condition a b) (a ≡ b)
+same_condition-Decides a b = (exact_condition a b, (λ e. subst (λ (c : Condition). same_condition a c ≡ true) e (condition_itself a)))

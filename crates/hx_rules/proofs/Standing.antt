@@ -30,6 +30,7 @@ planned_is_wanted brief write is s valid stands = is.planned ∙ facts_want s br
 pub short_none : (facts : Facts) → IsShort facts None
 short_none (found.Copy ns takes_part place mode sources) = tt
 short_none (found.Tree ns takes_part chain) = tt
+short_none (found.Report takes hierarchy children conditions) = tt
 short_none (found.Child takes_part anchored excluded taken) = tt
 short_none (found.Anchor live anchor status) = tt
 short_none (found.Purge leaving least) = tt

@@ -2,6 +2,7 @@
 --     storable      an object that is put is served, and has no version
 use Rattle.std.proofs.Common.{◌≡◌, ℕ, ◌<◌, ◌^◌, Bool, true, false, cond, not, ◌||◌, List, [], ◌∷◌, ◌++◌, length, find, Option, None, Some, option_and_then, is_some, refl, sym, ap, ◌∙◌, subst, true≢false, bytes_eq}
 use Rattle.std.specs.List.{AllByRecursion}
+use Rattle.std.specs.Option.{option_map_or}
 use Rattle.std.proofs.lemmas.Bool.{and_parts}
 use Rattle.hx_object.specs.Faults.{has_legal_names, has_legal_namespace}
 use Rattle.hx_object.specs.Kinds.{can_be_copied}
@@ -9,6 +10,7 @@ use Rattle.hx_object.specs.Names.{is_dns_label, is_name_of}
 use Rattle.hx_object.specs.declared.kind.Kind.{Kind}
 use Rattle.hx_object.specs.declared.kind.Kind.TheVariants.{Namespace}
 use Rattle.hx_object.specs.declared.object.AnchorStatus.{AnchorStatus}
+use Rattle.hx_object.specs.declared.object.Condition.{Condition}
 use Rattle.hx_object.specs.declared.object.Id.{Id}
 use Rattle.hx_object.specs.declared.object.Mode.{Mode}
 use Rattle.hx_object.specs.declared.object.Mode.TheVariants.{Propagate, AllowPropagate, Remove, Ignore}
@@ -16,14 +18,16 @@ use Rattle.hx_object.specs.declared.object.Object.{Object}
 use Rattle.hx_model.specs.Answers.{same_object}
 use Rattle.hx_model.specs.Cases.{is_leaving}
 use Rattle.hx_model.specs.First.{so}
-use Rattle.hx_model.specs.Forest.{chain_of, is_in, is_live, tail_of}
+use Rattle.hx_model.specs.Forest.{chain_of, children_of, is_excluded, is_in, is_live, node_of, tail_of}
 use Rattle.hx_model.specs.Limits.{is_copy}
 use Rattle.hx_model.specs.Modes.{mode_of}
 use Rattle.hx_model.specs.Propagation.{as_list, copy_of, goes_to, id_in, is_source, source_at, sources_above, sources_along, top_of}
+use Rattle.hx_model.specs.Moves.{is_calm}
+use Rattle.hx_model.specs.Reports.{bare_report, conditions_of, is_telling, report_write, with_report}
 use Rattle.hx_model.specs.Serving.{IsServed}
 use Rattle.hx_model.specs.State.{State, Objects, namespace_id, object_at, with_version}
 use Rattle.hx_model.specs.Subnamespaces.{anchor_id}
-use Rattle.hx_model.specs.Tree.{forest_of}
+use Rattle.hx_model.specs.Tree.{forest_of, hierarchy_id}
 use Rattle.hx_model.specs.TreeLabels.{is_open}
 use Rattle.hx_model.specs.Valid.{IsStored}
 use Rattle.hx_model.specs.Wanted.{anchor_status, anchor_write, child_write, copied_in, copy_write, labelled, least_id, placed, purge_write, subnamespace, tree_write, with_status_of, without_copy}
@@ -31,6 +35,7 @@ use Rattle.hx_model.specs.declared.key.Key.{Key}
 use Rattle.hx_model.specs.declared.key.Key.TheVariants as key
 use Rattle.hx_model.specs.declared.key.Write.{Write}
 use Rattle.hx_model.specs.declared.key.Write.TheVariants.{Put, Cut}
+use Rattle.hx_model.specs.declared.node.Node.{Node}
 use Rattle.hx_model.proofs.Climbing.{same_itself}
 use Rattle.hx_model.proofs.Objects.{found_id}
 use Rattle.hx_model.proofs.Planting.{there-objects}
@@ -40,7 +45,7 @@ use Rattle.hx_rules.specs.Briefs.{IsPlanned, IsShort, IsStorable, IsStorableFor,
 use Rattle.hx_rules.specs.declared.brief.Brief.{Brief}
 use Rattle.hx_rules.specs.declared.brief.Facts.{Facts}
 use Rattle.hx_rules.specs.declared.brief.Facts.TheVariants as facts
-use Rattle.hx_rules.proofs.Legal.{AreLabels, copy_served, labelled_served, legal_names, status_served, subnamespace_served}
+use Rattle.hx_rules.proofs.Legal.{AreLabels, bare_report_served, copy_served, labelled_served, legal_names, report_served, status_served, subnamespace_served}
 
 -- ---- what a write puts
 
@@ -103,6 +108,13 @@ anchor_storable live status None served = tt
 anchor_storable false status (Some y) served = tt
 anchor_storable true status (Some y) served = placed_storable (with_status_of status y) (Some y) (served y refl) refl
 
+report_storable : (takes : Bool) (found : Option Object) (children : List (List ℕ)) (conditions : List Condition) (n : List ℕ) → ((y : Object) → found ≡ Some y → IsServed (with_report children conditions y)) → (takes ≡ true → IsServed (bare_report n children conditions))
+    → IsStorable (report_write takes found children conditions n)
+report_storable false None children conditions n served bare = tt
+report_storable false (Some y) children conditions n served bare = tt
+report_storable true None children conditions n served bare = elim (is_telling children conditions) as (λ b. IsStorable (so b (Put (bare_report n children conditions)))) [ true ↦ (bare refl, refl) | false ↦ tt ]
+report_storable true (Some y) children conditions n served bare = placed_storable (with_report children conditions y) (Some y) (served y refl) refl
+
 purge_storable : (leaves : Bool) (least : Option Id) (n : List ℕ) → IsStorable (purge_write leaves least n)
 purge_storable true least n = tt
 purge_storable false least n = tt
@@ -123,6 +135,17 @@ named_there objects n y all e =
 there_is : (o : Option Object) → is_some o ≡ true → (y : Object) × (o ≡ Some y)
 there_is (Some y) e = (y, refl)
 there_is None e = absurd (true≢false (sym e))
+
+-- so has one that takes reports
+calm_named : (s : State) (n : List ℕ) → AllByRecursion IsServed s.objects → is_calm (forest_of s) n ≡ true → is_dns_label n ≡ true
+calm_named s n all calm =
+    let live = (and_parts (is_live (forest_of s) n) (not (is_excluded (forest_of s) n)) calm).0 in
+    let found = there_is (object_at s.objects (namespace_id n)) (sym (there-objects s.config.excluded s.objects n all) ∙ live_there (node_of (forest_of s) n) live) in
+    named_there s.objects n found.0 all found.1
+  where
+    live_there : (o : Option Node) → option_map_or (λ (node : Node). not node.terminating) o false ≡ true → is_some o ≡ true
+    live_there (Some node) e = refl
+    live_there None e = absurd (true≢false (sym e))
 
 -- a subnamespace of an anchor that is there has legal names
 child_served : (objects : Objects) (n m : List ℕ) → AllByRecursion IsServed objects → is_some (object_at objects (anchor_id n m)) ≡ true → IsServed (subnamespace n m)
@@ -186,7 +209,11 @@ planned_storable s (key.Copy n kind name) found write all e short is =
     (sources_served s.objects kind name (tail_of (chain_of (forest_of s) n)) all))
 planned_storable s (key.Tree n) found write all e short is =
     planned_tree s n write all (subst (λ (f : Facts). IsShort f write) e short) (is ∙ ap (planned (key.Tree n)) e)
-planned_storable s (key.Report n) found write all e short is = subst IsStorable (sym (is ∙ ap (planned (key.Report n)) e)) tt
+planned_storable s (key.Report n) found write all e short is =
+    subst IsStorable (sym (is ∙ ap (planned (key.Report n)) e))
+    (report_storable (is_calm (forest_of s) n) (object_at s.objects (hierarchy_id n)) (children_of (forest_of s) n) (conditions_of s n) n
+    (λ y there. report_served (children_of (forest_of s) n) (conditions_of s n) y (All-found IsServed (hierarchy_id n) y s.objects all there) (sym (ap (λ (id : Id). id.kind) (found_id s.objects (hierarchy_id n) y there))))
+    (λ calm. bare_report_served n (children_of (forest_of s) n) (conditions_of s n) (calm_named s n all calm)))
 planned_storable s (key.Child n name) found write all e short is =
     subst IsStorable (sym (is ∙ ap (planned (key.Child n name)) e))
     (child_storable (is_open (forest_of s) n) (is_some (object_at s.objects (anchor_id n name))) (is_in name s.config.excluded) (is_some (object_at s.objects (namespace_id name))) n name (child_served s.objects n name all))

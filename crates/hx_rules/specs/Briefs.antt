@@ -11,14 +11,16 @@ use Rattle.std.specs.Prelude.{ℕ, ◌≡◌, ◌<◌, ◌^◌, Bool, false, len
 use Rattle.hx_object.specs.declared.object.Object.{Object}
 use Rattle.hx_model.specs.Answers.{same_object}
 use Rattle.hx_model.specs.Cases.{is_leaving}
-use Rattle.hx_model.specs.Forest.{chain_of, is_in, is_live}
+use Rattle.hx_model.specs.Forest.{chain_of, children_of, is_in, is_live}
 use Rattle.hx_model.specs.Hands.{Hand}
 use Rattle.hx_model.specs.Modes.{mode_of}
+use Rattle.hx_model.specs.Moves.{is_calm}
 use Rattle.hx_model.specs.Propagation.{id_in, sources_above}
+use Rattle.hx_model.specs.Reports.{conditions_of, report_write}
 use Rattle.hx_model.specs.Serving.{IsServed}
 use Rattle.hx_model.specs.State.{State, object_at, namespace_id, with_version}
 use Rattle.hx_model.specs.Subnamespaces.{anchor_id}
-use Rattle.hx_model.specs.Tree.{forest_of}
+use Rattle.hx_model.specs.Tree.{forest_of, hierarchy_id}
 use Rattle.hx_model.specs.TreeLabels.{is_open}
 use Rattle.hx_model.specs.Valid.{IsValid}
 use Rattle.hx_model.specs.Wanted.{anchor_status, anchor_write, child_write, copy_write, guards_of, least_id, purge_write, tree_write, wanted_write}
@@ -37,6 +39,7 @@ abbrev pub facts_of : State → Key → Facts
 facts_of s (key.Copy n kind name) =
     facts.Copy (object_at s.objects (namespace_id n)) (is_open (forest_of s) n) (object_at s.objects (id_in kind name n)) (mode_of s kind) (sources_above s n kind name)
 facts_of s (key.Tree n) = facts.Tree (object_at s.objects (namespace_id n)) (is_open (forest_of s) n) (chain_of (forest_of s) n)
+facts_of s (key.Report n) = facts.Report (is_calm (forest_of s) n) (object_at s.objects (hierarchy_id n)) (children_of (forest_of s) n) (conditions_of s n)
 facts_of s (key.Child n name) =
     facts.Child (is_open (forest_of s) n) (is_some (object_at s.objects (anchor_id n name))) (is_in name s.config.excluded) (is_some (object_at s.objects (namespace_id name)))
 facts_of s (key.Anchor n name) = facts.Anchor (is_live (forest_of s) n) (object_at s.objects (anchor_id n name)) (anchor_status s n name)
@@ -60,6 +63,7 @@ is_placed (Some old) x = same_object (with_version old 0) x
 abbrev pub planned : Key → Facts → Option Write
 planned (key.Copy n kind name) (facts.Copy ns takes_part place mode sources) = copy_write takes_part ns mode sources n place
 planned (key.Tree n) (facts.Tree ns takes_part chain) = tree_write takes_part chain ns
+planned (key.Report n) (facts.Report takes hierarchy children conditions) = report_write takes hierarchy children conditions n
 planned (key.Child n name) (facts.Child takes_part anchored excluded taken) = child_write takes_part anchored excluded taken n name
 planned (key.Anchor n name) (facts.Anchor live anchor status) = anchor_write live status anchor
 planned (key.Purge n) (facts.Purge leaving least) = purge_write leaving least n

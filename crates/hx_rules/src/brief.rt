@@ -2,7 +2,7 @@
 ghost use Rattle.std.specs.Prelude.{◌≡◌, IfOk};
 
 use hx_model::{Guard, Key};
-use hx_object::{AnchorStatus, Id, List, Mode, NoMemory, Shared, Text};
+use hx_object::{AnchorStatus, Condition, Id, List, Mode, NoMemory, Shared, Text};
 use std::alloc::Global;
 use std::marker::Model;
 use std::sync::Arc;
@@ -43,6 +43,17 @@ pub enum Facts {
         /// The namespace, its parent, the parent's parent and so on.
         chain: List<Text>,
     },
+    /// Of what is reported of a namespace.
+    Report {
+        /// Whether the namespace takes reports: it is there, not on its way out and not excluded.
+        is_calm: bool,
+        /// Its HierarchyConfiguration, where it has one.
+        hierarchy: Option<Shared>,
+        /// The namespaces that name it as their parent, in order.
+        children: List<Text>,
+        /// Why it is halted, and that it misses its anchor.
+        conditions: List<Condition>,
+    },
     /// Of the subnamespace that an anchor asks for.
     Child {
         /// Whether the namespace of the anchor takes part: it is there, not on its way out, not excluded and not halted.
@@ -70,7 +81,7 @@ pub enum Facts {
         /// The identity of the first object that lies in it.
         least: Option<Id>,
     },
-    /// Of the keys that want nothing yet: those of reports and of quotas.
+    /// Of the keys that want nothing yet: those of quotas.
     Unserved,
 }
 

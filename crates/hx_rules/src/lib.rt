@@ -9,6 +9,7 @@ mod exceptions;
 mod planned;
 mod planning;
 mod removals;
+mod reports;
 mod sources;
 mod subnamespaces;
 mod tree_labels;

@@ -6,6 +6,7 @@ ghost use Rattle.hx_rules.specs.Briefs.{IsShort, IsStorableFor, IsWanted, planne
 
 use crate::copies::wanted_copy;
 use crate::removals::next_to_go;
+use crate::reports::wanted_report;
 use crate::subnamespaces::{subnamespace, wanted_status};
 use crate::tree_labels::wanted_labels;
 use crate::{Brief, Facts, Plan, SharedBrief};
@@ -15,7 +16,7 @@ use std::alloc::Global;
 
 /// The plan of a brief. Where no memory is left, the brief comes back.
 ///
-/// The write is that of HNC's reconcilers (HNC user guide, concepts): in a namespace that takes part, a place of copies holds the copy of the farthest source that goes there, the namespace's labels tell its ancestors, and each anchor has its subnamespace. An anchor tells its status. Of a namespace that is on its way out, what lies in it goes object by object, and then the namespace.
+/// The write is that of HNC's reconcilers (HNC user guide, concepts): in a namespace that takes part, a place of copies holds the copy of the farthest source that goes there, the namespace's labels tell its ancestors, and each anchor has its subnamespace. An anchor tells its status, and a HierarchyConfiguration the children and the conditions of its namespace. Of a namespace that is on its way out, what lies in it goes object by object, and then the namespace.
 pub fn plan(alloc: Global, brief: SharedBrief) -> Result<Plan, SharedBrief>
     ensures brief { IfOk result (λ planned. planned.brief ≡ brief) }
     ensures planned { IfOk result (λ planned. planned.write ≡ planned_by brief) }
@@ -37,10 +38,11 @@ fn write_of(alloc: Global, brief: &Brief) -> Result<Option<Write>, NoMemory>
     match &brief.key {
         Key::Copy { ns, .. } => write_of_copy(alloc, ns, &brief.facts),
         Key::Tree { .. } => write_of_tree(alloc, &brief.facts),
+        Key::Report { ns } => write_of_report(alloc, ns, &brief.facts),
         Key::Child { ns, name } => write_of_child(alloc, ns, name, &brief.facts),
         Key::Anchor { .. } => write_of_anchor(&brief.facts),
         Key::Purge { ns } => write_of_purge(alloc, ns, &brief.facts),
-        Key::Report { .. } | Key::Used { .. } => Ok(None),
+        Key::Used { .. } => Ok(None),
     }
 }
 
@@ -79,6 +81,22 @@ fn write_of_tree(alloc: Global, facts: &Facts) -> Result<Option<Write>, NoMemory
             is_open,
             chain,
         } if *is_open => wanted_labels(alloc, chain.as_slice(), namespace.object()),
+        _ => Ok(None),
+    }
+}
+
+/// The write of what is reported of a namespace.
+fn write_of_report(alloc: Global, ns: &Text, facts: &Facts) -> Result<Option<Write>, NoMemory>
+    ensures planned { IfOk result (λ write. write ≡ planned (key.Report ns.now) facts.now) }
+    ensures short { IfOk result (λ write. IsShort facts.now write) }
+{
+    match facts {
+        Facts::Report {
+            is_calm: true,
+            hierarchy,
+            children,
+            conditions,
+        } => wanted_report(alloc, ns, hierarchy, children, conditions),
         _ => Ok(None),
     }
 }
