@@ -1,14 +1,15 @@
 -- What a function adds to a list, by what its calls add.
 --     grown           an equal list
 --     grown_on        something behind what another call adds
+--     carried         the next item of a loop, and those of the rest
 --     nothing         none
 --     none_sent       nothing is sent of a kind that isn't propagated
 --     no_kind_marks   where a kind is ignored and propagated as before, nothing is marked
 --     by_move         by which way a namespace moves
 use Rattle.std.specs.Prelude.{flat_map, OnOk}
-use Rattle.std.proofs.Common.{◌≡◌, ℕ, Bool, true, false, cond, not, ◌&&◌, Option, None, List, [], ◌∷◌, ◌++◌, filter, map, Result, Ok, Err, refl, sym, ap, ◌∙◌, append-nil, if◌then◌else◌}
+use Rattle.std.proofs.Common.{◌≡◌, ℕ, Bool, true, false, cond, not, ◌&&◌, Option, None, List, [], ◌∷◌, ◌++◌, ◌+◌, ◌<◌, length, get_or, drop, filter, map, Result, Ok, Err, refl, sym, ap, ◌∙◌, append-nil, if◌then◌else◌}
 use Rattle.std.proofs.lemmas.Bool.{and_parts}
-use Rattle.std.proofs.lemmas.List.{append_assoc}
+use Rattle.std.proofs.lemmas.List.{append_assoc, at_drop_more}
 use Rattle.hx_object.specs.declared.kind.Kind.{Kind}
 use Rattle.hx_object.specs.declared.object.Mode.{Mode}
 use Rattle.hx_object.specs.declared.object.Object.{Object}
@@ -32,6 +33,15 @@ grown (Err e) new old xs ys same h = tt
 pub grown_on : {A T E : Type 0} (r : Result T E) (new mid old xs ys zs : List A) → mid ≡ old ++ xs → xs ++ ys ≡ zs → OnOk r (new ≡ mid ++ ys) → OnOk r (new ≡ old ++ zs)
 grown_on (Ok x) new mid old xs ys zs first same h = h ∙ ap (λ all. all ++ ys) first ∙ append_assoc old xs ys ∙ ap (λ all. old ++ all) same
 grown_on (Err e) new mid old xs ys zs first same h = tt
+
+-- a loop adds what it has of the next item: with the rest it is the same
+pub carried : {A B : Type 0} (f : A → List B) (xs : List A) (i : ℕ) (x : A) (new mid start : List B) → i < length xs → x ≡ get_or xs i x → new ≡ mid ++ f x → mid ++ flat_map f (drop i xs) ≡ start → new ++ flat_map f (drop (i + 1) xs) ≡ start
+carried f xs i x new mid start within is added before =
+    let rest = flat_map f (drop (i + 1) xs) in
+    ap (λ ys. ys ++ rest) added
+    ∙ append_assoc mid (f x) rest
+    ∙ ap (λ ys. mid ++ ys) (sym (at_drop_more (flat_map f) xs i x within ∙ ap (λ y. f y ++ rest) (sym is)))
+    ∙ before
 
 pub nothing : {A : Type 0} (old xs : List A) → xs ≡ [] → old ≡ old ++ xs
 nothing old xs none = sym (append-nil old) ∙ ap (λ zs. old ++ zs) (sym none)

@@ -4,16 +4,20 @@
 --     all_one                    the marks of one write are those of the list of it
 --     stays_covered              where each marked key waits or was marked again, no work is forgotten
 --     stays_covered_but          the same where one key isn't marked, which wants nothing afterwards
-use Rattle.std.proofs.Common.{◌≡◌, Bool, true, false, not, Option, Some, None, List, [], ◌∷◌, ◌⊎◌, inl, inr, sym, refl, ap, ◌∙◌, subst}
+use Rattle.std.proofs.Common.{◌≡◌, ℕ, Bool, true, false, not, Option, Some, None, ◌&&◌, ◌||◌, List, [], ◌∷◌, ◌++◌, ◌⊎◌, inl, inr, sym, refl, ap, ◌∙◌, subst}
+use Rattle.std.specs.Prelude.{if◌then◌else◌}
+use Rattle.std.specs.Option.{option_map_or}
+use Rattle.std.specs.Str.{bytes_eq}
 use Rattle.std.proofs.lemmas.Bool.{and_parts, cases_Bool}
 use Rattle.std.proofs.lemmas.List.{append-nil}
 use Rattle.hx_object.specs.Kinds.{is_anchor, is_namespace, is_hierarchy}
 use Rattle.hx_object.specs.declared.object.Object.{Object}
 use Rattle.hx_model.specs.Covered.{IsCovered, IsSameFor}
+use Rattle.hx_model.specs.Forest.{is_in, parent_of}
 use Rattle.hx_model.specs.Hands.{Hand}
 use Rattle.hx_model.specs.Keys.{same_key, is_among, may_mark}
 use Rattle.hx_model.specs.State.{State, object_at, state_after}
-use Rattle.hx_model.specs.Tree.{is_terminating}
+use Rattle.hx_model.specs.Tree.{forest_of, is_terminating}
 use Rattle.hx_model.specs.Valid.{IsValid}
 use Rattle.hx_model.specs.Wanted.{wanted_write}
 use Rattle.hx_model.specs.Writes.{HasPlace, MayWriteAll, id_written}
@@ -21,7 +25,7 @@ use Rattle.hx_model.specs.declared.key.Key.{Key}
 use Rattle.hx_model.specs.declared.key.Write.{Write}
 use Rattle.hx_model.specs.declared.key.Write.TheVariants.{Put, Cut}
 use Rattle.hx_marks.specs.Halves.{IsRegular}
-use Rattle.hx_marks.specs.Law.{begins_to_end, is_modes, marks_of, all_marks}
+use Rattle.hx_marks.specs.Law.{begins_to_end, begins_by, is_modes, marks_of, ending_names, following_marks, marks_among, all_marks}
 use Rattle.hx_marks.proofs.Among.{same_key_is}
 use Rattle.hx_marks.proofs.AnchorLaw.{anchor_law, within_anchors}
 use Rattle.hx_marks.proofs.CreatedLaw.{created_law, within_created}
@@ -38,7 +42,29 @@ use Rattle.hx_marks.proofs.StayingCovered.{HaveTheirGuards, covered_next}
 
 -- the marks of one write
 pub all_one : (s : State) (write : Write) → all_marks s (write ∷ []) ≡ marks_of s write
-all_one s write = append-nil (marks_of s write)
+all_one s (Cut id) = append-nil (marks_of s (Cut id))
+all_one s (Put x) =
+    append-nil (marks_among s (ending_names (Put x ∷ [])) (Put x))
+    ∙ ap (λ b. if b then following_marks s x.id.name else marks_of s (Put x)) (never (begins_by (object_at s.objects x.id) (Some x)) (is_namespace x.id.kind) (alone x.id.name (is_namespace x.id.kind && is_terminating x.payload) (parent_of (forest_of s) x.id.name)))
+  where
+    never : (a b : Bool) {c : Bool} → c ≡ false → (a && (b && c)) ≡ false
+    never false b out = refl
+    never true false out = refl
+    never true true out = out
+
+    other : (same : Bool) → (not same && (same || false)) ≡ false
+    other true = refl
+    other false = refl
+
+    none : (b : Bool) → (b && false) ≡ false
+    none true = refl
+    none false = refl
+
+    -- a namespace that is the only one follows none
+    alone : (n : List ℕ) (b : Bool) (next : Option (List ℕ)) → option_map_or (λ p. not (bytes_eq p n) && is_in p ((if b then n ∷ [] else []) ++ [])) next false ≡ false
+    alone n b None = refl
+    alone n true (Some p) = other (bytes_eq p n)
+    alone n false (Some p) = none (not (bytes_eq p n))
 
 -- ---- a namespace
 

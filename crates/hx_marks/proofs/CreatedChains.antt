@@ -1,6 +1,9 @@
 -- Chains where a namespace is made: n isn't there in the forest f, is there in g, and all else is as before.
+--     there_same, parent_same, live_same, excluded_same   the node of another is as before
 --     made_chain_same       a chain without n is as before
+--     made_own_same         so are the reasons that its members have by themselves
 --     made_open_same        one whose chain doesn't have n takes part as before
+--     made_comes_to         whose chain has n is n, or had one that names n
 --     made_not_open         one whose chain has n didn't take part before
 --     made_members          who is in a chain after it was in it before, is n, or is above the parent of n
 --     made_tail             the same of the members behind the first one
@@ -16,7 +19,7 @@ use Rattle.hx_model.specs.declared.node.Node.{Node}
 use Rattle.hx_model.specs.declared.node.Halt.{Halt}
 use Rattle.hx_model.specs.declared.node.Halt.TheVariants.{InCycle, ParentMissing, IllegalParent}
 use Rattle.hx_model.specs.First.{so, first}
-use Rattle.hx_model.specs.Forest.{Forest, is_in, names_of, node_of, is_there, is_live, is_excluded, parent_of, chain_of, in_chain, own_halt_of, halt_of, tail_of, subtree_of}
+use Rattle.hx_model.specs.Forest.{Forest, is_in, names_of, node_of, is_there, is_live, is_excluded, parent_of, chain_of, in_chain, own_halt_of, halt_of, tail_of, subtree_of, is_child}
 use Rattle.hx_model.specs.Moves.{chain_from}
 use Rattle.hx_model.specs.TreeLabels.{is_open}
 use Rattle.hx_model.proofs.Climbing.{Climbs, at_top, stopped, onward, chain-Climbs, is_same, same_itself, Above, itself, through, chain_above, above_chain, chain_trans, kept, last_in_push, one_end}
@@ -24,11 +27,11 @@ use Rattle.hx_model.proofs.Conflicting.{tail_chain, head_out}
 use Rattle.hx_model.proofs.Opening.{chain_first, halts_by_members, not_live}
 use Rattle.hx_model.proofs.Parents.{is_in_filter}
 use Rattle.hx_model.proofs.Walking.{chain_there, chain_missing, names_have, passes_in}
-use Rattle.hx_marks.specs.Law.{is_child, below_created}
+use Rattle.hx_marks.specs.Law.{below_created}
 use Rattle.hx_marks.proofs.Wanting.{any_flat_map}
 
 -- the reasons that a has by itself, by what it names as its parent
-abbrev own_by : Forest → List ℕ → Option (List ℕ) → Option Halt
+abbrev pub own_by : Forest → List ℕ → Option (List ℕ) → Option Halt
 own_by f a next = first (
     so (option_map_or (λ p. in_chain f p a) next false) InCycle
     ∷ so (option_map_or (λ p. not (is_live f p)) next false) ParentMissing
@@ -36,7 +39,7 @@ own_by f a next = first (
     ∷ [])
 
 -- a parent that isn't there is a reason
-halted_by : (comes shut dead : Bool) → dead ≡ true → is_none (first (so comes InCycle ∷ so dead ParentMissing ∷ so shut IllegalParent ∷ [])) ≡ false
+pub halted_by : (comes shut dead : Bool) → dead ≡ true → is_none (first (so comes InCycle ∷ so dead ParentMissing ∷ so shut IllegalParent ∷ [])) ≡ false
 halted_by true shut dead e = refl
 halted_by false shut true e = refl
 halted_by false shut false e = absurd (true≢false (sym e))
@@ -60,7 +63,7 @@ not_all t a (x ∷ xs) mem fails = elim (or_cases (bytes_eq a x) (is_in a xs) me
     never false = refl
 
 -- a member that isn't the first one comes later
-in_rest : (a m : List ℕ) (xs : List (List ℕ)) → bytes_eq a m ≡ false → is_in a (m ∷ xs) ≡ true → is_in a xs ≡ true
+pub in_rest : (a m : List ℕ) (xs : List (List ℕ)) → bytes_eq a m ≡ false → is_in a (m ∷ xs) ≡ true → is_in a xs ≡ true
 in_rest a m xs apart mem = elim (or_cases (bytes_eq a m) (is_in a xs) mem) [ inl is ↦ absurd (true≢false (sym is ∙ apart)) | inr later ↦ later ]
 
 abbrev pub AboveOne : Forest → Option (List ℕ) → List ℕ → Type 0
@@ -78,16 +81,16 @@ pub record IsMade (f g : Forest) (n : List ℕ) : Type 0 where
   pub others : (m : List ℕ) → bytes_eq n m ≡ false → node_of g m ≡ node_of f m
 
 module _ (f g : Forest) (n : List ℕ) (is_made : IsMade f g n) where
-  there_same : (m : List ℕ) → bytes_eq n m ≡ false → is_there g m ≡ is_there f m
+  pub there_same : (m : List ℕ) → bytes_eq n m ≡ false → is_there g m ≡ is_there f m
   there_same m off = ap is_some (is_made.others m off)
 
-  parent_same : (m : List ℕ) → bytes_eq n m ≡ false → parent_of g m ≡ parent_of f m
+  pub parent_same : (m : List ℕ) → bytes_eq n m ≡ false → parent_of g m ≡ parent_of f m
   parent_same m off = ap (λ o. option_and_then (λ (node : Node). node.parent) o) (is_made.others m off)
 
-  live_same : (m : List ℕ) → bytes_eq n m ≡ false → is_live g m ≡ is_live f m
+  pub live_same : (m : List ℕ) → bytes_eq n m ≡ false → is_live g m ≡ is_live f m
   live_same m off = ap (λ o. option_map_or (λ (node : Node). not node.terminating) o false) (is_made.others m off)
 
-  excluded_same : (m : List ℕ) → bytes_eq n m ≡ false → is_excluded g m ≡ is_excluded f m
+  pub excluded_same : (m : List ℕ) → bytes_eq n m ≡ false → is_excluded g m ≡ is_excluded f m
   excluded_same m off = ap (λ o. option_map_or (λ (node : Node). node.excluded) o false) (is_made.others m off)
 
   -- n is in its own chain then
@@ -114,26 +117,26 @@ module _ (f g : Forest) (n : List ℕ) (is_made : IsMade f g n) where
   made_chain_same m out = one_end f [] (Some m) _ _ (as_before [] (Some m) (chain_of g m) (chain-Climbs g m) out) (chain-Climbs f m)
 
   -- a member of such a chain has the reasons that it had
-  own_same : (m a : List ℕ) → in_chain g m n ≡ false → is_in a (chain_of g m) ≡ true → is_none (own_halt_of g a) ≡ is_none (own_halt_of f a)
-  own_same m a out mem = by (parent_of g a) refl
+  pub made_own_same : (m a : List ℕ) → in_chain g m n ≡ false → is_in a (chain_of g m) ≡ true → own_halt_of g a ≡ own_halt_of f a
+  made_own_same m a out mem = by (parent_of g a) refl
     where
       off : bytes_eq n a ≡ false
       off = another a (false_from_ne_true (in_chain g a n) (λ h. true≢false (sym (chain_trans g m a n mem h) ∙ out)))
 
-      by : (next : Option (List ℕ)) → parent_of g a ≡ next → is_none (own_halt_of g a) ≡ is_none (own_halt_of f a)
-      by None is = ap (λ o. is_none (own_by g a o)) is ∙ sym (ap (λ o. is_none (own_by f a o)) (sym (parent_same a off) ∙ is))
+      by : (next : Option (List ℕ)) → parent_of g a ≡ next → own_halt_of g a ≡ own_halt_of f a
+      by None is = ap (λ o. own_by g a o) is ∙ sym (ap (λ o. own_by f a o) (sym (parent_same a off) ∙ is))
       by (Some q) is =
           let above : in_chain g q n ≡ false = false_from_ne_true (in_chain g q n) (λ h. true≢false (sym (chain_trans g m a n mem (above_chain g a n (through ((chain_there g m).there a mem) is (chain_above g q n h)))) ∙ out)) in
-          ap (λ o. is_none (own_by g a o)) is
-          ∙ (λ i. is_none (first (so (is_in a (made_chain_same q above i)) InCycle ∷ so (not (live_same q (another q above) i)) ParentMissing ∷ so (excluded_same q (another q above) i) IllegalParent ∷ [])))
-          ∙ sym (ap (λ o. is_none (own_by f a o)) (sym (parent_same a off) ∙ is))
+          ap (λ o. own_by g a o) is
+          ∙ (λ i. first (so (is_in a (made_chain_same q above i)) InCycle ∷ so (not (live_same q (another q above) i)) ParentMissing ∷ so (excluded_same q (another q above) i) IllegalParent ∷ []))
+          ∙ sym (ap (λ o. own_by f a o) (sym (parent_same a off) ∙ is))
 
   pub made_open_same : (m : List ℕ) → in_chain g m n ≡ false → is_open g m ≡ is_open f m
   made_open_same m out = elim (cases_Bool (is_there g m)) [
     | inl there ↦
         let same : is_none (halt_of g m) ≡ is_none (halt_of f m) =
         halts_by_members g m there
-        ∙ alike_all (λ a. is_none (own_halt_of g a)) (λ a. is_none (own_halt_of f a)) (chain_of g m) (λ a mem. own_same m a out mem)
+        ∙ alike_all (λ a. is_none (own_halt_of g a)) (λ a. is_none (own_halt_of f a)) (chain_of g m) (λ a mem. ap (λ o. is_none o) (made_own_same m a out mem))
         ∙ ap (list_all (λ a. is_none (own_halt_of f a))) (made_chain_same m out)
         ∙ sym (halts_by_members f m (sym (there_same m (another m out)) ∙ there)) in
         (λ i. live_same m (another m out) i && (not (excluded_same m (another m out) i) && same i))
@@ -145,14 +148,14 @@ module _ (f g : Forest) (n : List ℕ) (is_made : IsMade f g n) where
   -- ---- chains that have n
 
   -- the last one before n named it as its parent
-  comes_to : (m : List ℕ) → Above g m n → (m ≡ n) ⊎ ((q : List ℕ) × Above f m q × (parent_of f q ≡ Some n))
-  comes_to m (itself there) = inl refl
-  comes_to m (through {p = p} there is rest) = elim (cases_Bool (bytes_eq n m)) [
+  pub made_comes_to : (m : List ℕ) → Above g m n → (m ≡ n) ⊎ ((q : List ℕ) × Above f m q × (parent_of f q ≡ Some n))
+  made_comes_to m (itself there) = inl refl
+  made_comes_to m (through {p = p} there is rest) = elim (cases_Bool (bytes_eq n m)) [
     | inl same ↦ inl (sym (is_same n m same))
     | inr off ↦
         let here : is_there f m ≡ true = sym (there_same m off) ∙ there in
         let named : parent_of f m ≡ Some p = sym (parent_same m off) ∙ is in
-        elim (comes_to p rest) [
+        elim (made_comes_to p rest) [
           | inl at ↦ inr (m, itself here, named ∙ ap (λ (q : List ℕ). Some q) at)
           | inr (q, above, names) ↦ inr (q, through here named above, names)
         ]
@@ -160,7 +163,7 @@ module _ (f g : Forest) (n : List ℕ) (is_made : IsMade f g n) where
 
   -- it didn't take part: it wasn't there, or one of its chain named n
   pub made_not_open : (m : List ℕ) → in_chain g m n ≡ true → is_open f m ≡ false
-  made_not_open m has = elim (comes_to m (chain_above g m n has)) [
+  made_not_open m has = elim (made_comes_to m (chain_above g m n has)) [
     | inl is ↦ ap (λ b. b && (not (is_excluded f m) && is_none (halt_of f m))) (not_live f m (ap (is_there f) is ∙ is_made.absent))
     | inr (q, above, names) ↦
         let there : is_there f m ≡ true = first_there m q above in
@@ -181,7 +184,7 @@ module _ (f g : Forest) (n : List ℕ) (is_made : IsMade f g n) where
 
   -- it is n, or lies below one that names n
   pub made_below : (m : List ℕ) → in_chain g m n ≡ true → is_in m (below_created f n) ≡ true
-  made_below m has = elim (comes_to m (chain_above g m n has)) [
+  made_below m has = elim (made_comes_to m (chain_above g m n has)) [
     | inl is ↦ or_left (bytes_eq m n) _ (subst (λ (q : List ℕ). bytes_eq m q ≡ true) is (same_itself m))
     | inr (q, above, names) ↦
         or_right (bytes_eq m n) _ (any_flat_map (bytes_eq m) (subtree_of f) (filter (is_child f n) (names_of f))
@@ -207,12 +210,12 @@ module _ (f g : Forest) (n : List ℕ) (is_made : IsMade f g n) where
 
   -- ---- who is in such a chain
 
-  who : (m a : List ℕ) → Above g m a → (a ≡ n) ⊎ Above f m a ⊎ AboveOne f (parent_of g n) a
-  who m a (itself there) = elim (cases_Bool (bytes_eq n m)) [
+  pub made_members : (m a : List ℕ) → Above g m a → (a ≡ n) ⊎ Above f m a ⊎ AboveOne f (parent_of g n) a
+  made_members m a (itself there) = elim (cases_Bool (bytes_eq n m)) [
     | inl same ↦ inl (sym (is_same n m same))
     | inr off ↦ inr (inl (itself (sym (there_same m off) ∙ there)))
   ]
-  who m a (through {p = p} there is rest) = elim (who p a rest) [
+  made_members m a (through {p = p} there is rest) = elim (made_members p a rest) [
     | inl at ↦ inl at
     | inr (inr far) ↦ inr (inr far)
     | inr (inl near) ↦ elim (cases_Bool (bytes_eq n m)) [
@@ -224,7 +227,7 @@ module _ (f g : Forest) (n : List ℕ) (is_made : IsMade f g n) where
   whole : (m a : List ℕ) → Above g m a → is_in a (chain_of f m ++ n ∷ chain_from f (parent_of g n)) ≡ true
   whole m a above =
       list_any-append (bytes_eq a) (chain_of f m) (n ∷ chain_from f (parent_of g n))
-      ∙ elim (who m a above) [
+      ∙ elim (made_members m a above) [
         | inl at ↦ or_right (is_in a (chain_of f m)) _ (or_left (bytes_eq a n) _ (subst (λ (q : List ℕ). bytes_eq a q ≡ true) at (same_itself a)))
         | inr (inl near) ↦ or_left (is_in a (chain_of f m)) _ (above_chain f m a near)
         | inr (inr far) ↦ or_right (is_in a (chain_of f m)) _ (or_right (bytes_eq a n) _ (in_from f (parent_of g n) a far))

@@ -15,14 +15,14 @@ use Rattle.hx_object.specs.declared.object.Object.{Object}
 use Rattle.hx_object.proofs.KindTests.{namespace_kind}
 use Rattle.hx_model.specs.Cases.{is_leaving}
 use Rattle.hx_model.specs.Covered.{IsSameFor}
-use Rattle.hx_model.specs.Forest.{Forest, is_in, names_of, is_there, parent_of, chain_of, in_chain, subtree_of}
+use Rattle.hx_model.specs.Forest.{Forest, is_in, names_of, is_there, parent_of, chain_of, in_chain, subtree_of, is_child}
 use Rattle.hx_model.specs.Keys.{is_among, has_named, is_name, is_key, touches, may_mark}
 use Rattle.hx_model.specs.Modes.{config_id}
 use Rattle.hx_model.specs.Moves.{chain_from}
 use Rattle.hx_model.specs.Serving.{IsServed}
 use Rattle.hx_model.specs.State.{State, object_at, same_id, state_after, namespace_id, has_home}
 use Rattle.hx_model.specs.Subnamespaces.{anchor_id}
-use Rattle.hx_model.specs.Tree.{forest_of, node_in}
+use Rattle.hx_model.specs.Tree.{forest_of, hierarchy_id, node_in}
 use Rattle.hx_model.specs.TreeLabels.{is_open}
 use Rattle.hx_model.specs.Valid.{IsValid}
 use Rattle.hx_model.specs.Wanted.{wanted_copy, wanted_child}
@@ -39,15 +39,17 @@ use Rattle.hx_model.proofs.Parents.{is_in_filter}
 use Rattle.hx_model.proofs.Planting.{namespace_is_homed, node_of-objects}
 use Rattle.hx_model.proofs.Storing.{All-put, All-found}
 use Rattle.hx_model.proofs.Walking.{names_have}
-use Rattle.hx_marks.specs.Law.{all_of, asking_keys, below_created, is_child, created_marks, marks_of, namespace_marks}
+use Rattle.hx_marks.specs.Law.{all_of, asking_keys, below_created, created_marks, marks_by, marks_of, namespace_marks, namespace_reports, report_marks}
+use Rattle.hx_marks.specs.Reports.{created_reports}
 use Rattle.hx_marks.proofs.Among.{same_key_is, among_append, among_flat_map, found_object, passing_object, found_name, passing_name, out_left, out_right}
 use Rattle.hx_marks.proofs.Asking.{asking_known, anchor_key, child_of_anchor, status_of_anchor}
 use Rattle.hx_marks.proofs.CreatedChains.{made_not_open, made_below, made_tail}
+use Rattle.hx_marks.proofs.CreatedReports.{report_made, reports_within}
 use Rattle.hx_marks.proofs.Frames.{none_in_both, closed_wants, shut_child, put_least}
 use Rattle.hx_marks.proofs.Growing.{wants_grow, wants_put}
 use Rattle.hx_marks.proofs.Keeping.{without_child, without_status, staying_both}
 use Rattle.hx_marks.proofs.MoveStates.{none_from}
-use Rattle.hx_marks.proofs.OneMore.{HasOneMore, one_more, lies_nowhere, apart_copy, apart_tree, apart_child, apart_status, apart_purge, unasked}
+use Rattle.hx_marks.proofs.OneMore.{HasOneMore, one_more, lies_nowhere, keeps_put, apart_copy, apart_tree, apart_child, apart_status, apart_purge, unasked}
 use Rattle.hx_marks.proofs.Replacing.{valid_served}
 use Rattle.hx_marks.proofs.Wanting.{any_flat_map, wants_known, child_known, child_among, all_tree, all_wants, all_children, all_parts}
 use Rattle.hx_marks.proofs.Within.{wants_named, child_key}
@@ -89,17 +91,25 @@ module _ (s : State) (x : Object) (valid : IsValid s) (may : MayPut s x) (is : i
 
   -- the state has one namespace more
   more : HasOneMore s t n
-  more = one_more s t n served served_then refl other_kind other_name (ap is_some absent_there) (ap is_some found_there) (λ m. put_least x s.objects m (lies_nowhere m x.id is))
+  more = one_more s t n served served_then refl other_kind other_name (ap is_some absent_there) (ap is_some found_there) (λ m. put_least x s.objects m (lies_nowhere m x.id is)) (keeps_put s.config.excluded x s.objects)
 
-  -- nothing lay in it
-  bare : (name : List ℕ) → object_at s.objects (anchor_id n name) ≡ None
-  bare name = by (object_at s.objects (anchor_id n name)) refl
+  -- what is found has a home
+  homed : (q : Id) (y : Object) → object_at s.objects q ≡ Some y → has_home s.objects q ≡ true
+  homed q y e = subst (λ (p : Id). has_home s.objects p ≡ true) (sym (found_id s.objects q y e)) (All-found (λ (z : Object). has_home s.objects z.id ≡ true) q y s.objects valid.housed e)
+
+  -- so nothing lay in it
+  nothing_at : (q : Id) → ((y : Object) → object_at s.objects q ≡ Some y → is_some (object_at s.objects (namespace_id n)) ≡ true) → object_at s.objects q ≡ None
+  nothing_at q there = by (object_at s.objects q) refl
     where
-      by : (o : Option Object) → object_at s.objects (anchor_id n name) ≡ o → o ≡ None
+      by : (o : Option Object) → object_at s.objects q ≡ o → o ≡ None
       by None e = refl
-      by (Some y) e =
-          let housed : has_home s.objects y.id ≡ true = All-found (λ (z : Object). has_home s.objects z.id ≡ true) (anchor_id n name) y s.objects valid.housed e in
-          absurd (true≢false (sym (subst (λ (q : Id). has_home s.objects q ≡ true) (sym (found_id s.objects (anchor_id n name) y e)) housed) ∙ ap is_some absent_there))
+      by (Some y) e = absurd (true≢false (sym (there y e) ∙ ap is_some absent_there))
+
+  bare : (name : List ℕ) → object_at s.objects (anchor_id n name) ≡ None
+  bare name = nothing_at (anchor_id n name) (homed (anchor_id n name))
+
+  untold : object_at s.objects (hierarchy_id n) ≡ None
+  untold = nothing_at (hierarchy_id n) (homed (hierarchy_id n))
 
   -- and it isn't on its way out, before or then
   never_leaves : is_leaving f n ≡ false
@@ -134,43 +144,52 @@ module _ (s : State) (x : Object) (valid : IsValid s) (may : MayPut s x) (is : i
       let known = child_known (is_open g m) (object_at t.objects (anchor_id m name)) (is_in name s.config.excluded) (is_some (object_at t.objects (namespace_id name))) m name wants in
       marked m (key.Child m name) has (all_children s.objects (whole m) m (key.Child m name) (child_among s.objects m name known.1 (sym (other_kind (anchor_id m name) refl) ∙ known.2)))
 
-  by_made : (k : Key) → is_among k opened ≡ false → is_among k (asking_keys s.objects n) ≡ false → IsSameFor s t k
-  by_made (key.Copy m kind name) out unnamed = elim (cases_Bool (in_chain g m n)) [
+  abbrev reports : List Key
+  reports = created_reports f n (parent_of g n)
+
+  by_made : (k : Key) → is_among k opened ≡ false → is_among k (asking_keys s.objects n) ≡ false → is_among k reports ≡ false → IsSameFor s t k
+  by_made (key.Copy m kind name) out unnamed untouched = elim (cases_Bool (in_chain g m n)) [
     | inl has ↦ none_in_both s t (key.Copy m kind name) (closed_wants s m kind name (made_not_open f g n more.made m has)) (none_from (wanted_copy t m kind name) (λ wants. true≢false (sym (copy_marked m kind name has wants) ∙ out)))
     | inr hasnt ↦ apart_copy s t n more m kind name hasnt
   ]
-  by_made (key.Tree m) out unnamed = elim (cases_Bool (in_chain g m n)) [
+  by_made (key.Tree m) out unnamed untouched = elim (cases_Bool (in_chain g m n)) [
     | inl has ↦ absurd (true≢false (sym (marked m (key.Tree m) has (all_tree s.objects (whole m) m)) ∙ out))
     | inr hasnt ↦ apart_tree s t n more m hasnt
   ]
-  by_made (key.Report m) out unnamed = none_in_both s t (key.Report m) refl refl
-  by_made (key.Child m name) out unnamed = elim (cases_Bool (in_chain g m n)) [
+  by_made (key.Report m) out unnamed untouched = report_made s t n more untold served_then m untouched
+  by_made (key.Child m name) out unnamed untouched = elim (cases_Bool (in_chain g m n)) [
     | inl has ↦ none_in_both s t (key.Child m name) (shut_child s m name (made_not_open f g n more.made m has)) (none_from (wanted_child t m name) (λ wants. true≢false (sym (child_marked m name has wants) ∙ out)))
     | inr hasnt ↦ elim (cases_Bool (bytes_eq n name)) [
       | inl same ↦ let none = unasked s.objects n m name (key.Child m name) (child_of_anchor m name) unnamed same in without_child s t m name none (other_kind (anchor_id m name) refl ∙ none)
       | inr off ↦ apart_child s t n more m name hasnt off
     ]
   ]
-  by_made (key.Anchor m name) out unnamed = elim (cases_Bool (bytes_eq n m)) [
+  by_made (key.Anchor m name) out unnamed untouched = elim (cases_Bool (bytes_eq n m)) [
     | inl here ↦ let none = ap (λ (q : List ℕ). object_at s.objects (anchor_id q name)) (sym (is_same n m here)) ∙ bare name in without_status s t m name none (other_kind (anchor_id m name) refl ∙ none)
     | inr off ↦ elim (cases_Bool (bytes_eq n name)) [
       | inl same ↦ let none = unasked s.objects n m name (key.Anchor m name) (status_of_anchor m name) unnamed same in without_status s t m name none (other_kind (anchor_id m name) refl ∙ none)
       | inr other ↦ apart_status s t n more m name off other
     ]
   ]
-  by_made (key.Used m name) out unnamed = none_in_both s t (key.Used m name) refl refl
-  by_made (key.Purge m) out unnamed = elim (cases_Bool (bytes_eq n m)) [
+  by_made (key.Used m name) out unnamed untouched = none_in_both s t (key.Used m name) refl refl
+  by_made (key.Purge m) out unnamed untouched = elim (cases_Bool (bytes_eq n m)) [
     | inl here ↦ subst (λ (q : List ℕ). IsSameFor s t (key.Purge q)) (is_same n m here) (staying_both s t n never_leaves stays)
     | inr off ↦ apart_purge s t n more m off
   ]
 
+  taken : (b : Bool) (u v : List Key) → b ≡ true → (if b then u else v) ≡ u
+  taken true u v e = refl
+  taken false u v e = absurd (true≢false (sym e))
+
   -- what is marked
-  marks_are : marks_of s (Put x) ≡ created_marks s n (parent_of g n)
-  marks_are = taken (is_namespace x.id.kind) (namespace_marks s t n (object_at s.objects x.id) (Some x)) _ is ∙ ap (λ o. namespace_marks s t n o (Some x)) absent
+  marks_are : marks_of s (Put x) ≡ created_marks s n (parent_of g n) ++ reports
+  marks_are = λ i. keys i ++ told i
     where
-      taken : (b : Bool) (u v : List Key) → b ≡ true → (if b then u else v) ≡ u
-      taken true u v e = refl
-      taken false u v e = absurd (true≢false (sym e))
+      keys : marks_by s t x.id (object_at s.objects x.id) (Some x) ≡ created_marks s n (parent_of g n)
+      keys = taken (is_namespace x.id.kind) (namespace_marks s t n (object_at s.objects x.id) (Some x)) _ is ∙ ap (λ o. namespace_marks s t n o (Some x)) absent
+
+      told : report_marks s t x.id (object_at s.objects x.id) (Some x) ≡ reports
+      told = taken (is_namespace x.id.kind) (namespace_reports s t n (object_at s.objects x.id) (Some x)) _ is ∙ ap (λ o. namespace_reports s t n o (Some x)) absent
 
   -- ---- keys of the two states
 
@@ -218,8 +237,14 @@ module _ (s : State) (x : Object) (valid : IsValid s) (may : MayPut s x) (is : i
     | inr asks ↦ let found = asking_known s.objects n k valid.in_order asks in or_left (is_key s k) (is_key t k) (anchor_key s found.0 n found.1 k found.2 found.3)
   ]
 
+  all_within : (k : Key) → is_among k (created_marks s n (parent_of g n) ++ reports) ≡ true → (is_key s k || is_key t k) ≡ true
+  all_within k mem = elim (or_cases (is_among k (created_marks s n (parent_of g n))) (is_among k reports) (sym (among_append k (created_marks s n (parent_of g n)) reports) ∙ mem)) [
+    | inl below ↦ made_within k below
+    | inr told ↦ reports_within s t n more k told
+  ]
+
   marked_within : (k : Key) → is_among k (marks_of s (Put x)) ≡ true → may_mark s (Put x ∷ []) k ≡ true
-  marked_within k mem = not_plain (is_plain x.id.kind) (touches s x.id k) (ap is_plain (namespace_kind x.id.kind is)) (made_within k (ap (is_among k) (sym marks_are) ∙ mem))
+  marked_within k mem = not_plain (is_plain x.id.kind) (touches s x.id k) (ap is_plain (namespace_kind x.id.kind is)) (all_within k (ap (is_among k) (sym marks_are) ∙ mem))
     where
       not_plain : (b u : Bool) {v : Bool} → b ≡ false → v ≡ true → (if b then u else v) ≡ true
       not_plain true u e h = absurd (true≢false e)
@@ -227,8 +252,12 @@ module _ (s : State) (x : Object) (valid : IsValid s) (may : MayPut s x) (is : i
 
   put_law : (k : Key) → is_among k (marks_of s (Put x)) ≡ false → IsSameFor s t k
   put_law k out =
-      let none = sym (among_append k opened (asking_keys s.objects n)) ∙ ap (is_among k) (sym marks_are) ∙ out in
-      by_made k (out_left (is_among k opened) (is_among k (asking_keys s.objects n)) none) (out_right (is_among k opened) (is_among k (asking_keys s.objects n)) none)
+      let none = sym (among_append k (created_marks s n (parent_of g n)) reports) ∙ ap (is_among k) (sym marks_are) ∙ out in
+      let unmarked = sym (among_append k opened (asking_keys s.objects n)) ∙ out_left (is_among k (created_marks s n (parent_of g n))) (is_among k reports) none in
+      by_made k
+      (out_left (is_among k opened) (is_among k (asking_keys s.objects n)) unmarked)
+      (out_right (is_among k opened) (is_among k (asking_keys s.objects n)) unmarked)
+      (out_right (is_among k (created_marks s n (parent_of g n))) (is_among k reports) none)
 
 cut_there : (s : State) (id : Id) → MayWriteAll s (Cut id ∷ []) → object_at s.objects id ≡ None → ⊥
 cut_there s id may absent = true≢false (ap is_some (sym may.each.0.there.1 ∙ absent))

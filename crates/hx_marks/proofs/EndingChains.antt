@@ -1,4 +1,5 @@
 -- Trees of which more is on its way out: the names, the parents and what is excluded stay, and only fewer are live.
+--     own_by           the reasons of a namespace by itself, by what it names as its parent
 --     quiet_chain      chains stay
 --     quiet_above      of one that takes part all of its chain are live
 --     quiet_or         a member of a chain isn't live any more, or who takes part stays
@@ -22,7 +23,7 @@ use Rattle.hx_marks.proofs.OpenBelow.{in_own_chain}
 use Rattle.hx_marks.proofs.TakingPart.{open_under}
 
 -- the reasons that a has by itself, by what it names as its parent
-abbrev own_by : Forest → List ℕ → Option (List ℕ) → Option Halt
+abbrev pub own_by : Forest → List ℕ → Option (List ℕ) → Option Halt
 own_by f a next = first (
     so (option_map_or (λ p. in_chain f p a) next false) InCycle
     ∷ so (option_map_or (λ p. not (is_live f p)) next false) ParentMissing

@@ -2,7 +2,7 @@
 --     leaving_law, ending_law          a key that isn't marked wants what it wanted
 --     within_leaving, within_ending    only keys of the state are marked
 use Rattle.std.proofs.Common.{◌≡◌, ℕ, Bool, true, false, not, ◌||◌, Option, Some, None, option_map, List, [], ◌∷◌, ◌++◌, ◌⊎◌, refl, sym, ap, ◌∙◌, subst, inl, inr, true≢false}
-use Rattle.std.specs.Prelude.{is_some, flat_map, option_and_then, if◌then◌else◌}
+use Rattle.std.specs.Prelude.{◌&&◌, is_some, is_none, flat_map, option_and_then, if◌then◌else◌}
 use Rattle.std.specs.List.{AllByRecursion}
 use Rattle.std.specs.Option.{option_map_or}
 use Rattle.std.proofs.lemmas.Bool.{or_cases, or_left, or_right, cases_Bool, false_from_ne_true}
@@ -16,14 +16,16 @@ use Rattle.hx_object.specs.declared.object.AnchorStatus.TheVariants.{Ok, Conflic
 use Rattle.hx_model.specs.Cases.{is_leaving, same_name}
 use Rattle.hx_model.specs.Covered.{IsSameFor}
 use Rattle.hx_model.specs.First.{or_else}
-use Rattle.hx_model.specs.Forest.{Forest, is_in, node_of, is_there, is_live, chain_of, in_chain}
+use Rattle.hx_model.specs.Forest.{Forest, is_in, node_of, is_there, is_live, is_excluded, parent_of, chain_of, in_chain, halt_of}
 use Rattle.hx_model.specs.Keys.{is_among, has_named, is_key, may_mark}
 use Rattle.hx_model.specs.Modes.{config_id}
+use Rattle.hx_model.specs.Moves.{is_calm}
 use Rattle.hx_model.specs.Propagation.{id_in}
+use Rattle.hx_model.specs.Reports.{misses_anchor, conditions_by}
 use Rattle.hx_model.specs.Serving.{IsServed}
-use Rattle.hx_model.specs.State.{State, object_at, namespace_id, state_after}
+use Rattle.hx_model.specs.State.{State, Objects, ascends, object_at, namespace_id, state_after}
 use Rattle.hx_model.specs.Subnamespaces.{anchor_id}
-use Rattle.hx_model.specs.Tree.{forest_of, hierarchy_id, is_terminating, named_parent, node_in, parent_with}
+use Rattle.hx_model.specs.Tree.{forest_of, hierarchy_id, is_terminating, named_parent, node_in, parent_with, subnamespace_parent}
 use Rattle.hx_model.specs.TreeLabels.{is_open}
 use Rattle.hx_model.specs.Valid.{IsValid}
 use Rattle.hx_model.specs.Wanted.{wanted_copy, wanted_child, status_by, anchor_status}
@@ -33,23 +35,30 @@ use Rattle.hx_model.specs.declared.key.Key.TheVariants as key
 use Rattle.hx_model.specs.declared.key.Write.{Write}
 use Rattle.hx_model.specs.declared.key.Write.TheVariants.{Put, Cut}
 use Rattle.hx_model.specs.declared.node.Node.{Node}
+use Rattle.hx_model.proofs.Climbing.{chain_trans}
 use Rattle.hx_model.proofs.Objects.{found_id}
 use Rattle.hx_model.proofs.Planting.{node_of-objects, there-objects, namespace_is_homed}
 use Rattle.hx_marks.specs.Halves.{IsEndingWrite}
-use Rattle.hx_marks.specs.Law.{all_of, status_keys, anchor_keys, leaving_keys, open_below, ending_marks, marks_of, all_marks}
+use Rattle.hx_marks.specs.Law.{all_of, status_keys, anchor_keys, leaving_keys, open_below, ending_marks, marks_of, ending_names, marks_among, all_marks}
+use Rattle.hx_marks.specs.Reports.{ending_reports, anchored_reports}
 use Rattle.hx_marks.proofs.Among.{among_append, among_flat_map, among_here, found_name, passing_name}
 use Rattle.hx_marks.proofs.Asking.{is_anchor_place, copied_no_anchor, anchor_key, child_of_anchor, status_of_anchor, leaving_among}
 use Rattle.hx_marks.proofs.EndingChains.{IsQuieter, quiet_chain, quiet_above, quiet_or}
-use Rattle.hx_marks.proofs.EndingWrites.{IsLeavingWrite, HasBegun, HasEnded, has_ended, put_marks, cut_marks, all_leave}
+use Rattle.hx_marks.proofs.EndingHalting.{own_same, halt_same, forest_ascends, children_stay}
+use Rattle.hx_marks.proofs.EndingReports.{near_reports, near_own, near_child, ending_open, anchored_own, ending_reports_key, anchored_key}
+use Rattle.hx_marks.proofs.EndingWrites.{IsLeavingWrite, AreMarked, HasBegun, HasEnded, has_ended, put_marks, cut_marks, among_within, all_leave}
 use Rattle.hx_marks.proofs.Frames.{none_in_both, closed_wants, shut_child}
 use Rattle.hx_marks.proofs.Keeping.{Stands, closed_labels, kept_copy, kept_tree, kept_child, kept_anchor, kept_purge, without_status, staying_both}
+use Rattle.hx_marks.proofs.MoveChains.{open_above}
 use Rattle.hx_marks.proofs.MoveStates.{none_from}
 use Rattle.hx_marks.proofs.OpenBelow.{open_is_there, in_own_chain, in_open_below, open_below_has}
 use Rattle.hx_marks.proofs.Replacing.{valid_served, copied_leaf}
+use Rattle.hx_marks.proofs.Reporting.{same_report, silent_report}
+use Rattle.hx_marks.proofs.Topmost.{topmost}
 use Rattle.hx_marks.proofs.Wanting.{wants_known, child_known, child_among, status_among, all_tree, all_wants, all_children}
 use Rattle.hx_marks.proofs.Within.{all_keys, status_key, removal_key, leaving_key}
 
-module _ (s t : State) (keys : List Key) (before : AllByRecursion IsServed s.objects) (has : HasEnded s t keys) where
+module _ (s t : State) (names : List (List ℕ)) (keys : List Key) (before : AllByRecursion IsServed s.objects) (up : ascends s.objects ≡ true) (has : HasEnded s t names keys) where
   abbrev f : Forest
   f = forest_of s
 
@@ -65,10 +74,10 @@ module _ (s t : State) (keys : List Key) (before : AllByRecursion IsServed s.obj
       ∙ ap (λ (node : Object → Node). option_map node (object_at s.objects (namespace_id m))) (λ i y. record { parent = parent_with (has.others (hierarchy_id y.id.name) refl refl i) y; terminating = is_terminating y.payload; excluded = is_in y.id.name (has.excluded i) })
       ∙ sym (node_of-objects s.config.excluded s.objects m before)
 
-  node_before : (m : List ℕ) (begun : HasBegun s t keys m) → node_of f m ≡ Some (node_in s.config.excluded s.objects begun.old)
+  node_before : (m : List ℕ) (begun : HasBegun s t names keys m) → node_of f m ≡ Some (node_in s.config.excluded s.objects begun.old)
   node_before m begun = node_of-objects s.config.excluded s.objects m before ∙ ap (option_map (node_in s.config.excluded s.objects)) begun.there
 
-  node_then : (m : List ℕ) (begun : HasBegun s t keys m) → node_of g m ≡ Some (record (node_in s.config.excluded s.objects begun.old) { terminating = true })
+  node_then : (m : List ℕ) (begun : HasBegun s t names keys m) → node_of g m ≡ Some (record (node_in s.config.excluded s.objects begun.old) { terminating = true })
   node_then m begun =
       let same : begun.new.id ≡ begun.old.id = sym (found_id t.objects (namespace_id m) begun.new begun.ends) ∙ found_id s.objects (namespace_id m) begun.old begun.there in
       let config : object_at t.objects (hierarchy_id begun.new.id.name) ≡ object_at s.objects (hierarchy_id begun.old.id.name) = has.others (hierarchy_id begun.new.id.name) refl refl ∙ ap (λ (q : Id). object_at s.objects (hierarchy_id q.name)) same in
@@ -76,21 +85,21 @@ module _ (s t : State) (keys : List Key) (before : AllByRecursion IsServed s.obj
       ∙ ap (option_map (node_in t.config.excluded t.objects)) begun.ends
       ∙ (λ i. Some (record { parent = or_else (begun.annotation i) (option_and_then named_parent (config i)); terminating = begun.leaves i; excluded = is_in ((same i).name) (has.excluded i) }))
 
-  was_live : (m : List ℕ) → HasBegun s t keys m → is_live f m ≡ true
+  was_live : (m : List ℕ) → HasBegun s t names keys m → is_live f m ≡ true
   was_live m begun = ap (λ o. option_map_or (λ (node : Node). not node.terminating) o false) (node_before m begun) ∙ ap not begun.stood
 
   quieter : IsQuieter f g
   quieter = record {
-    there = λ m. elim (has.names m) [ inl same ↦ ap is_some (found_alike m same) | inr begun ↦ ap is_some (node_then m begun) ∙ sym (ap is_some (node_before m begun)) ];
-    parent = λ m. elim (has.names m) [
+    there = λ m. elim (has.homes m) [ inl same ↦ ap is_some (found_alike m same) | inr begun ↦ ap is_some (node_then m begun) ∙ sym (ap is_some (node_before m begun)) ];
+    parent = λ m. elim (has.homes m) [
       | inl same ↦ ap (λ o. option_and_then (λ (node : Node). node.parent) o) (found_alike m same)
       | inr begun ↦ ap (λ o. option_and_then (λ (node : Node). node.parent) o) (node_then m begun) ∙ sym (ap (λ o. option_and_then (λ (node : Node). node.parent) o) (node_before m begun))
     ];
-    excluded = λ m. elim (has.names m) [
+    excluded = λ m. elim (has.homes m) [
       | inl same ↦ ap (λ o. option_map_or (λ (node : Node). node.excluded) o false) (found_alike m same)
       | inr begun ↦ ap (λ o. option_map_or (λ (node : Node). node.excluded) o false) (node_then m begun) ∙ sym (ap (λ o. option_map_or (λ (node : Node). node.excluded) o false) (node_before m begun))
     ];
-    live = λ m lives. elim (has.names m) [
+    live = λ m lives. elim (has.homes m) [
       | inl same ↦ sym (ap (λ o. option_map_or (λ (node : Node). not node.terminating) o false) (found_alike m same)) ∙ lives
       | inr begun ↦ was_live m begun
     ];
@@ -102,36 +111,54 @@ module _ (s t : State) (keys : List Key) (before : AllByRecursion IsServed s.obj
   same_leaving : (m : List ℕ) → object_at t.objects (namespace_id m) ≡ object_at s.objects (namespace_id m) → is_leaving g m ≡ is_leaving f m
   same_leaving m same = ap (λ o. option_map_or (λ (node : Node). node.terminating) o false) (found_alike m same)
 
-  dead_then : (m : List ℕ) → HasBegun s t keys m → is_live g m ≡ false
+  dead_then : (m : List ℕ) → HasBegun s t names keys m → is_live g m ≡ false
   dead_then m begun = ap (λ o. option_map_or (λ (node : Node). not node.terminating) o false) (node_then m begun)
 
   -- ---- below one that began to leave
 
-  -- what takes part there is marked
-  below_marked : (a m : List ℕ) (k : Key) → HasBegun s t keys a → in_chain f m a ≡ true → is_open f m ≡ true → is_among k (all_of s.objects (chain_of f m) m) ≡ true → is_among k keys ≡ true
+  -- the topmost of those above m that began to leave: what is below it is marked
+  record HasTop (m : List ℕ) : Type 0 where
+    top : List ℕ
+    over : in_chain f m top ≡ true
+    marked : AreMarked (ending_marks s top) keys
+    reported : AreMarked (ending_reports f top) keys
+
+  top_above : (a m : List ℕ) → HasBegun s t names keys a → in_chain f m a ≡ true → is_open f m ≡ true → HasTop m
+  top_above a m begun over acts =
+      let found = topmost f names (HasBegun s t names keys) has.each a (open_above f a m over acts) begun in
+      let marks = found.1.below found.3 in
+      record { top = found.0; over = chain_trans f m a found.0 over found.2; marked = marks.0; reported = marks.1 }
+
+  -- what takes part below one is marked
+  below_marked : (a m : List ℕ) (k : Key) → HasBegun s t names keys a → in_chain f m a ≡ true → is_open f m ≡ true → is_among k (all_of s.objects (chain_of f m) m) ≡ true → is_among k keys ≡ true
   below_marked a m k begun over acts mem =
       let wanted : List ℕ → List Key = λ b. all_of s.objects (chain_of f b) b in
-      begun.marked k
-      (among_append k (flat_map wanted (open_below f a)) (status_keys s.objects a ++ key.Purge a ∷ [])
-      ∙ or_left (is_among k (flat_map wanted (open_below f a))) _ (among_flat_map k wanted (open_below f a) ∙ passing_name (λ b. is_among k (wanted b)) m (open_below f a) (in_open_below f a m acts over) mem))
+      let found = top_above a m begun over acts in
+      found.marked k
+      (among_append k (flat_map wanted (open_below f found.top)) (status_keys s.objects found.top ++ key.Purge found.top ∷ [])
+      ∙ or_left (is_among k (flat_map wanted (open_below f found.top))) _ (among_flat_map k wanted (open_below f found.top) ∙ passing_name (λ b. is_among k (wanted b)) m (open_below f found.top) (in_open_below f found.top m acts found.over) mem))
 
-  own_marked : (a : List ℕ) (k : Key) → HasBegun s t keys a → (is_among k (status_keys s.objects a) || is_among k (key.Purge a ∷ [])) ≡ true → is_among k keys ≡ true
+  own_marked : (a : List ℕ) (k : Key) → HasBegun s t names keys a → (is_among k (status_keys s.objects a) || is_among k (key.Purge a ∷ [])) ≡ true → is_among k keys ≡ true
   own_marked a k begun mem =
-      begun.marked k
-      (among_append k (flat_map (λ b. all_of s.objects (chain_of f b) b) (open_below f a)) (status_keys s.objects a ++ key.Purge a ∷ [])
-      ∙ or_right (is_among k (flat_map (λ b. all_of s.objects (chain_of f b) b) (open_below f a))) _ (among_append k (status_keys s.objects a) (key.Purge a ∷ []) ∙ mem))
+      let own : List Key = status_keys s.objects a ++ key.Purge a ∷ [] in
+      begun.own k (among_append k own (near_reports f a) ∙ or_left (is_among k own) (is_among k (near_reports f a)) (among_append k (status_keys s.objects a) (key.Purge a ∷ []) ∙ mem))
+
+  near_marked : (a : List ℕ) (k : Key) → HasBegun s t names keys a → is_among k (near_reports f a) ≡ true → is_among k keys ≡ true
+  near_marked a k begun mem =
+      let own : List Key = status_keys s.objects a ++ key.Purge a ∷ [] in
+      begun.own k (among_append k own (near_reports f a) ∙ or_right (is_among k own) (is_among k (near_reports f a)) mem)
 
   -- a member of its chain began to leave, or it stands as before
-  standing : (m : List ℕ) → ((a : List ℕ) × HasBegun s t keys a × (in_chain f m a ≡ true) × (is_open g m ≡ false)) ⊎ Stands s t m
+  standing : (m : List ℕ) → ((a : List ℕ) × HasBegun s t names keys a × (in_chain f m a ≡ true) × (is_open g m ≡ false)) ⊎ Stands s t m
   standing m = elim (quiet_or f g quieter m) [
-    | inl (a, over, lives, dead) ↦ elim (has.names a) [
+    | inl (a, over, lives, dead) ↦ elim (has.homes a) [
       | inl same ↦ absurd (true≢false (sym lives ∙ sym (same_live a same) ∙ dead))
       | inr begun ↦ inl (a, begun, over, false_from_ne_true (is_open g m) (λ acts. true≢false (sym (quiet_above f g quieter m a over acts) ∙ dead)))
     ]
     | inr (acts, lives) ↦ inr (record {
       acts = acts;
       chain = quiet_chain f g quieter m;
-      home = elim (has.names m) [
+      home = elim (has.homes m) [
         | inl same ↦ same
         | inr begun ↦ absurd (true≢false (sym (was_live m begun) ∙ sym (lives m (in_own_chain f m (ap is_some (node_before m begun)))) ∙ dead_then m begun))
       ];
@@ -165,13 +192,13 @@ module _ (s t : State) (keys : List Key) (before : AllByRecursion IsServed s.obj
 
   -- a name is taken as before
   taken : (name : List ℕ) → is_some (object_at t.objects (namespace_id name)) ≡ is_some (object_at s.objects (namespace_id name))
-  taken name = elim (has.names name) [ inl same ↦ ap is_some same | inr begun ↦ ap is_some begun.ends ∙ sym (ap is_some begun.there) ]
+  taken name = elim (has.homes name) [ inl same ↦ ap is_some same | inr begun ↦ ap is_some begun.ends ∙ sym (ap is_some begun.there) ]
 
   child_law : (m name : List ℕ) → Unmarked (key.Child m name) → IsSameFor s t (key.Child m name)
   child_law m name out = elim (standing m) [
     | inr stands ↦ elim (has.anchors m name) [
       | inl same ↦ kept_child s t m name stands has.excluded same (taken name)
-      | inr (gone, marked) ↦ absurd (true≢false (sym (marked (key.Child m name) (child_of_anchor m name)) ∙ out))
+      | inr (gone, marked) ↦ absurd (true≢false (sym (marked.0 (key.Child m name) (child_of_anchor m name)) ∙ out))
     ]
     | inl (a, begun, over, shut) ↦
         none_in_both s t (key.Child m name)
@@ -183,7 +210,7 @@ module _ (s t : State) (keys : List Key) (before : AllByRecursion IsServed s.obj
 
   -- the status by a namespace that began to leave is as before
   status_same : (m name : List ℕ) → anchor_status t m name ≡ anchor_status s m name
-  status_same m name = elim (has.names name) [
+  status_same m name = elim (has.homes name) [
     | inl same ↦ (λ i. status_by (is_in m (has.excluded i) || is_in name (has.excluded i)) m (same i))
     | inr begun ↦
         ap (status_by (is_in m t.config.excluded || is_in name t.config.excluded) m) begun.ends
@@ -192,7 +219,7 @@ module _ (s t : State) (keys : List Key) (before : AllByRecursion IsServed s.obj
   ]
 
   -- the status of an anchor in one that began to leave is marked
-  unlisted : (m name : List ℕ) → HasBegun s t keys m → Unmarked (key.Anchor m name) → object_at s.objects (anchor_id m name) ≡ None
+  unlisted : (m name : List ℕ) → HasBegun s t names keys m → Unmarked (key.Anchor m name) → object_at s.objects (anchor_id m name) ≡ None
   unlisted m name begun out = by (object_at s.objects (anchor_id m name)) refl
     where
       by : (o : Option Object) → object_at s.objects (anchor_id m name) ≡ o → o ≡ None
@@ -201,10 +228,10 @@ module _ (s t : State) (keys : List Key) (before : AllByRecursion IsServed s.obj
           absurd (true≢false (sym (own_marked m (key.Anchor m name) begun (or_left (is_among (key.Anchor m name) (status_keys s.objects m)) (is_among (key.Anchor m name) (key.Purge m ∷ [])) (status_among s.objects m name x e))) ∙ out))
 
   anchor_law : (m name : List ℕ) → Unmarked (key.Anchor m name) → IsSameFor s t (key.Anchor m name)
-  anchor_law m name out = elim (has.names m) [
+  anchor_law m name out = elim (has.homes m) [
     | inl home ↦ elim (has.anchors m name) [
       | inl same ↦ kept_anchor s t m name (same_live m home) home same (status_same m name)
-      | inr (gone, marked) ↦ absurd (true≢false (sym (marked (key.Anchor m name) (status_of_anchor m name)) ∙ out))
+      | inr (gone, marked) ↦ absurd (true≢false (sym (marked.0 (key.Anchor m name) (status_of_anchor m name)) ∙ out))
     ]
     | inr begun ↦
         let none : object_at s.objects (anchor_id m name) ≡ None = unlisted m name begun out in
@@ -212,7 +239,7 @@ module _ (s t : State) (keys : List Key) (before : AllByRecursion IsServed s.obj
   ]
 
   purge_law : (m : List ℕ) → Unmarked (key.Purge m) → IsSameFor s t (key.Purge m)
-  purge_law m out = elim (has.names m) [
+  purge_law m out = elim (has.homes m) [
     | inr begun ↦ absurd (true≢false (sym (own_marked m (key.Purge m) begun (or_right (is_among (key.Purge m) (status_keys s.objects m)) (is_among (key.Purge m) (key.Purge m ∷ [])) (among_here (key.Purge m) []))) ∙ out))
     | inl home ↦ elim (cases_Bool (is_leaving f m)) [
       | inr stays ↦ staying_both s t m stays (same_leaving m home ∙ stays)
@@ -223,10 +250,74 @@ module _ (s t : State) (keys : List Key) (before : AllByRecursion IsServed s.obj
     ]
   ]
 
+  -- whether its parent is there and holds no anchor of its name
+  misses_same : (m : List ℕ) → is_calm f m ≡ true → Unmarked (key.Report m) → object_at t.objects (namespace_id m) ≡ object_at s.objects (namespace_id m)
+      → option_map_or (misses_anchor t.objects m) (object_at t.objects (namespace_id m)) false ≡ option_map_or (misses_anchor s.objects m) (object_at s.objects (namespace_id m)) false
+  misses_same m calm out home = ap (λ o. option_map_or (misses_anchor t.objects m) o false) home ∙ by (object_at s.objects (namespace_id m)) refl
+    where
+      by : (found : Option Object) → object_at s.objects (namespace_id m) ≡ found → option_map_or (misses_anchor t.objects m) found false ≡ option_map_or (misses_anchor s.objects m) found false
+      by None absent = refl
+      by (Some x) there = under (subnamespace_parent x) refl
+        where
+          -- no anchor goes that its annotation asks for
+          unheld : (p : List ℕ) → subnamespace_parent x ≡ Some p → AreMarked (anchored_reports s (anchor_id p m) (object_at s.objects (anchor_id p m)) None) keys → (o : Option Object) → object_at s.objects (anchor_id p m) ≡ o → o ≡ None
+          unheld p named reported None e = refl
+          unheld p named reported (Some a) e = absurd (true≢false (sym (reported (key.Report m) (anchored_own s p m x a there named e calm)) ∙ out))
+
+          held : (p : List ℕ) → subnamespace_parent x ≡ Some p → object_at t.objects (anchor_id p m) ≡ object_at s.objects (anchor_id p m)
+          held p named = elim (has.anchors p m) [
+            | inl same ↦ same
+            | inr (gone, marked) ↦ gone ∙ sym (unheld p named marked.1 (object_at s.objects (anchor_id p m)) refl)
+          ]
+
+          misses_under : Objects → Option (List ℕ) → Bool
+          misses_under objects next = option_map_or (λ p. is_some (object_at objects (namespace_id p)) && is_none (object_at objects (anchor_id p m))) next false
+
+          under : (next : Option (List ℕ)) → subnamespace_parent x ≡ next → misses_under t.objects next ≡ misses_under s.objects next
+          under None named = refl
+          under (Some p) named = (λ i. taken p i && is_none (held p named i))
+
+  -- a parent that began to leave has marked it
+  parent_stays : (m : List ℕ) → is_calm f m ≡ true → Unmarked (key.Report m) → (p : List ℕ) → parent_of f m ≡ Some p → is_live g p ≡ is_live f p
+  parent_stays m calm out p under = elim (has.homes p) [
+    | inl same ↦ same_live p same
+    | inr begun ↦ absurd (true≢false (sym (near_marked p (key.Report m) begun (near_child f p m calm under)) ∙ out))
+  ]
+
+  -- so has one above it, where it took part
+  report_open : (m : List ℕ) → is_calm f m ≡ true → Unmarked (key.Report m) → is_open g m ≡ is_open f m
+  report_open m calm out = elim (standing m) [
+    | inr stands ↦ stands.acts
+    | inl (a, begun, over, shut) ↦ elim (cases_Bool (is_open f m)) [
+      | inl acts ↦
+          let found = top_above a m begun over acts in
+          absurd (true≢false (sym (found.reported (key.Report m) (ending_open f found.top m calm acts found.over)) ∙ out))
+      | inr closed ↦ shut ∙ sym closed
+    ]
+  ]
+
+  report_law : (m : List ℕ) → Unmarked (key.Report m) → IsSameFor s t (key.Report m)
+  report_law m out = elim (has.homes m) [
+    | inr begun ↦ elim (cases_Bool (is_calm f m)) [
+      | inl calm ↦ absurd (true≢false (sym (near_marked m (key.Report m) begun (near_own f m calm)) ∙ out))
+      | inr none ↦ silent_report s t m none (ap (λ b. b && not (is_excluded g m)) (dead_then m begun))
+    ]
+    | inl home ↦
+        let same : is_calm g m ≡ is_calm f m = (λ i. same_live m home i && not (quieter.excluded m i)) in
+        elim (cases_Bool (is_calm f m)) [
+          | inr none ↦ silent_report s t m none (same ∙ none)
+          | inl calm ↦
+              let halt : halt_of g m ≡ halt_of f m = halt_same f g m calm (same ∙ calm) (own_same f g quieter m (parent_stays m calm out)) (report_open m calm out) in
+              same_report s t m same (has.others (hierarchy_id m) refl refl) home
+              (children_stay f g quieter (forest_ascends s up before) (forest_ascends t has.ascending has.served) m)
+              (λ i. conditions_by (halt i) (misses_same m calm out home i))
+        ]
+  ]
+
   law_by : (k : Key) → Unmarked k → IsSameFor s t k
   law_by (key.Copy m kind name) out = copy_law m kind name out
   law_by (key.Tree m) out = tree_law m out
-  law_by (key.Report m) out = none_in_both s t (key.Report m) refl refl
+  law_by (key.Report m) out = report_law m out
   law_by (key.Child m name) out = child_law m name out
   law_by (key.Anchor m name) out = anchor_law m name out
   law_by (key.Used m name) out = none_in_both s t (key.Used m name) refl refl
@@ -234,7 +325,7 @@ module _ (s t : State) (keys : List Key) (before : AllByRecursion IsServed s.obj
 
 -- namespaces begin to leave, and anchors go: a key that isn't marked wants what it wanted
 pub leaving_law : (s : State) (ws : List Write) → IsValid s → MayWriteAll s ws → AllByRecursion (IsLeavingWrite s) ws → (k : Key) → is_among k (all_marks s ws) ≡ false → IsSameFor s (state_after s ws) k
-leaving_law s ws valid may ends k out = law_by s (state_after s ws) (all_marks s ws) (valid_served s valid) (has_ended s ws valid may ends) k out
+leaving_law s ws valid may ends k out = law_by s (state_after s ws) (ending_names ws) (all_marks s ws) (valid_served s valid) valid.in_order (has_ended s ws valid may ends) k out
 
 -- ---- keys of the state
 
@@ -257,21 +348,31 @@ one_keys : (s : State) (w : Write) → IsValid s → MayWrite s w → IsLeavingW
 one_keys s (Put x) valid may ends k mem =
     let there : is_there (forest_of s) x.id.name ≡ true =
     there-objects s.config.excluded s.objects x.id.name (valid_served s valid) ∙ ap (λ (q : Id). is_some (object_at s.objects q)) (sym (namespace_is_homed x may.served ends.kind)) ∙ ap is_some ends.there in
-    ending_keys s x.id.name k there (ap (is_among k) (sym (put_marks s x ends)) ∙ mem)
+    elim (or_cases (is_among k (ending_marks s x.id.name)) (is_among k (ending_reports (forest_of s) x.id.name)) (sym (among_append k (ending_marks s x.id.name) (ending_reports (forest_of s) x.id.name)) ∙ sym (ap (is_among k) (put_marks s x ends)) ∙ mem)) [
+      | inl own ↦ ending_keys s x.id.name k there own
+      | inr report ↦ ending_reports_key s x.id.name k report
+    ]
 one_keys s (Cut id) valid may ends k mem =
-    elim (or_cases (is_among k (anchor_keys id)) (is_among k (leaving_keys (forest_of s) id.ns)) (sym (among_append k (anchor_keys id) (leaving_keys (forest_of s) id.ns)) ∙ sym (ap (is_among k) (cut_marks s id ends)) ∙ mem)) [
-      | inl own ↦
-          let place = is_anchor_place id ends in
-          anchor_key s id.ns id.name may.there.0 k (ap (object_at s.objects) (sym place) ∙ may.there.1) (subst (λ (q : Id). is_among k (anchor_keys q) ≡ true) place own)
-      | inr leaves ↦ leaving_key s id.ns k leaves
+    let own : List Key = anchor_keys id ++ leaving_keys (forest_of s) id.ns in
+    let reports : List Key = anchored_reports s id (object_at s.objects id) None in
+    elim (or_cases (is_among k own) (is_among k reports) (sym (among_append k own reports) ∙ sym (ap (is_among k) (cut_marks s id ends)) ∙ mem)) [
+      | inr report ↦ anchored_key s id (object_at s.objects id) None k report
+      | inl either ↦ elim (or_cases (is_among k (anchor_keys id)) (is_among k (leaving_keys (forest_of s) id.ns)) (sym (among_append k (anchor_keys id) (leaving_keys (forest_of s) id.ns)) ∙ either)) [
+        | inl anchor ↦
+            let place = is_anchor_place id ends in
+            anchor_key s id.ns id.name may.there.0 k (ap (object_at s.objects) (sym place) ∙ may.there.1) (subst (λ (q : Id). is_among k (anchor_keys q) ≡ true) place anchor)
+        | inr leaves ↦ leaving_key s id.ns k leaves
+      ]
     ]
 
-each_keys : (s : State) (ws : List Write) → IsValid s → AllByRecursion (MayWrite s) ws → AllByRecursion (IsLeavingWrite s) ws → (k : Key) → is_among k (all_marks s ws) ≡ true → is_key s k ≡ true
-each_keys s [] valid may ends k mem = absurd (true≢false (sym mem))
-each_keys s (w ∷ ws) valid may ends k mem = elim (or_cases (is_among k (marks_of s w)) (is_among k (all_marks s ws)) (sym (among_append k (marks_of s w) (all_marks s ws)) ∙ mem)) [
-  | inl here ↦ one_keys s w valid may.0 ends.0 k here
-  | inr later ↦ each_keys s ws valid may.1 ends.1 k later
-]
+each_keys : (s : State) (names : List (List ℕ)) (ws : List Write) → IsValid s → AllByRecursion (MayWrite s) ws → AllByRecursion (IsLeavingWrite s) ws → (k : Key) → is_among k (flat_map (marks_among s names) ws) ≡ true → is_key s k ≡ true
+each_keys s names [] valid may ends k mem = absurd (true≢false (sym mem))
+each_keys s names (w ∷ ws) valid may ends k mem =
+    let later : List Key = flat_map (marks_among s names) ws in
+    elim (or_cases (is_among k (marks_among s names w)) (is_among k later) (sym (among_append k (marks_among s names w) later) ∙ mem)) [
+      | inl here ↦ one_keys s w valid may.0 ends.0 k (among_within s names w ends.0 k here)
+      | inr there ↦ each_keys s names ws valid may.1 ends.1 k there
+    ]
 
 -- no such write is of a kind that is kept as it is given
 ending_kind : (s : State) (w : Write) → IsLeavingWrite s w → is_plain (id_written w).kind ≡ false
@@ -282,12 +383,12 @@ ending_kind s (Cut id) ends = ap (λ (q : Id). is_plain q.kind) (is_anchor_place
 pub within_leaving : (s : State) (ws : List Write) → IsValid s → MayWriteAll s ws → AllByRecursion (IsLeavingWrite s) ws → (k : Key) → is_among k (all_marks s ws) ≡ true → may_mark s ws k ≡ true
 within_leaving s [] valid may ends k mem = absurd (true≢false (sym mem))
 within_leaving s (w ∷ []) valid may ends k mem =
-    not_plain (is_plain (id_written w).kind) _ (ending_kind s w ends.0) (or_left (is_key s k) (is_key (state_after s (w ∷ [])) k) (each_keys s (w ∷ []) valid may.each ends k mem))
+    not_plain (is_plain (id_written w).kind) _ (ending_kind s w ends.0) (or_left (is_key s k) (is_key (state_after s (w ∷ [])) k) (each_keys s (ending_names (w ∷ [])) (w ∷ []) valid may.each ends k mem))
   where
     not_plain : (b u : Bool) {v : Bool} → b ≡ false → v ≡ true → (if b then u else v) ≡ true
     not_plain true u e h = absurd (true≢false e)
     not_plain false u e h = h
-within_leaving s (w ∷ v ∷ ws) valid may ends k mem = or_left (is_key s k) (is_key (state_after s (w ∷ v ∷ ws)) k) (each_keys s (w ∷ v ∷ ws) valid may.each ends k mem)
+within_leaving s (w ∷ v ∷ ws) valid may ends k mem = or_left (is_key s k) (is_key (state_after s (w ∷ v ∷ ws)) k) (each_keys s (ending_names (w ∷ v ∷ ws)) (w ∷ v ∷ ws) valid may.each ends k mem)
 
 -- ---- the writes of endings
 

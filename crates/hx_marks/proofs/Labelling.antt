@@ -2,11 +2,12 @@
 --     label_law        keys that aren't marked want what they wanted
 --     within_labels    those that are marked may be
 use Rattle.std.proofs.Common.{◌≡◌, ℕ, Bool, true, false, not, Option, Some, None, option_map, List, [], ◌∷◌, inl, inr, refl, sym, ap, ◌∙◌, subst, true≢false, ◌||◌, ◌++◌}
-use Rattle.std.specs.Prelude.{is_some, if◌then◌else◌}
+use Rattle.std.specs.Prelude.{is_none, is_some, if◌then◌else◌}
 use Rattle.std.specs.Option.{option_map_or}
 use Rattle.std.specs.Str.{bytes_eq}
 use Rattle.std.proofs.lemmas.Bool.{cases_Bool, or_left, and_parts, or_cases, false_from_ne_true}
-use Rattle.hx_object.specs.Kinds.{can_be_copied, is_namespace, is_plain, is_in_cluster}
+use Rattle.std.proofs.lemmas.List.{append-nil}
+use Rattle.hx_object.specs.Kinds.{can_be_copied, is_anchor, is_hierarchy, is_namespace, is_plain, is_in_cluster}
 use Rattle.hx_object.proofs.KindTests.{namespace_kind}
 use Rattle.hx_object.specs.declared.kind.Kind.{Kind}
 use Rattle.hx_object.specs.declared.object.Id.{Id}
@@ -15,14 +16,15 @@ use Rattle.hx_object.specs.declared.kind.Kind.TheVariants.{SubnamespaceAnchor}
 use Rattle.hx_object.specs.declared.object.AnchorStatus.TheVariants.{Ok, Conflict, Forbidden}
 use Rattle.hx_model.specs.Cases.{same_name, is_leaving}
 use Rattle.hx_model.specs.Covered.{IsSameFor}
-use Rattle.hx_model.specs.Forest.{Forest, node_of, is_there, is_live, chain_of, is_in}
+use Rattle.hx_model.specs.Forest.{Forest, node_of, is_there, is_live, chain_of, children_of, halt_of, is_in}
 use Rattle.hx_model.specs.Keys.{is_among, is_key, may_mark, has_named, touches}
 use Rattle.hx_model.specs.Modes.{mode_of}
+use Rattle.hx_model.specs.Moves.{is_calm}
 use Rattle.hx_model.specs.Propagation.{id_in, sources_above}
 use Rattle.hx_model.specs.Serving.{IsServed}
 use Rattle.hx_model.specs.State.{State, object_at, put, namespace_id, state_after, lies_in}
 use Rattle.hx_model.specs.Subnamespaces.{anchor_id}
-use Rattle.hx_model.specs.Tree.{forest_of, is_terminating}
+use Rattle.hx_model.specs.Tree.{forest_of, hierarchy, hierarchy_id, is_terminating}
 use Rattle.hx_model.specs.TreeLabels.{is_open}
 use Rattle.hx_model.specs.Valid.{IsValid}
 use Rattle.hx_model.specs.Wanted.{copy_write, tree_write, guard_at, status_by, anchor_status}
@@ -37,10 +39,12 @@ use Rattle.hx_model.proofs.Objects.{found_id, found_again}
 use Rattle.hx_model.proofs.Storing.{All-found}
 use Rattle.hx_marks.proofs.Among.{among_here, among_append, out_left, out_right}
 use Rattle.hx_marks.proofs.Frames.{none_in_both, shut_child, unanchored_child, taken_child, unanchored_status, staying_removal, same_child, same_status, status_stays, same_removal, put_least}
+use Rattle.hx_marks.proofs.Reporting.{conditions_same, own_report, report_key, same_report, silent_report}
+use Rattle.hx_marks.specs.Reports.{anchored_reports, ending_reports, report_keys}
 use Rattle.hx_marks.proofs.Replacing.{valid_served, uncopied, copied_leaf, no_namespace, other_name, copy_by, tree_by, same_phase, replaced_forest}
 use Rattle.hx_marks.proofs.Wanting.{wants_known, all_wants, all_tree, all_children, child_among, status_among}
 use Rattle.hx_marks.proofs.Within.{all_keys, status_key, leaving_key}
-use Rattle.hx_marks.specs.Law.{all_of, label_marks, namespace_marks, marks_of, begins_to_end, inner_marks, ending_marks, mode_marks, is_modes, status_keys, leaving_keys}
+use Rattle.hx_marks.specs.Law.{all_of, label_marks, namespace_marks, namespace_reports, hierarchy_reports, marks_of, begins_to_end, inner_marks, ending_marks, mode_marks, is_modes, status_keys, leaving_keys}
 
 -- ---- what is marked
 
@@ -50,11 +54,17 @@ own_marks s n = if is_open (forest_of s) n then all_of s.objects (chain_of (fore
 
 -- a key that isn't marked is in no part
 labels_out : (s : State) (n : List ℕ) (k : Key) → is_among k (label_marks s n) ≡ false
-    → (is_among k (own_marks s n) ≡ false) × (is_among k (status_keys s.objects n) ≡ false) × (is_among k (leaving_keys (forest_of s) n) ≡ false)
+    → (is_among k (own_marks s n) ≡ false) × (is_among k (report_keys (forest_of s) n) ≡ false) × (is_among k (status_keys s.objects n) ≡ false) × (is_among k (leaving_keys (forest_of s) n) ≡ false)
 labels_out s n k out =
-    let all = sym (among_append k (own_marks s n) (status_keys s.objects n ++ leaving_keys (forest_of s) n)) ∙ out in
-    let later = sym (among_append k (status_keys s.objects n) (leaving_keys (forest_of s) n)) ∙ out_right (is_among k (own_marks s n)) _ all in
-    (out_left (is_among k (own_marks s n)) _ all, out_left (is_among k (status_keys s.objects n)) _ later, out_right (is_among k (status_keys s.objects n)) _ later)
+    let last = status_keys s.objects n ++ leaving_keys (forest_of s) n in
+    let all = sym (among_append k (own_marks s n) (report_keys (forest_of s) n ++ last)) ∙ out in
+    let told = sym (among_append k (report_keys (forest_of s) n) last) ∙ out_right (is_among k (own_marks s n)) _ all in
+    let later = sym (among_append k (status_keys s.objects n) (leaving_keys (forest_of s) n)) ∙ out_right (is_among k (report_keys (forest_of s) n)) _ told in (
+      out_left (is_among k (own_marks s n)) _ all,
+      out_left (is_among k (report_keys (forest_of s) n)) _ told,
+      out_left (is_among k (status_keys s.objects n)) _ later,
+      out_right (is_among k (status_keys s.objects n)) _ later,
+    )
 
 open_there : (f : Forest) (n : List ℕ) → is_open f n ≡ true → is_there f n ≡ true
 open_there f n h = live (node_of f n) (and_parts (is_live f n) _ h).0
@@ -65,11 +75,14 @@ open_there f n h = live (node_of f n) (and_parts (is_live f n) _ h).0
 
 -- what is marked are keys of the state
 label_keys : (s : State) (n : List ℕ) (k : Key) → is_among k (label_marks s n) ≡ true → is_key s k ≡ true
-label_keys s n k mem = elim (or_cases (is_among k (own_marks s n)) _ (sym (among_append k (own_marks s n) (status_keys s.objects n ++ leaving_keys (forest_of s) n)) ∙ mem)) [
+label_keys s n k mem = elim (or_cases (is_among k (own_marks s n)) _ (sym (among_append k (own_marks s n) (report_keys (forest_of s) n ++ (status_keys s.objects n ++ leaving_keys (forest_of s) n))) ∙ mem)) [
   | inl own ↦ by (is_open (forest_of s) n) refl own
-  | inr later ↦ elim (or_cases (is_among k (status_keys s.objects n)) _ (sym (among_append k (status_keys s.objects n) (leaving_keys (forest_of s) n)) ∙ later)) [
-    | inl status ↦ status_key s n k status
-    | inr leaves ↦ leaving_key s n k leaves
+  | inr told ↦ elim (or_cases (is_among k (report_keys (forest_of s) n)) _ (sym (among_append k (report_keys (forest_of s) n) (status_keys s.objects n ++ leaving_keys (forest_of s) n)) ∙ told)) [
+    | inl report ↦ report_key s n k report
+    | inr later ↦ elim (or_cases (is_among k (status_keys s.objects n)) _ (sym (among_append k (status_keys s.objects n) (leaving_keys (forest_of s) n)) ∙ later)) [
+      | inl status ↦ status_key s n k status
+      | inr leaves ↦ leaving_key s n k leaves
+    ]
   ]
 ]
   where
@@ -252,30 +265,57 @@ module _ (s : State) (x old : Object) (valid : IsValid s) (is : is_namespace x.i
       inner_leaf : (m : List ℕ) (q : Id) → lies_in m q ≡ true → is_namespace q.kind ≡ false
       inner_leaf m q lies = false_from_ne_true (is_namespace q.kind) (λ h. true≢false (sym (and_parts (not (is_in_cluster q.kind)) _ lies).0 ∙ ap (λ kind. not (is_in_cluster kind)) (namespace_kind q.kind h)))
 
-  pub replaced_same : (k : Key) → is_among k (label_marks s x.id.name) ≡ false → IsSameFor s t k
-  replaced_same k out = by k own.0 own.1 own.2
+  -- its report, or that of another namespace
+  reports : (m : List ℕ) → is_among (key.Report m) (report_keys (forest_of s) x.id.name) ≡ false → IsSameFor s t (key.Report m)
+  reports m out = elim (cases_Bool (is_calm (forest_of s) m)) [
+    | inr silent ↦ silent_report s t m silent (ap (λ f. is_calm f m) tree ∙ silent)
+    | inl calm ↦ elim (cases_Bool (bytes_eq m x.id.name)) [
+      | inl same ↦ absurd (true≢false (sym (own_report (forest_of s) m calm) ∙ ap (λ a. is_among (key.Report m) (report_keys (forest_of s) a)) (is_same m x.id.name same) ∙ out))
+      | inr apart ↦
+          same_report s t m (ap (λ f. is_calm f m) tree) (leaf_same (hierarchy_id m) refl) (home_same m apart) (ap (λ f. children_of f m) tree)
+          (conditions_same s t m (ap (λ f. halt_of f m) tree) (home_same m apart) there_still (λ p. ap is_none (leaf_same (anchor_id p m) refl)))
+    ]
+  ]
     where
-      own : (is_among k (own_marks s x.id.name) ≡ false) × (is_among k (status_keys s.objects x.id.name) ≡ false) × (is_among k (leaving_keys (forest_of s) x.id.name) ≡ false)
+      there_still : (p : List ℕ) → is_some (object_at t.objects (namespace_id p)) ≡ is_some (object_at s.objects (namespace_id p))
+      there_still p = elim (cases_Bool (bytes_eq p x.id.name)) [
+        | inr other ↦ ap is_some (home_same p other)
+        | inl same ↦
+            let here = is_same p x.id.name same in
+            ap (λ a. is_some (object_at t.objects (namespace_id a))) here ∙ ap is_some there_then ∙ sym (ap (λ a. is_some (object_at s.objects (namespace_id a))) here ∙ ap is_some there_before)
+      ]
+
+  pub replaced_same : (k : Key) → is_among k (label_marks s x.id.name) ≡ false → IsSameFor s t k
+  replaced_same k out = by k own.0 own.1 own.2 own.3
+    where
+      own : (is_among k (own_marks s x.id.name) ≡ false) × (is_among k (report_keys (forest_of s) x.id.name) ≡ false) × (is_among k (status_keys s.objects x.id.name) ≡ false) × (is_among k (leaving_keys (forest_of s) x.id.name) ≡ false)
       own = labels_out s x.id.name k out
 
-      by : (k : Key) → is_among k (own_marks s x.id.name) ≡ false → is_among k (status_keys s.objects x.id.name) ≡ false → is_among k (leaving_keys (forest_of s) x.id.name) ≡ false → IsSameFor s t k
-      by (key.Copy m kind name) out statused left = copies m kind name out
-      by (key.Tree m) out statused left = trees m out
-      by (key.Report m) out statused left = (refl, λ _. refl)
-      by (key.Child m name) out statused left = children m name out
-      by (key.Anchor m name) out statused left = statuses m name statused
-      by (key.Used m name) out statused left = (refl, λ _. refl)
-      by (key.Purge m) out statused left = removals m left
+      by : (k : Key) → is_among k (own_marks s x.id.name) ≡ false → is_among k (report_keys (forest_of s) x.id.name) ≡ false → is_among k (status_keys s.objects x.id.name) ≡ false → is_among k (leaving_keys (forest_of s) x.id.name) ≡ false → IsSameFor s t k
+      by (key.Copy m kind name) out told statused left = copies m kind name out
+      by (key.Tree m) out told statused left = trees m out
+      by (key.Report m) out told statused left = reports m told
+      by (key.Child m name) out told statused left = children m name out
+      by (key.Anchor m name) out told statused left = statuses m name statused
+      by (key.Used m name) out told statused left = (refl, λ _. refl)
+      by (key.Purge m) out told statused left = removals m left
 
 -- ---- the law
 
 -- what a namespace that is replaced marks
 marks_are : (s : State) (x old : Object) → is_namespace x.id.kind ≡ true → object_at s.objects x.id ≡ Some old → begins_to_end old x ≡ false → marks_of s (Put x) ≡ label_marks s x.id.name
 marks_are s x old is there stays =
-    ap (λ b. if b then namespace_marks s (state_after s (Put x ∷ [])) x.id.name (object_at s.objects x.id) (Some x) else beside) is
-    ∙ ap (λ o. namespace_marks s (state_after s (Put x ∷ [])) x.id.name o (Some x)) there
-    ∙ ap (λ b. if b then ending_marks s x.id.name else label_marks s x.id.name) stays
+    let t = state_after s (Put x ∷ []) in
+    ap (λ b. (if b then namespace_marks s t x.id.name (object_at s.objects x.id) (Some x) else beside) ++ (if b then namespace_reports s t x.id.name (object_at s.objects x.id) (Some x) else reports_beside)) is
+    ∙ ap (λ o. namespace_marks s t x.id.name o (Some x) ++ namespace_reports s t x.id.name o (Some x)) there
+    ∙ ap (λ b. (if b then ending_marks s x.id.name else label_marks s x.id.name) ++ (if b then ending_reports (forest_of s) x.id.name else [])) stays
+    ∙ append-nil (label_marks s x.id.name)
   where
+    reports_beside : List Key
+    reports_beside =
+        if is_hierarchy x.id.kind then (if bytes_eq x.id.name hierarchy then hierarchy_reports s (state_after s (Put x ∷ [])) x.id.ns else []) else (
+        if is_anchor x.id.kind then anchored_reports s x.id (object_at s.objects x.id) (Some x) else [])
+
     beside : List Key
     beside =
         if is_modes x.id then mode_marks s (object_at s.objects x.id) (Some x)

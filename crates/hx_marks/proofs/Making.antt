@@ -6,11 +6,11 @@
 --     child_write_known, status_write_known, removal_write_known
 --     removal_marked              the write of a removal marks its key again
 --     fresh_satisfies             for all keys but those of removals, which take one object after the other
-use Rattle.std.proofs.Common.{◌≡◌, ℕ, ◌+◌, Bool, true, false, cond, not, Option, Some, None, List, [], ◌∷◌, ◌⊎◌, inl, inr, refl, sym, ap, ◌∙◌, subst, true≢false, option_map}
+use Rattle.std.proofs.Common.{◌≡◌, ℕ, ◌+◌, Bool, true, false, cond, not, Option, Some, None, List, [], ◌∷◌, ◌++◌, ◌⊎◌, inl, inr, refl, sym, ap, ◌∙◌, subst, true≢false, option_map}
 use Rattle.std.specs.Prelude.{is_some, if◌then◌else◌}
 use Rattle.std.specs.Cmp.{tied_itself}
 use Rattle.std.specs.Str.{bytes_eq}
-use Rattle.std.proofs.lemmas.Bool.{false_from_ne_true, and_parts, or_right, not-true}
+use Rattle.std.proofs.lemmas.Bool.{false_from_ne_true, and_parts, or_left, or_right, not-true}
 use Rattle.hx_object.specs.Kinds.{can_be_copied, is_namespace, is_hierarchy, is_in_cluster}
 use Rattle.hx_object.specs.declared.kind.Kind.{Kind}
 use Rattle.hx_object.specs.declared.kind.Kind.TheVariants as of
@@ -47,9 +47,11 @@ use Rattle.hx_marks.proofs.Frames.{taken_child, status_stays, least_lies}
 use Rattle.hx_marks.proofs.Leaving.{marks_inside}
 use Rattle.hx_marks.proofs.Prescribing.{prescribed_again, chain_keys}
 use Rattle.hx_marks.proofs.Replacing.{valid_served, sources_same, copied_leaf, tree_by, leaving_found}
+use Rattle.hx_marks.proofs.ReportWrites.{report_satisfied, report_write_known}
 use Rattle.hx_marks.proofs.Settling.{stands_placed}
 use Rattle.hx_marks.proofs.Wanting.{along_found, wants_copied}
-use Rattle.hx_marks.specs.Law.{namespace_marks, asking_keys, inner_marks, leaving_keys, marks_of}
+use Rattle.hx_marks.specs.Law.{namespace_marks, namespace_reports, asking_keys, inner_marks, leaving_keys, marks_of, report_marks}
+use Rattle.hx_marks.specs.Reports.{removed_reports}
 
 some_is : {A : Type 0} (a b : A) → Some a ≡ Some b → a ≡ b
 some_is a b e = cc
@@ -313,15 +315,18 @@ removal_marked s n write version valid known = by (least_in s.objects n) refl
     by : (o : Option Object) → least_in s.objects n ≡ o → is_among (key.Purge n) (marks_of s (versioned version write)) ≡ true
     by None empty =
         let found = leaving_found s valid n known.leaves in
-        ap (is_among (key.Purge n)) (marks None empty ∙ ap (λ o. namespace_marks s (state_after s (Cut (namespace_id n) ∷ [])) n o None) found.1) ∙ among_here (key.Purge n) (asking_keys s.objects n)
+        let t = state_after s (Cut (namespace_id n) ∷ []) in
+        ap (is_among (key.Purge n)) (marks None empty ∙ ap (λ o. namespace_marks s t n o None ++ namespace_reports s t n o None) found.1)
+        ∙ among_here (key.Purge n) (asking_keys s.objects n ++ removed_reports (forest_of s) n)
     by (Some x) first =
         let parts = and_parts (not (is_in_cluster x.id.kind)) (bytes_eq n x.id.ns) (least_lies s.objects n x first) in
         let inner = inner_marks s (state_after s (Cut x.id ∷ [])) x.id (object_at s.objects x.id) None in
         let here : is_among (key.Purge n) (leaving_keys (forest_of s) x.id.ns) ≡ true =
         ap (λ a. is_among (key.Purge n) (leaving_keys (forest_of s) a)) (sym (is_same n x.id.ns parts.1)) ∙ ap (λ b. is_among (key.Purge n) (if b then key.Purge n ∷ [] else [])) known.leaves ∙ among_here (key.Purge n) [] in
+        let reports = report_marks s (state_after s (Cut x.id ∷ [])) x.id (object_at s.objects x.id) None in
         ap (is_among (key.Purge n)) (marks (Some x) first ∙ marks_inside s (Cut x.id) (not-true (is_in_cluster x.id.kind) parts.0))
-        ∙ among_append (key.Purge n) inner (leaving_keys (forest_of s) x.id.ns)
-        ∙ or_right (is_among (key.Purge n) inner) _ here
+        ∙ among_append (key.Purge n) (inner ++ leaving_keys (forest_of s) x.id.ns) reports
+        ∙ or_left _ (is_among (key.Purge n) reports) (among_append (key.Purge n) inner (leaving_keys (forest_of s) x.id.ns) ∙ or_right (is_among (key.Purge n) inner) _ here)
 
 -- ---- once it is made
 
@@ -334,7 +339,7 @@ is_removal _ = false
 pub fresh_satisfies : (s : State) (k : Key) (write : Write) → IsValid s → is_removal k ≡ false → wanted_write s k ≡ Some write → wanted_write (state_after s (versioned (s.last + 1) write ∷ [])) k ≡ None
 fresh_satisfies s (key.Copy m kind name) write valid once wants = copy_satisfied s m kind name write (s.last + 1) (copy_write_known s m kind name write wants)
 fresh_satisfies s (key.Tree m) write valid once wants = tree_satisfied s m write (s.last + 1) valid (tree_write_known s m write wants)
-fresh_satisfies s (key.Report m) write valid once wants = absurd (none_some write wants)
+fresh_satisfies s (key.Report m) write valid once wants = report_satisfied s m write (s.last + 1) valid (report_write_known s m write valid wants)
 fresh_satisfies s (key.Child m name) write valid once wants = child_satisfied s m name write (s.last + 1) (child_write_known s m name write wants)
 fresh_satisfies s (key.Anchor m name) write valid once wants = status_satisfied s m name write (s.last + 1) (status_write_known s m name write wants)
 fresh_satisfies s (key.Used m name) write valid once wants = absurd (none_some write wants)

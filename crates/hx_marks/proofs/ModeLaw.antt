@@ -43,7 +43,7 @@ use Rattle.hx_marks.proofs.Among.{same_key_itself, among_append, among_flat_map,
 use Rattle.hx_marks.proofs.OpenBelow.{in_open_below, above_apart}
 use Rattle.hx_marks.proofs.Frames.{none_in_both, uncopied_wants, nothing_copied, same_tree, same_closed, same_copied, then_above, KeepsLeast, removal_apart}
 use Rattle.hx_marks.proofs.Going.{sent_alike, going, top_along, copied_in_none, top_goes}
-use Rattle.hx_marks.proofs.Leaving.{Leaves, leaves, namespaces_stay, marks_by_modes, child_stays, anchored_stays, leaving_stay}
+use Rattle.hx_marks.proofs.Leaving.{Leaves, leaves, namespaces_stay, marks_by_modes, child_stays, anchored_stays, leaving_stay, report_stays}
 
 -- ---- what is written
 
@@ -207,7 +207,7 @@ module _ (s t : State) (left : Leaves s t config_id (object_at t.objects config_
   key_law : (k : Key) → is_among k config_marks ≡ false → IsSameFor s t k
   key_law (key.Copy n kind name) out = copy_law n kind name out
   key_law (key.Tree n) out = same_tree s t left.tree found n
-  key_law (key.Report n) out = none_in_both s t (key.Report n) refl refl
+  key_law (key.Report n) out = report_stays s t config_id (object_at t.objects config_id) left refl refl refl n
   key_law (key.Child n m) out = child_stays s t config_id (object_at t.objects config_id) left refl refl n m
   key_law (key.Anchor n m) out = anchored_stays s t config_id (object_at t.objects config_id) left refl refl n m
   key_law (key.Used n name) out = none_in_both s t (key.Used n name) refl refl

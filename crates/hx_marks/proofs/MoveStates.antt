@@ -3,7 +3,8 @@
 --     spot, wanted_at        the namespace of a key, and what the key wants by its chain and whether it takes part
 --     wanted_in              the same in a tree
 --     at_closed, at_known    it wants nothing where it takes no part, and else what is among those that may
---     same_for               where the tree tells the same, the key wants the same
+--     other_kind             what is no HierarchyConfiguration stays
+--     same_for               where the tree tells the same, the key wants the same. That a report does is a premise
 use Rattle.std.proofs.Common.{◌≡◌, ◌≢◌, ℕ, Bool, true, false, not, ◌&&◌, Option, Some, None, option_map, List, [], ◌∷◌, ◌++◌, refl, sym, ap, ◌∙◌, inl, inr, true≢false}
 use Rattle.std.specs.Prelude.{is_some, option_and_then}
 use Rattle.std.proofs.lemmas.Bool.{cases_Bool, false_from_ne_true}
@@ -49,7 +50,7 @@ spot (key.Tree m) = m
 spot (key.Child m name) = m
 spot _ = []
 
--- by whether its namespace takes part, and by its chain. Nothing of a status or a removal
+-- by whether its namespace takes part, and by its chain. Nothing of a report, a status or a removal
 abbrev pub wanted_at : State → Bool → List (List ℕ) → Key → Option Write
 wanted_at s acts chain (key.Copy m kind name) =
     copy_write acts (object_at s.objects (namespace_id m)) (mode_at s.objects kind) (sources_along s.objects kind name (tail_of chain)) m (object_at s.objects (id_in kind name m))
@@ -111,7 +112,7 @@ module _ (s : State) (id : Id) (is : is_hierarchy id.kind ≡ true) (new : Objec
   abbrev after : State
   after = record s { objects = new; last = last }
 
-  other_kind : (q : Id) → is_hierarchy q.kind ≡ false → object_at new q ≡ object_at s.objects q
+  pub other_kind : (q : Id) → is_hierarchy q.kind ≡ false → object_at new q ≡ object_at s.objects q
   other_kind q out = keeps q (false_from_ne_true (same_id q id) (λ h. true≢false (sym is ∙ sym (ap (λ (i : Id). is_hierarchy i.kind) (is_same_id q id h)) ∙ out)))
 
   same_source : (q : Id) → source_at new q ≡ source_at s.objects q
@@ -149,7 +150,7 @@ module _ (s : State) (id : Id) (is : is_hierarchy id.kind ≡ true) (new : Objec
       (λ i. same_guard (id_in kind name m) (copied_other kind copied) i ∷ same_guard (namespace_id m) refl i ∷ [])
   same_guards (key.Tree m) wants = λ i. same_guard (namespace_id m) refl i ∷ []
   same_guards (key.Child m name) wants = λ i. same_guard (anchor_id m name) refl i ∷ same_guard (namespace_id m) refl i ∷ same_guard (namespace_id name) refl i ∷ []
-  same_guards (key.Report m) wants = refl
+  same_guards (key.Report m) wants = absurd (wants refl)
   same_guards (key.Used m name) wants = refl
   same_guards (key.Anchor m name) wants = absurd (wants refl)
   same_guards (key.Purge m) wants = absurd (wants refl)
@@ -164,12 +165,12 @@ module _ (s : State) (id : Id) (is : is_hierarchy id.kind ≡ true) (new : Objec
 
     -- where the new tree tells the same, the key wants the same
     pub same_for : ((n : List ℕ) → is_live f n ≡ is_live (forest_of s) n) → ((n : List ℕ) → is_leaving f n ≡ is_leaving (forest_of s) n) → KeepsLeast id s.objects new
-        → (k : Key) → is_among k (leaving_keys (forest_of s) id.ns) ≡ false → wanted_in s (forest_of s) k ≡ wanted_in s f k → IsSameFor s after k
-    same_for live leaving least (key.Copy m kind name) out same = by_tree (key.Copy m kind name) refl refl same
-    same_for live leaving least (key.Tree m) out same = by_tree (key.Tree m) refl refl same
-    same_for live leaving least (key.Report m) out same = by_tree (key.Report m) refl refl same
-    same_for live leaving least (key.Child m name) out same = by_tree (key.Child m name) refl refl same
-    same_for live leaving least (key.Anchor m name) out same =
+        → (k : Key) → ((m : List ℕ) → k ≡ key.Report m → IsSameFor s after (key.Report m)) → is_among k (leaving_keys (forest_of s) id.ns) ≡ false → wanted_in s (forest_of s) k ≡ wanted_in s f k → IsSameFor s after k
+    same_for live leaving least (key.Copy m kind name) told out same = by_tree (key.Copy m kind name) refl refl same
+    same_for live leaving least (key.Tree m) told out same = by_tree (key.Tree m) refl refl same
+    same_for live leaving least (key.Report m) told out same = told m refl
+    same_for live leaving least (key.Child m name) told out same = by_tree (key.Child m name) refl refl same
+    same_for live leaving least (key.Anchor m name) told out same =
         same_status s after m name (other_kind (anchor_id m name) refl) (other_kind (namespace_id m) refl) (ap (λ g. is_live g m) tree ∙ live m) (status_stays s after m name refl (other_kind (namespace_id name) refl))
-    same_for live leaving least (key.Used m name) out same = by_tree (key.Used m name) refl refl same
-    same_for live leaving least (key.Purge m) out same = removal_beside s after id (hierarchy_no_namespace id is) keeps least (λ n. ap (λ g. is_leaving g n) tree ∙ leaving n) m out
+    same_for live leaving least (key.Used m name) told out same = by_tree (key.Used m name) refl refl same
+    same_for live leaving least (key.Purge m) told out same = removal_beside s after id (hierarchy_no_namespace id is) keeps least (λ n. ap (λ g. is_leaving g n) tree ∙ leaving n) m out

@@ -2,7 +2,7 @@
 --     object_key         the key of an object's copies, in a namespace that is there
 --     all_sent_key       what marks its tree labels, and the places of what is sent
 --     within_moves       what is marked may be marked
-use Rattle.std.proofs.Common.{◌≡◌, ℕ, Bool, true, false, ◌&&◌, ◌||◌, ◌==◌, Option, Some, List, [], ◌∷◌, map, filter, flat_map, refl, sym, ap, ◌∙◌, inl, inr, true≢false, eq-eqb, eqb-true, ◌++◌}
+use Rattle.std.proofs.Common.{◌≡◌, ℕ, Bool, true, false, ◌&&◌, ◌||◌, ◌==◌, Option, Some, List, [], ◌∷◌, map, filter, flat_map, refl, sym, ap, ◌∙◌, inl, inr, true≢false, eq-eqb, eqb-true}
 use Rattle.std.specs.Prelude.{if◌then◌else◌}
 use Rattle.std.specs.List.{list_any, list_all}
 use Rattle.std.specs.Str.{bytes_eq}
@@ -29,9 +29,10 @@ use Rattle.hx_model.proofs.Climbing.{same_itself}
 use Rattle.hx_model.proofs.Objects.{same_kind}
 use Rattle.hx_model.proofs.Parents.{is_in_filter}
 use Rattle.hx_model.proofs.Walking.{names_have}
-use Rattle.hx_marks.specs.Law.{is_sent, listed_in, sent_from, key_for, all_of, live_below, in_one, all_sent, sent_marks, moved_by, move_marks, object_written, marks_of, leaving_keys}
-use Rattle.hx_marks.proofs.Among.{same_key_is, among_flat_map, among_map, any_filter, found_object, passing_object, found_name, found_kind, among_append}
-use Rattle.hx_marks.proofs.MoveLaw.{hierarchy_marks}
+use Rattle.hx_marks.specs.Law.{is_sent, listed_in, sent_from, key_for, all_of, live_below, in_one, all_sent, sent_marks, moved_by, move_marks, object_written, marks_of, leaving_keys, hierarchy_reports}
+use Rattle.hx_marks.proofs.Among.{same_key_is, among_flat_map, among_map, any_filter, found_object, passing_object, found_name, found_kind}
+use Rattle.hx_marks.proofs.MoveLaw.{hierarchy_among}
+use Rattle.hx_marks.proofs.MoveReports.{placed_known}
 use Rattle.hx_marks.proofs.Wanting.{any_flat_map}
 use Rattle.hx_marks.proofs.Within.{all_keys, leaving_key}
 
@@ -101,24 +102,37 @@ module _ (s : State) (valid : IsValid s) (k : Key) (n : List ℕ) where
       by true h = absurd (true≢false (sym h))
       by false h = moved_key (parent_of (forest_of s) n) (parent_of (forest_of t) n) (is_open (forest_of s) n) (is_open (forest_of t) n) h
 
+-- the reports that are marked
+told_key : (s t : State) (k : Key) (n : List ℕ) → is_among k (hierarchy_reports s t n) ≡ true → is_key s k ≡ true
+told_key s t k n h =
+    let found = placed_known (forest_of s) k n (parent_of (forest_of s) n) (parent_of (forest_of t) n) (is_open (forest_of s) n) (is_open (forest_of t) n) h in
+    ap (is_key s) found.1 ∙ or_left (is_there (forest_of s) found.0) (has_named s.objects SubnamespaceAnchor found.0) found.2
+
 -- what is marked may be marked
 pub within_moves : (s : State) (write : Write) → IsValid s → MayWriteAll s (write ∷ []) → is_hierarchy (id_written write).kind ≡ true → (k : Key) → is_among k (marks_of s write) ≡ true → may_mark s (write ∷ []) k ≡ true
 within_moves s write valid may is k marked =
     ap (λ kind. if is_plain kind then touches s (id_written write) k else (is_key s k || is_key (state_after s (write ∷ [])) k)) (hierarchy_kind (id_written write).kind is)
-    ∙ or_left (is_key s k) (is_key (state_after s (write ∷ [])) k) (elim (or_cases (is_among k moves) (is_among k leaving) (sym (among_append k moves leaving) ∙ sym marks_are ∙ marked)) [
-      | inl moved ↦ by_name (bytes_eq (id_written write).name hierarchy) moved
-      | inr leaves ↦ leaving_key s (id_written write).ns k leaves
+    ∙ or_left (is_key s k) (is_key (state_after s (write ∷ [])) k) (elim (or_cases (moves || leaves) told (sym (hierarchy_among s (state_after s (write ∷ [])) (id_written write) (object_at s.objects (id_written write)) (object_written write) is k) ∙ marked)) [
+      | inl placed ↦ elim (or_cases moves leaves placed) [
+        | inl moved ↦ moving (bytes_eq (id_written write).name hierarchy) moved
+        | inr left ↦ leaving_key s (id_written write).ns k left
+      ]
+      | inr report ↦ telling (bytes_eq (id_written write).name hierarchy) report
     ])
   where
-    moves : List Key
-    moves = if bytes_eq (id_written write).name hierarchy then move_marks s (state_after s (write ∷ [])) (id_written write).ns else []
+    moves : Bool
+    moves = is_among k (if bytes_eq (id_written write).name hierarchy then move_marks s (state_after s (write ∷ [])) (id_written write).ns else [])
 
-    leaving : List Key
-    leaving = leaving_keys (forest_of s) (id_written write).ns
+    leaves : Bool
+    leaves = is_among k (leaving_keys (forest_of s) (id_written write).ns)
 
-    marks_are : is_among k (marks_of s write) ≡ is_among k (moves ++ leaving)
-    marks_are = ap (is_among k) (hierarchy_marks s (state_after s (write ∷ [])) (id_written write) (object_at s.objects (id_written write)) (object_written write) is)
+    told : Bool
+    told = is_among k (if bytes_eq (id_written write).name hierarchy then hierarchy_reports s (state_after s (write ∷ [])) (id_written write).ns else [])
 
-    by_name : (b : Bool) → is_among k (if b then move_marks s (state_after s (write ∷ [])) (id_written write).ns else []) ≡ true → is_key s k ≡ true
-    by_name true h = move_key s valid k (id_written write).ns (state_after s (write ∷ [])) h
-    by_name false h = absurd (true≢false (sym h))
+    moving : (b : Bool) → is_among k (if b then move_marks s (state_after s (write ∷ [])) (id_written write).ns else []) ≡ true → is_key s k ≡ true
+    moving true h = move_key s valid k (id_written write).ns (state_after s (write ∷ [])) h
+    moving false h = absurd (true≢false (sym h))
+
+    telling : (b : Bool) → is_among k (if b then hierarchy_reports s (state_after s (write ∷ [])) (id_written write).ns else []) ≡ true → is_key s k ≡ true
+    telling true h = told_key s (state_after s (write ∷ [])) k (id_written write).ns h
+    telling false h = absurd (true≢false (sym h))

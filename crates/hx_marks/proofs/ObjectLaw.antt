@@ -7,6 +7,7 @@
 use Rattle.std.proofs.Common.{◌≡◌, ℕ, ◌==◌, Bool, true, false, cond, not, ◌&&◌, ◌||◌, Option, Some, None, List, [], ◌∷◌, refl, sym, ap, ◌∙◌, inl, inr, true≢false, eq-eqb, ◌++◌}
 use Rattle.std.specs.Option.{option_map_or}
 use Rattle.std.specs.Str.{bytes_eq}
+use Rattle.std.proofs.lemmas.List.{append-nil}
 use Rattle.std.proofs.lemmas.Bool.{and_parts, and_from, or_parts, cases_Bool, not_from_false, false_from_ne_true, or_cases, or_left}
 use Rattle.hx_object.specs.Kinds.{can_be_copied, is_namespace, is_hierarchy, is_plain, number_of, is_anchor}
 use Rattle.hx_object.specs.declared.kind.Kind.{Kind}
@@ -39,7 +40,8 @@ use Rattle.hx_marks.proofs.Among.{same_key_is, same_key_itself, among_map, among
 use Rattle.hx_marks.proofs.OpenBelow.{open_is_there, in_own_chain, in_open_below, open_below_has}
 use Rattle.hx_marks.proofs.Frames.{none_in_both, ignored_wants, uncopied_wants, same_tree, same_closed, same_copied, removal_beside}
 use Rattle.hx_marks.proofs.Going.{unsent_stays, going, top_along}
-use Rattle.hx_marks.proofs.Leaving.{Leaves, leaves, namespaces_stay, marks_by_kept, child_stays, anchored_stays, leaving_stay}
+use Rattle.hx_marks.specs.Reports.{anchored_reports}
+use Rattle.hx_marks.proofs.Leaving.{Leaves, leaves, namespaces_stay, marks_by_kept, child_stays, anchored_stays, leaving_stay, report_stays}
 use Rattle.hx_marks.proofs.Within.{leaving_key}
 
 -- ---- what is marked
@@ -80,7 +82,7 @@ unsent_going mode labels (Some x) out = ap (λ b. so b x) (unsent_stays mode x l
 
 -- ---- the law
 
-module _ (s t : State) (id : Id) (new : Option Object) (left : Leaves s t id new) (namespace : is_namespace id.kind ≡ false) (modes : is_modes id ≡ false) (other : is_anchor id.kind ≡ false) where
+module _ (s t : State) (id : Id) (new : Option Object) (left : Leaves s t id new) (namespace : is_namespace id.kind ≡ false) (hierarchical : is_hierarchy id.kind ≡ false) (modes : is_modes id ≡ false) (other : is_anchor id.kind ≡ false) where
   found : (m : List ℕ) → object_at t.objects (namespace_id m) ≡ object_at s.objects (namespace_id m)
   found = namespaces_stay s t id left.others namespace
 
@@ -130,7 +132,7 @@ module _ (s t : State) (id : Id) (new : Option Object) (left : Leaves s t id new
   key_law : (k : Key) → is_among k (object_marks s id (object_at s.objects id) new) ≡ false → is_among k (leaving_keys (forest_of s) id.ns) ≡ false → IsSameFor s t k
   key_law (key.Copy n kind name) out stays = copy_law n kind name out
   key_law (key.Tree n) out stays = same_tree s t left.tree found n
-  key_law (key.Report n) out stays = none_in_both s t (key.Report n) refl refl
+  key_law (key.Report n) out stays = report_stays s t id new left namespace hierarchical other n
   key_law (key.Child n m) out stays = child_stays s t id new left namespace other n m
   key_law (key.Anchor n m) out stays = anchored_stays s t id new left namespace other n m
   key_law (key.Used n name) out stays = none_in_both s t (key.Used n name) refl refl
@@ -140,7 +142,9 @@ pub marks_by_object : (s : State) (write : Write) → is_namespace (id_written w
     → marks_of s write ≡ object_marks s (id_written write) (object_at s.objects (id_written write)) (object_written write) ++ leaving_keys (forest_of s) (id_written write).ns
 marks_by_object s write namespace hierarchical modes other =
     let marks = object_marks s (id_written write) (object_at s.objects (id_written write)) (object_written write) in
-    marks_by_kept s write namespace hierarchical modes ∙ ap (λ b. cond b (anchor_marks (id_written write)) marks ++ leaving_keys (forest_of s) (id_written write).ns) other
+    let leaving = leaving_keys (forest_of s) (id_written write).ns in
+    let reports = anchored_reports s (id_written write) (object_at s.objects (id_written write)) (object_written write) in
+    marks_by_kept s write namespace hierarchical modes ∙ ap (λ b. (cond b (anchor_marks (id_written write)) marks ++ leaving) ++ cond b reports []) other ∙ append-nil (marks ++ leaving)
 
 -- a key that isn't marked wants the same before and after the write
 pub object_law : (s : State) (write : Write) → IsValid s → MayWriteAll s (write ∷ []) → is_namespace (id_written write).kind ≡ false → is_hierarchy (id_written write).kind ≡ false → is_modes (id_written write) ≡ false → is_anchor (id_written write).kind ≡ false
@@ -149,7 +153,7 @@ object_law s write valid may namespace hierarchical modes other k out =
     let marks = object_marks s (id_written write) (object_at s.objects (id_written write)) (object_written write) in
     let keys = leaving_keys (forest_of s) (id_written write).ns in
     let none : (is_among k marks || is_among k keys) ≡ false = sym (among_append k marks keys) ∙ ap (is_among k) (sym (marks_by_object s write namespace hierarchical modes other)) ∙ out in
-    key_law s (state_after s (write ∷ [])) (id_written write) (object_written write) (leaves s write namespace hierarchical) namespace modes other k
+    key_law s (state_after s (write ∷ [])) (id_written write) (object_written write) (leaves s write namespace hierarchical) namespace hierarchical modes other k
     (out_left (is_among k marks) (is_among k keys) none) (out_right (is_among k marks) (is_among k keys) none)
 
 -- ---- and nothing else is marked

@@ -37,6 +37,7 @@ use Rattle.hx_model.proofs.Storing.{All-found}
 use Rattle.hx_marks.proofs.Frames.{least_lies}
 use Rattle.hx_marks.proofs.Making.{IsCopyOrCut, in_mode_is, IsCopyWrite, copy_write_known, IsTreeWrite, tree_write_known, IsChildWrite, child_write_known, IsStatusWrite, status_write_known, IsRemovalWrite, removal_write_known}
 use Rattle.hx_marks.proofs.Replacing.{copied_leaf, leaving_found}
+use Rattle.hx_marks.proofs.ReportWrites.{IsReportWrite, report_write_known}
 
 -- ---- one write by itself
 
@@ -145,6 +146,18 @@ module _ (s : State) (write : Write) (fits : s.last < greatest_version) (served 
       } in
       subst (λ (w : Write). MayWrite s (versioned (s.last + 1) w)) (sym known.puts) may
 
+  -- the namespace of a report is there
+  report_may : (n : List ℕ) → IsReportWrite s n write → MayWrite s (versioned (s.last + 1) write)
+  report_may n known =
+      let y = known.report in
+      let may : MayPut s (with_version y (s.last + 1)) = record {
+        served = served_with_version y (s.last + 1) (served y known.puts);
+        next = refl;
+        home = home_there s.objects y.id (ap (λ (q : Id). is_some (object_at s.objects (namespace_id q.ns))) known.place ∙ ap is_some known.there);
+        place = λ one. absurd (true≢false (sym one ∙ ap (λ (q : Id). is_namespace q.kind) known.place));
+      } in
+      subst (λ (w : Write). MayWrite s (versioned (s.last + 1) w)) (sym known.puts) may
+
   -- a name that no namespace has, under a parent that may be there or not
   child_may : (n m : List ℕ) → IsChildWrite s n m write → MayWrite s (versioned (s.last + 1) write)
   child_may n m known =
@@ -198,7 +211,7 @@ module _ (s : State) (write : Write) (fits : s.last < greatest_version) (served 
 pub wanted_may_be_written : (s : State) (k : Key) (write : Write) → IsValid s → s.last < greatest_version → wanted_write s k ≡ Some write → ((x : Object) → write ≡ Put x → IsServed x) → MayWriteAll s (versioned (s.last + 1) write ∷ [])
 wanted_may_be_written s (key.Copy m kind name) write valid fits wants served = one_write s (versioned (s.last + 1) write) fits (copy_may s write fits served m kind name (copy_write_known s m kind name write wants))
 wanted_may_be_written s (key.Tree m) write valid fits wants served = one_write s (versioned (s.last + 1) write) fits (tree_may s write fits served m (tree_write_known s m write wants))
-wanted_may_be_written s (key.Report m) write valid fits wants served = absurd (true≢false (sym (ap is_some wants)))
+wanted_may_be_written s (key.Report m) write valid fits wants served = one_write s (versioned (s.last + 1) write) fits (report_may s write fits served m (report_write_known s m write valid wants))
 wanted_may_be_written s (key.Child m name) write valid fits wants served = one_write s (versioned (s.last + 1) write) fits (child_may s write fits served m name (child_write_known s m name write wants))
 wanted_may_be_written s (key.Anchor m name) write valid fits wants served = one_write s (versioned (s.last + 1) write) fits (status_may s write fits served valid m name (status_write_known s m name write wants))
 wanted_may_be_written s (key.Used m name) write valid fits wants served = absurd (true≢false (sym (ap is_some wants)))

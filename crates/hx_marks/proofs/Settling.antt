@@ -2,37 +2,44 @@
 --     same_object-Decides           the test of two objects tells whether they are equal
 --     placed_stands, stands_placed  nothing is put where the object stands;  and only there
 --     settled_exactly, nothing_wanted
-use Rattle.std.proofs.Common.{◌≡◌, ℕ, Bool, true, false, not, Option, Some, None, List, refl, sym, ap, ◌∙◌, true≢false}
+use Rattle.std.proofs.Common.{◌≡◌, ℕ, Bool, true, false, not, ◌&&◌, Option, Some, None, List, [], ◌∷◌, refl, sym, ap, ◌∙◌, true≢false}
 use Rattle.std.specs.Prelude.{is_some}
 use Rattle.std.specs.Bool.{Decides}
+use Rattle.std.proofs.lemmas.Bool.{and_parts, not-true}
 use Rattle.hx_object.specs.Kinds.{can_be_copied}
 use Rattle.hx_object.specs.declared.kind.Kind.{Kind}
+use Rattle.hx_object.specs.declared.object.Condition.{Condition}
 use Rattle.hx_object.specs.declared.object.Mode.{Mode}
 use Rattle.hx_object.specs.declared.object.Mode.TheVariants.{Propagate, AllowPropagate, Remove, Ignore}
 use Rattle.hx_object.specs.declared.object.Object.{Object}
+use Rattle.hx_object.specs.declared.object.Payload.TheVariants.{Hierarchy}
 use Rattle.hx_object.proofs.Sameness.{same_object_from}
 use Rattle.hx_model.specs.Answers.{same_object}
 use Rattle.hx_model.specs.Cases.{is_leaving}
 use Rattle.hx_model.specs.First.{so}
-use Rattle.hx_model.specs.Forest.{chain_of, is_in, is_live}
+use Rattle.hx_model.specs.Forest.{chain_of, children_of, is_excluded, is_in, is_live}
 use Rattle.hx_model.specs.Limits.{is_copy}
 use Rattle.hx_model.specs.Modes.{mode_of}
 use Rattle.hx_model.specs.Propagation.{copy_of, id_in, sources_above, top_source}
-use Rattle.hx_model.specs.Settled.{HasNoCopy, HasCopyOf, IsKeptIn, IsSettled}
+use Rattle.hx_model.specs.Moves.{is_calm}
+use Rattle.hx_model.specs.Reports.{bare_report, conditions_of, is_telling, report_write, with_report}
+use Rattle.hx_model.specs.Settled.{HasNoCopy, HasCopyOf, IsKeptIn, IsSettled, TellsExactly}
 use Rattle.hx_model.specs.State.{State, object_at, namespace_id, with_version, has_home}
-use Rattle.hx_model.specs.Subnamespaces.{anchor_id}
-use Rattle.hx_model.specs.Tree.{forest_of, is_terminating}
+use Rattle.hx_model.specs.Subnamespaces.{allows_cascade, anchor_id}
+use Rattle.hx_model.specs.Tree.{forest_of, hierarchy_id, is_terminating, spec_parent}
 use Rattle.hx_model.specs.TreeLabels.{is_open}
 use Rattle.hx_model.specs.Valid.{IsValid}
-use Rattle.hx_model.specs.Wanted.{placed, without_copy, copied, copied_in, copy_write, wanted_copy, labelled, tree_write, wanted_tree, wanted_write, child_write, wanted_child, subnamespace, with_status_of, anchor_status, anchor_write, wanted_anchor, next_to_go, least_id, purge_write, wanted_purge}
+use Rattle.hx_model.specs.Wanted.{placed, without_copy, copied, copied_in, copy_write, wanted_copy, labelled, tree_write, wanted_tree, wanted_write, child_write, wanted_child, subnamespace, with_status_of, anchor_status, anchor_write, wanted_anchor, wanted_report, next_to_go, least_id, purge_write, wanted_purge}
 use Rattle.hx_model.specs.declared.key.Key.{Key}
 use Rattle.hx_model.specs.declared.key.Key.TheVariants as key
 use Rattle.hx_model.specs.declared.key.Write.{Write}
 use Rattle.hx_model.specs.declared.key.Write.TheVariants.{Put, Cut}
 use Rattle.hx_model.proofs.Objects.{found_id}
+use Rattle.hx_model.proofs.Planting.{there-objects}
 use Rattle.hx_model.proofs.Storing.{All-found}
 use Rattle.hx_marks.proofs.Frames.{unanchored_child, unanchored_status, staying_removal}
-use Rattle.hx_marks.proofs.Replacing.{leaving_is, live_is, leaving_found}
+use Rattle.hx_marks.proofs.Replacing.{leaving_is, live_is, leaving_found, valid_served}
+use Rattle.hx_marks.proofs.Reporting.{calm_there, silent_wants}
 use Rattle.hx_marks.proofs.Wanting.{wants_copied}
 
 pub same_object-Decides : (a b : Object) → Decides (same_object a b) (a ≡ b)
@@ -92,6 +99,26 @@ from_kept AllowPropagate top n place kept = stands_copied top n place kept
 from_kept Remove top n place kept = stands_gone place kept
 from_kept Ignore top n place kept = refl
 
+-- ---- reports
+
+-- where nothing is to be told of a namespace, its HierarchyConfiguration tells all
+tells_from : (found : Option Object) (children : List (List ℕ)) (conditions : List Condition) (n : List ℕ) → report_write true found children conditions n ≡ None → TellsExactly found children conditions
+tells_from None [] [] n e = (refl, refl)
+tells_from None [] (c ∷ cs) n e = absurd (none_some (Put (bare_report n [] (c ∷ cs))) e)
+tells_from None (m ∷ ms) conditions n e = absurd (none_some (Put (bare_report n (m ∷ ms) conditions)) e)
+tells_from (Some x) children conditions n e =
+    let stands = placed_stands (with_report children conditions x) (Some x) e in
+    let same : x ≡ stands.0 = let h = stands.1 in cc in
+    (spec_parent x.payload, allows_cascade x.payload, ap (λ (o : Object). o.payload) same ∙ ap (λ (o : Object). o.payload) stands.2)
+
+-- and where it does, nothing is
+from_tells : (found : Option Object) (children : List (List ℕ)) (conditions : List Condition) (n : List ℕ) → TellsExactly found children conditions → report_write true found children conditions n ≡ None
+from_tells None children conditions n told = λ i. so (is_telling (told.0 i) (told.1 i)) (Put (bare_report n children conditions))
+from_tells (Some x) children conditions n told =
+    let tells : x.payload ≡ Hierarchy (spec_parent x.payload) (allows_cascade x.payload) children conditions =
+    told.2 ∙ sym (λ i. Hierarchy (spec_parent (told.2 i)) (allows_cascade (told.2 i)) children conditions) in
+    stands_placed (with_report children conditions x) x (λ i. record x { payload = tells i; version = 0 })
+
 -- ---- states
 
 -- what a namespace that takes part wants
@@ -145,6 +172,11 @@ settled_exactly s valid none = record {
       let stands = placed_stands (with_status_of (anchor_status s n m) x) (Some x) (sym written ∙ none (key.Anchor n m)) in
       let same : x ≡ stands.0 = let e = stands.1 in cc in
       ap (λ (o : Object). o.payload) same ∙ ap (λ (o : Object). o.payload) stands.2;
+  reports = λ n x at included.
+      let children = children_of (forest_of s) n in
+      let conditions = conditions_of s n in
+      let calm : is_calm (forest_of s) n ≡ true = λ i. (live_is s valid n x at ∙ ap not (staying n x at)) i && not (included i) in
+      tells_from (object_at s.objects (hierarchy_id n)) children conditions n (sym (ap (λ b. report_write b (object_at s.objects (hierarchy_id n)) children conditions n) calm) ∙ none (key.Report n));
 }
   where
     staying : (n : List ℕ) (x : Object) → object_at s.objects (namespace_id n) ≡ Some x → is_terminating x.payload ≡ false
@@ -179,7 +211,24 @@ nothing_wanted s valid settled (key.Tree n) = by (is_open (forest_of s) n) (obje
         let labels = (settled.places n x at is).labels in
         tree_wanted s n x at is ∙ stands_placed (labelled (chain_of (forest_of s) n) x) x (λ i. record x { labels = labels i; version = 0 })
     by false (Some x) is at = λ i. tree_write (is i) (chain_of (forest_of s) n) (at i)
-nothing_wanted s valid settled (key.Report n) = refl
+nothing_wanted s valid settled (key.Report n) = by (is_calm (forest_of s) n) refl
+  where
+    children : List (List ℕ)
+    children = children_of (forest_of s) n
+
+    conditions : List Condition
+    conditions = conditions_of s n
+
+    found : Option Object
+    found = object_at s.objects (hierarchy_id n)
+
+    there : (o : Option Object) → object_at s.objects (namespace_id n) ≡ o → is_calm (forest_of s) n ≡ true → TellsExactly found children conditions
+    there None absent calm = absurd (true≢false (sym (calm_there (forest_of s) n calm) ∙ there-objects s.config.excluded s.objects n (valid_served s valid) ∙ ap is_some absent))
+    there (Some x) at calm = settled.reports n x at (not-true (is_excluded (forest_of s) n) (and_parts (is_live (forest_of s) n) _ calm).1)
+
+    by : (calm : Bool) → is_calm (forest_of s) n ≡ calm → wanted_report s n ≡ None
+    by false is = silent_wants s n is
+    by true is = ap (λ b. report_write b found children conditions n) is ∙ from_tells found children conditions n (there (object_at s.objects (namespace_id n)) refl is)
 nothing_wanted s valid settled (key.Child n m) = by (object_at s.objects (anchor_id n m)) refl
   where
     held : (acts excluded taken : Bool) → (acts ≡ true → excluded ≡ false → taken ≡ true) → child_write acts true excluded taken n m ≡ None

@@ -21,7 +21,7 @@ use Rattle.hx_model.specs.Keys.{same_key, is_among}
 use Rattle.hx_model.specs.Propagation.{id_in}
 use Rattle.hx_model.specs.State.{State, object_at, namespace_id, same_id, least_in}
 use Rattle.hx_model.specs.Subnamespaces.{anchor_id}
-use Rattle.hx_model.specs.Tree.{forest_of}
+use Rattle.hx_model.specs.Tree.{forest_of, hierarchy_id}
 use Rattle.hx_model.specs.Wanted.{wanted_write, guards_of, purge_guards, purge_write, least_id}
 use Rattle.hx_model.specs.declared.key.Guard.{Guard}
 use Rattle.hx_model.specs.declared.key.Key.{Key}
@@ -46,6 +46,7 @@ ids_gone n _ = []
 abbrev pub ids_for : Key → Option Write → List Id
 ids_for (key.Copy n kind name) write = id_in kind name n ∷ namespace_id n ∷ []
 ids_for (key.Tree n) write = namespace_id n ∷ []
+ids_for (key.Report n) write = hierarchy_id n ∷ namespace_id n ∷ []
 ids_for (key.Child n name) write = anchor_id n name ∷ namespace_id n ∷ namespace_id name ∷ []
 ids_for (key.Anchor n name) write = anchor_id n name ∷ namespace_id n ∷ []
 ids_for (key.Purge n) write = ids_gone n write
@@ -96,7 +97,7 @@ Tells s guards = AllByRecursion (λ (g : Guard). g.version ≡ version_in s g.id
 telling : (s : State) (k : Key) → Tells s (guards_of s k)
 telling s (key.Copy n kind name) = (refl, (refl, tt))
 telling s (key.Tree n) = (refl, tt)
-telling s (key.Report n) = tt
+telling s (key.Report n) = (refl, (refl, tt))
 telling s (key.Child n name) = (refl, (refl, (refl, tt)))
 telling s (key.Anchor n name) = (refl, (refl, tt))
 telling s (key.Used n name) = tt

@@ -16,6 +16,7 @@ use Rattle.hx_object.specs.Kinds.{number_of, can_be_copied}
 use Rattle.hx_object.specs.declared.kind.Kind.{Kind}
 use Rattle.hx_object.specs.declared.kind.Kind.TheVariants.{SubnamespaceAnchor}
 use Rattle.hx_object.specs.declared.object.AnchorStatus.{AnchorStatus}
+use Rattle.hx_object.specs.declared.object.Condition.{Condition}
 use Rattle.hx_object.specs.declared.object.Id.{Id}
 use Rattle.hx_object.specs.declared.object.Mode.{Mode}
 use Rattle.hx_object.specs.declared.object.Mode.TheVariants.{Propagate, AllowPropagate, Remove, Ignore}
@@ -24,14 +25,15 @@ use Rattle.hx_model.specs.Answers.{is_listed}
 use Rattle.hx_model.specs.Cases.{is_leaving}
 use Rattle.hx_model.specs.Exceptions.{is_allowed, passes, is_false, none_of, select_of, tree_select_in}
 use Rattle.hx_model.specs.First.{so}
-use Rattle.hx_model.specs.Forest.{tail_of, is_in, is_live, chain_of}
+use Rattle.hx_model.specs.Forest.{tail_of, is_in, is_live, chain_of, children_of}
 use Rattle.hx_model.specs.Keys.{same_key, is_among}
 use Rattle.hx_model.specs.Limits.{is_copy}
-use Rattle.hx_model.specs.Moves.{mode_at, copied_kinds}
+use Rattle.hx_model.specs.Moves.{is_calm, mode_at, copied_kinds}
 use Rattle.hx_model.specs.Propagation.{goes_to, is_source, stays_home, is_propagated, id_in, as_list, source_at, sources_along, top_of}
+use Rattle.hx_model.specs.Reports.{conditions_of, report_write}
 use Rattle.hx_model.specs.State.{State, Objects, object_at, namespace_id}
 use Rattle.hx_model.specs.Subnamespaces.{anchor_id}
-use Rattle.hx_model.specs.Tree.{forest_of}
+use Rattle.hx_model.specs.Tree.{forest_of, hierarchy_id}
 use Rattle.hx_model.specs.TreeLabels.{is_open}
 use Rattle.hx_model.specs.Wanted.{copy_write, copied, copied_in, without_copy, tree_write, child_write, anchor_status, anchor_write, least_id, purge_write, wanted_write}
 use Rattle.hx_model.specs.declared.key.Key.{Key}
@@ -252,14 +254,21 @@ status_known live status None wants = absurd (wants refl)
 status_known true status (Some x) wants = (refl, x, refl)
 status_known false status (Some x) wants = absurd (wants refl)
 
+-- a report that is wanted: its namespace takes reports
+pub report_known : (takes : Bool) (found : Option Object) (children : List (List ℕ)) (conditions : List Condition) (n : List ℕ) → report_write takes found children conditions n ≢ None → takes ≡ true
+report_known true found children conditions n wants = refl
+report_known false None children conditions n wants = absurd (wants refl)
+report_known false (Some x) children conditions n wants = absurd (wants refl)
+
 -- a removal that is wanted: the namespace is on its way out
 pub removal_known : (leaves : Bool) (least : Option Id) (n : List ℕ) → purge_write leaves least n ≢ None → leaves ≡ true
 removal_known true least n wants = refl
 removal_known false least n wants = absurd (wants refl)
 
--- a key is among those of its namespace: of one that takes part, of the statuses of one that isn't on its way out, or of the removal of one that is
+-- a key is among those of its namespace: of one that takes part, of the statuses of one that isn't on its way out, of the report of one that takes reports, or of the removal of one that is on its way out
 abbrev pub IsKnown : State → Key → Type 0
 IsKnown s (key.Anchor n name) = (is_live (forest_of s) n ≡ true) × (is_among (key.Anchor n name) (status_keys s.objects n) ≡ true)
+IsKnown s (key.Report n) = is_calm (forest_of s) n ≡ true
 IsKnown s (key.Purge n) = is_leaving (forest_of s) n ≡ true
 IsKnown s k = (m : List ℕ) × (is_open (forest_of s) m ≡ true) × (is_among k (all_of s.objects (chain_of (forest_of s) m) m) ≡ true)
 
@@ -274,7 +283,7 @@ all_known s (key.Tree m) wants = (m, acting (is_open (forest_of s) m) (object_at
     acting true found wants = refl
     acting false None wants = absurd (wants refl)
     acting false (Some x) wants = absurd (wants refl)
-all_known s (key.Report m) wants = absurd (wants refl)
+all_known s (key.Report m) wants = report_known (is_calm (forest_of s) m) (object_at s.objects (hierarchy_id m)) (children_of (forest_of s) m) (conditions_of s m) m wants
 all_known s (key.Child m name) wants =
     let known = child_known (is_open (forest_of s) m) (object_at s.objects (anchor_id m name)) (is_in name s.config.excluded) (is_some (object_at s.objects (namespace_id name))) m name wants in
     (m, known.0, all_children s.objects (chain_of (forest_of s) m) m (key.Child m name) (child_among s.objects m name known.1 known.2))

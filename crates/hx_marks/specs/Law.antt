@@ -5,7 +5,6 @@
 --     child_keys, status_keys    of the anchors in a namespace: the keys of their subnamespaces;  of their statuses
 --     asking_keys            both, of the anchors that ask for a name
 --     leaving_keys           the key of the removal of a namespace that is on its way out
---     open_below f n         the namespaces of a subtree that take part
 --     known_of objects f n   all keys of a namespace that may want a write
 --     label_marks            a namespace is replaced
 --     ending_marks           a namespace is on its way out from now on
@@ -14,12 +13,16 @@
 --     move_marks             a namespace gets another parent
 --     mode_marks             the modes of kinds change
 --     anchor_marks           an anchor is written or removed
+--     report_marks           the reports that a write changes
 --     object_marks           an object of a kind that can be copied is written or removed
 --     marks_of s write       by what is written
+--     ending_names writes    the namespaces that writes put as on their way out
+--     follows f names n      its parent is another, and among them
+--     following_marks        a namespace is on its way out from now on, and so is its parent, which marks what took part below both
+--     marks_among s names write    what a write marks among others, which put these namespaces as on their way out
 --     all_marks s writes     of the writes of a commit, each by the state before it
 -- All is read off the state before the write. A key may stand in a list more than once.
 use Rattle.std.specs.Prelude.{ℕ, Bool, true, false, not, ◌&&◌, ◌||◌, List, [], ◌∷◌, ◌++◌, flat_map, map, filter, Option, Some, None, if◌then◌else◌}
-use Rattle.std.specs.List.{list_all}
 use Rattle.std.specs.Option.{option_map_or}
 use Rattle.std.specs.Str.{bytes_eq}
 use Rattle.hx_object.specs.Kinds.{can_be_copied, is_namespace, is_hierarchy, is_anchor}
@@ -33,10 +36,10 @@ use Rattle.hx_object.specs.declared.object.Object.{Object}
 use Rattle.hx_model.specs.Answers.{is_listed}
 use Rattle.hx_model.specs.Cases.{same_name, is_leaving}
 use Rattle.hx_model.specs.Exceptions.{none_of, passes, is_false}
-use Rattle.hx_model.specs.Forest.{Forest, is_in, names_of, parent_of, chain_of, tail_of, subtree_of}
+use Rattle.hx_model.specs.Forest.{Forest, is_in, parent_of, children_of, chain_of, tail_of}
 use Rattle.hx_model.specs.Limits.{is_copy}
 use Rattle.hx_model.specs.Modes.{mode_in}
-use Rattle.hx_model.specs.Moves.{up_to, chain_from, is_calm, moved_chain_of, mode_at, copied_kinds}
+use Rattle.hx_model.specs.Moves.{chain_from, moved_chain_of, mode_at, copied_kinds}
 use Rattle.hx_model.specs.Propagation.{is_source, stays_home, is_propagated}
 use Rattle.hx_model.specs.State.{State, Objects, object_at, state_after}
 use Rattle.hx_model.specs.Tree.{hierarchy, forest_of, is_terminating}
@@ -47,6 +50,8 @@ use Rattle.hx_model.specs.declared.key.Key.TheVariants as key
 use Rattle.hx_model.specs.declared.key.Write.{Write}
 use Rattle.hx_model.specs.declared.key.Write.TheVariants.{Put, Cut}
 use Rattle.hx_store.specs.Sources.{is_anchor_of}
+pub use Rattle.hx_marks.specs.Below.{open_below, live_below, below_created, differ}
+use Rattle.hx_marks.specs.Reports.{report_keys, reports_of, ending_reports, removed_reports, created_reports, placed_reports, anchored_reports}
 
 -- ---- what may want a write
 
@@ -104,29 +109,11 @@ leaving_keys f n = if is_leaving f n then key.Purge n ∷ [] else []
 abbrev pub all_of : Objects → List (List ℕ) → List ℕ → List Key
 all_of objects chain m = key.Tree m ∷ (wants_of objects chain m ++ child_keys objects m)
 
--- ---- what lies below
-
--- the namespaces of a subtree that take part
-abbrev pub open_below : Forest → List ℕ → List (List ℕ)
-open_below f n = filter (is_open f) (subtree_of f n)
-
--- those that take part whenever n does: all up to n are there, not on their way out, and included
-abbrev pub live_below : Forest → List ℕ → List (List ℕ)
-live_below f n = filter (λ m. list_all (is_calm f) (up_to n (chain_of f m))) (subtree_of f n)
-
--- the namespaces that name n as their parent, whether it is there or not
-abbrev pub is_child : Forest → List ℕ → List ℕ → Bool
-is_child f n m = option_map_or (bytes_eq n) (parent_of f m) false
-
--- n, and what lies below those that name it
-abbrev pub below_created : Forest → List ℕ → List (List ℕ)
-below_created f n = n ∷ flat_map (subtree_of f) (filter (is_child f n) (names_of f))
-
 -- ---- namespaces
 
 -- all keys of a namespace that may want a write
 abbrev pub known_of : Objects → Forest → List ℕ → List Key
-known_of objects f n = (if is_open f n then all_of objects (chain_of f n) n else []) ++ (status_keys objects n ++ leaving_keys f n)
+known_of objects f n = (if is_open f n then all_of objects (chain_of f n) n else []) ++ (report_keys f n ++ (status_keys objects n ++ leaving_keys f n))
 
 -- A namespace is replaced: its labels may count, and all its keys rest on its version
 abbrev pub label_marks : State → List ℕ → List Key
@@ -179,11 +166,6 @@ move_marks s t n =
     else moved_by s n (parent_of (forest_of s) n) (parent_of (forest_of t) n) (is_open (forest_of s) n) (is_open (forest_of t) n)
 
 -- ---- modes
-
--- one of two tests holds, and not the other
-abbrev pub differ : Bool → Bool → Bool
-differ true b = not b
-differ false b = b
 
 -- the place of a copy, where its kind begins or ends to be ignored
 abbrev pub copy_marks : Forest → Mode → Mode → Object → List Key
@@ -256,8 +238,65 @@ marks_by s t id old new =
     if is_namespace id.kind then namespace_marks s t id.name old new else (
     if is_modes id then mode_marks s old new else (inner_marks s t id old new ++ leaving_keys (forest_of s) id.ns))
 
-abbrev pub marks_of : State → Write → List Key
-marks_of s write = marks_by s (state_after s (write ∷ [])) (id_written write) (object_at s.objects (id_written write)) (object_written write)
+-- a namespace that was there, or wasn't, and is there then, or isn't: whose reports change. That of one that is replaced is among its own keys
+abbrev pub namespace_reports : State → State → List ℕ → Option Object → Option Object → List Key
+namespace_reports s t n (Some old) (Some x) = if begins_to_end old x then ending_reports (forest_of s) n else []
+namespace_reports s t n (Some old) None = removed_reports (forest_of s) n
+namespace_reports s t n None new = created_reports (forest_of s) n (parent_of (forest_of t) n)
 
+-- the HierarchyConfiguration of a namespace is written or removed
+abbrev pub hierarchy_reports : State → State → List ℕ → List Key
+hierarchy_reports s t n = placed_reports (forest_of s) n (parent_of (forest_of s) n) (parent_of (forest_of t) n) (is_open (forest_of s) n) (is_open (forest_of t) n)
+
+-- whose reports change, by what is written, and the state after it
+abbrev pub report_marks : State → State → Id → Option Object → Option Object → List Key
+report_marks s t id old new =
+    if is_namespace id.kind then namespace_reports s t id.name old new else (
+    if is_hierarchy id.kind then (if bytes_eq id.name hierarchy then hierarchy_reports s t id.ns else []) else (
+    if is_anchor id.kind then anchored_reports s id old new else []))
+
+-- all that one write marks, by the states before and after it
+abbrev pub marks_between : State → State → Write → List Key
+marks_between s t write =
+    marks_by s t (id_written write) (object_at s.objects (id_written write)) (object_written write)
+    ++ report_marks s t (id_written write) (object_at s.objects (id_written write)) (object_written write)
+
+abbrev pub marks_of : State → Write → List Key
+marks_of s write = marks_between s (state_after s (write ∷ [])) write
+
+-- ---- the writes of a commit
+
+-- the name of the namespace that a write puts as on its way out
+abbrev pub ending_name : Write → List (List ℕ)
+ending_name (Put x) = if is_namespace x.id.kind && is_terminating x.payload then x.id.name ∷ [] else []
+ending_name (Cut id) = []
+
+abbrev pub ending_names : List Write → List (List ℕ)
+ending_names writes = flat_map ending_name writes
+
+-- the parent of a namespace is another, and among these
+abbrev pub follows : Forest → List (List ℕ) → List ℕ → Bool
+follows f names n = option_map_or (λ p. not (bytes_eq p n) && is_in p names) (parent_of f n) false
+
+-- an object that stays begins to leave
+abbrev pub begins_by : Option Object → Option Object → Bool
+begins_by old new = option_map_or (λ x. option_map_or (λ before. begins_to_end before x) old false) new false
+
+-- a namespace begins to leave, whose parent is among these
+abbrev pub ends_following : Forest → List (List ℕ) → Id → Option Object → Option Object → Bool
+ends_following f names id old new = begins_by old new && (is_namespace id.kind && follows f names id.name)
+
+-- what it marks itself: the statuses of its anchors, its removal, its report, and those of its children. What took part below it did so below its parent
+abbrev pub following_marks : State → List ℕ → List Key
+following_marks s n = (status_keys s.objects n ++ key.Purge n ∷ []) ++ (report_keys (forest_of s) n ++ reports_of (forest_of s) (children_of (forest_of s) n))
+
+-- what a write marks among others, which put these namespaces as on their way out
+abbrev pub marks_among : State → List (List ℕ) → Write → List Key
+marks_among s names write =
+    if ends_following (forest_of s) names (id_written write) (object_at s.objects (id_written write)) (object_written write)
+    then following_marks s (id_written write).name
+    else marks_of s write
+
+-- what took part below several namespaces that begin to leave is marked by the topmost of them
 abbrev pub all_marks : State → List Write → List Key
-all_marks s writes = flat_map (marks_of s) writes
+all_marks s writes = flat_map (marks_among s (ending_names writes)) writes

@@ -1,3 +1,5 @@
+pub mod Below
+pub mod Reports
 pub mod Law
 pub mod Before
 pub mod Halves

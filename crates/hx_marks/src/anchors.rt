@@ -1,6 +1,5 @@
 // The keys of anchors, and of namespaces that are on their way out.
 ghost use Rattle.std.specs.Prelude.{◌≡◌, ◌++◌, ◌∷◌, [], IfOk, OnOk, flat_map, map};
-ghost use Rattle.hx_model.specs.Cases.{is_leaving};
 ghost use Rattle.hx_model.specs.declared.key.Key.TheVariants as key;
 ghost use Rattle.hx_marks.specs.Law.{anchor_keys, asking_keys, child_keys, leaving_keys, status_keys};
 
@@ -73,7 +72,7 @@ fn push_asking(anchors: &[Shared], keys: &mut Vec<Key>) -> Result<(), NoMemory>
 pub(crate) fn leaving_keys(forest: &Forest, ns: &Text, keys: &mut Vec<Key>) -> Result<(), NoMemory>
     ensures { OnOk result (keys.new.items ≡ keys.old.items ++ leaving_keys forest.now.nodes ns.now) }
 {
-    if is_leaving(forest, ns) {
+    if forest.is_leaving(ns) {
         push_purge(ns, keys)?;
     }
     Ok(())
@@ -85,16 +84,6 @@ pub(crate) fn push_purge(ns: &Text, keys: &mut Vec<Key>) -> Result<(), NoMemory>
 {
     keys.push(Key::Purge { ns: ns.clone()? })?;
     Ok(())
-}
-
-/// Whether a namespace is on its way out.
-fn is_leaving(forest: &Forest, ns: &Text) -> bool
-    ensures { result ≡ is_leaving forest.now.nodes ns.now }
-{
-    match forest.node(ns) {
-        Some(node) => node.terminating,
-        None => false,
-    }
 }
 
 fn child_key(ns: &Text, name: &Text) -> Result<Key, NoMemory>

@@ -1,7 +1,7 @@
 // Which namespaces take part, and what lies below them.
-ghost use Rattle.std.specs.Prelude.{◌≡◌, ◌++◌, IfOk, OnOk, option_copied};
+ghost use Rattle.std.specs.Prelude.{◌≡◌, ◌++◌, IfOk, OnOk, flat_map, option_copied};
 ghost use Rattle.std.specs.List.{list_all};
-ghost use Rattle.hx_model.specs.Forest.{chain_of};
+ghost use Rattle.hx_model.specs.Forest.{chain_of, subtree_of};
 ghost use Rattle.hx_model.specs.Moves.{up_to, chain_from, is_calm};
 ghost use Rattle.hx_model.specs.TreeLabels.{is_open};
 ghost use Rattle.hx_marks.specs.Law.{live_below, open_below};
@@ -70,6 +70,21 @@ pub(crate) fn push_names(list: &mut Vec<Text>, names: &[Text]) -> Result<(), NoM
 {
     for name in names {
         list.push(name.clone()?)?;
+    }
+    Ok(())
+}
+
+/// Adds what lies below some namespaces, themselves among it.
+pub(crate) fn push_below(
+    list: &mut Vec<Text>,
+    forest: &Forest,
+    names: &[Text],
+) -> Result<(), NoMemory>
+    ensures { OnOk result (list.new.items ≡ list.old.items ++ flat_map (subtree_of forest.now.nodes) names.now) }
+{
+    for name in names {
+        let below = forest.below(name)?;
+        push_names(list, &below)?;
     }
     Ok(())
 }

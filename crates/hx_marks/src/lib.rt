@@ -5,11 +5,13 @@
 
 mod anchors;
 mod below;
+mod endings;
 mod lookups;
 mod modes;
 mod moves;
 mod namespaces;
 mod objects;
+mod reports;
 mod wants;
 mod writes;
 

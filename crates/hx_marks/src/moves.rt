@@ -10,7 +10,7 @@ ghost use Rattle.hx_marks.specs.Law.{all_of, apart, in_one, moved_by, sent_marks
 use crate::below::{chain_from, live_below, push_names};
 use crate::wants::{all_by_chains, all_of, all_sent, keys_for};
 use hx_forest::Forest;
-use hx_model::{Key, RunConfig};
+use hx_model::{Key, RunConfig, is_same_name};
 use hx_object::{NoMemory, Shared, Text};
 use hx_store::Store;
 use std::alloc::Global;
@@ -175,14 +175,14 @@ fn is_in(name: &Text, names: &[Text]) -> bool
 }
 
 /// Whether a namespace takes part once it has a parent: not below itself.
-fn opens_under(forest: &Forest, name: &Text, parent: Option<&Text>) -> bool
+pub(crate) fn opens_under(forest: &Forest, name: &Text, parent: Option<&Text>) -> bool
     ensures { result ≡ opens_under forest.now.nodes name.now (option_copied parent.entry) }
 {
     forest.is_calm(name) && is_open_above(forest, parent) && !comes_back_by(forest, name, parent)
 }
 
 /// Whether the chain of a parent has the namespace.
-fn comes_back_by(forest: &Forest, name: &Text, parent: Option<&Text>) -> bool
+pub(crate) fn comes_back_by(forest: &Forest, name: &Text, parent: Option<&Text>) -> bool
     ensures { result ≡ comes_back_by forest.now.nodes name.now (option_copied parent.entry) }
 {
     match parent {
@@ -197,16 +197,5 @@ fn is_open_above(forest: &Forest, parent: Option<&Text>) -> bool
     match parent {
         Some(parent) => forest.is_open(parent),
         None => true,
-    }
-}
-
-/// Whether both are there and alike, or neither is there.
-fn is_same_name(a: Option<&Text>, b: Option<&Text>) -> bool
-    ensures { result ≡ same_name (option_copied a.entry) (option_copied b.entry) }
-{
-    match (a, b) {
-        (Some(a), Some(b)) => a.as_str() == b.as_str(),
-        (None, None) => true,
-        _ => false,
     }
 }

@@ -1,13 +1,14 @@
 // Namespaces are made, begin to leave, or go.
 ghost use Rattle.std.specs.Prelude.{◌≡◌, ◌++◌, ◌∷◌, IfOk, OnOk, flat_map, option_copied};
-ghost use Rattle.hx_model.specs.Forest.{chain_of, subtree_of};
+ghost use Rattle.hx_model.specs.Forest.{chain_of};
 ghost use Rattle.hx_model.specs.Moves.{chain_from};
 ghost use Rattle.hx_model.specs.Tree.{forest_of};
 ghost use Rattle.hx_marks.specs.Before.{state_of};
-ghost use Rattle.hx_marks.specs.Law.{all_of, below_created, created_marks, ending_marks, removed_marks};
+ghost use Rattle.hx_marks.specs.Law.{all_of, below_created, created_marks, ending_marks, following_marks, removed_marks};
 
 use crate::anchors::{asking_keys, push_purge, status_keys};
-use crate::below::{chain_from, open_below, push_names};
+use crate::below::{chain_from, open_below, push_below, push_names};
+use crate::reports::near_reports;
 use crate::wants::{all_by_chains, all_of};
 use hx_forest::Forest;
 use hx_model::{Key, RunConfig};
@@ -30,6 +31,22 @@ pub(crate) fn ending_marks(
     all_by_chains(store, forest, &members, keys)?;
     status_keys(store, name, keys)?;
     push_purge(name, keys)
+}
+
+/// Marks what a namespace touches that is on its way out from now on together with its parent, which marks what took part below both: its anchors, its removal, its report, and those of its children.
+pub(crate) fn following_marks(
+    store: &Store,
+    forest: &Forest,
+    config: &RunConfig,
+    name: &Text,
+    keys: &mut Vec<Key>,
+) -> Result<(), NoMemory>
+    requires tree { forest.now.nodes ≡ forest_of (state_of store.now config.now) }
+    ensures { OnOk result (keys.new.items ≡ keys.old.items ++ following_marks (state_of store.now config.now) name.now) }
+{
+    status_keys(store, name, keys)?;
+    push_purge(name, keys)?;
+    near_reports(forest, name, keys)
 }
 
 /// Marks what a namespace touches that goes: its removal, and the anchors that ask for it.
@@ -91,14 +108,4 @@ fn below_created(alloc: Global, forest: &Forest, name: &Text) -> Result<Vec<Text
     names.push(name.clone()?)?;
     push_below(&mut names, forest, forest.children(name))?;
     Ok(names)
-}
-
-fn push_below(list: &mut Vec<Text>, forest: &Forest, names: &[Text]) -> Result<(), NoMemory>
-    ensures { OnOk result (list.new.items ≡ list.old.items ++ flat_map (subtree_of forest.now.nodes) names.now) }
-{
-    for name in names {
-        let below = forest.below(name)?;
-        push_names(list, &below)?;
-    }
-    Ok(())
 }

@@ -7,6 +7,7 @@ ghost use Rattle.hx_marks.specs.Law.{all_of, known_of, all_sent, is_sent, key_fo
 
 use crate::anchors::{child_keys, leaving_keys, status_keys};
 use crate::lookups::{is_ignored, is_propagated, mode_at};
+use crate::reports::report_key;
 use hx_forest::Forest;
 use hx_model::{COPIED_KINDS, Key, is_copy};
 use hx_object::{Kind, Mode, NoMemory, Object, Shared, Text};
@@ -32,6 +33,7 @@ pub(crate) fn known_of(
     ensures { OnOk result (keys.new.items ≡ keys.old.items ++ known_of store.now.objects forest.now.nodes name.now) }
 {
     open_keys(store, forest, name, keys)?;
+    report_key(forest, name, keys)?;
     status_keys(store, name, keys)?;
     leaving_keys(forest, name, keys)
 }

@@ -1,23 +1,25 @@
 // Writes are marked.
 ghost use Rattle.std.specs.Prelude.{◌≡◌, ◌++◌, IfOk, OnOk, flat_map, if◌then◌else◌, option_and_then, option_copied};
-ghost use Rattle.hx_model.specs.Tree.{forest_of, is_terminating, named_parent, parent_with};
+ghost use Rattle.hx_model.specs.Tree.{forest_of, parent_with};
 ghost use Rattle.hx_model.specs.Valid.{IsValid};
 ghost use Rattle.hx_model.specs.Writes.{MayWriteAll};
-ghost use Rattle.hx_marks.specs.Before.{hierarchy_marks, inner_marks_by, marks_before, namespace_marks_by, state_of};
+ghost use Rattle.hx_marks.specs.Before.{hierarchy_marks, inner_marks_by, marks_before_among, marks_before_by, marks_by_kind, namespace_marks_by, state_of};
 ghost use Rattle.hx_marks.specs.Halves.{Covers, IsWithin};
 ghost use Rattle.hx_marks.specs.Law.{all_marks, begins_to_end, ending_marks, is_modes, label_marks};
 
 use crate::anchors::{anchor_keys, leaving_keys};
+use crate::endings::Endings;
 use crate::lookups::object_in;
 use crate::modes::mode_marks;
 use crate::moves::move_marks;
-use crate::namespaces::{created_marks, ending_marks, removed_marks};
+use crate::namespaces::{created_marks, ending_marks, following_marks, removed_marks};
 use crate::objects::object_marks;
+use crate::reports::report_marks;
 use crate::wants::known_of;
 use hx_forest::Forest;
-use hx_model::{Key, RunConfig};
-use hx_object::well_known::{CONFIG, HIERARCHY, SUBNAMESPACE_OF};
-use hx_object::{Id, Kind, NoMemory, Object, Payload, Text};
+use hx_model::{Key, RunConfig, is_terminating, parent_by};
+use hx_object::well_known::{CONFIG, HIERARCHY};
+use hx_object::{Id, Kind, NoMemory, Object, Text};
 use hx_store::{Change, Store};
 
 /// The keys that writes mark, each by the state before them: those whose wanted write or guards a write can change. A key may come more than once.
@@ -37,7 +39,8 @@ pub fn marks(
     ensures within { IfOk result (λ keys. IsWithin (state_of store.now config.now) writes.now keys.items) }
 {
     let mut keys = Vec::new(store.allocator());
-    marks_of_all(store, forest, config, writes, &mut keys)?;
+    let endings = Endings::of(store.allocator(), writes)?;
+    marks_of_all(store, forest, config, &endings, writes, &mut keys)?;
     Ok(keys)
 }
 
@@ -45,32 +48,70 @@ fn marks_of_all(
     store: &Store,
     forest: &Forest,
     config: &RunConfig,
+    endings: &Endings,
     writes: &[Change],
     keys: &mut Vec<Key>,
 ) -> Result<(), NoMemory>
     requires tree { forest.now.nodes ≡ forest_of (state_of store.now config.now) }
-    ensures { OnOk result (keys.new.items ≡ keys.old.items ++ flat_map (marks_before (state_of store.now config.now)) writes.now) }
+    ensures { OnOk result (keys.new.items ≡ keys.old.items ++ flat_map (marks_before_among (state_of store.now config.now) endings.now) writes.now) }
 {
     for write in writes {
-        marks_of(store, forest, config, write, keys)?;
+        marks_among(store, forest, config, endings, write, keys)?;
     }
     Ok(())
 }
 
-/// Marks what a write can change.
-fn marks_of(
+/// Marks what a write can change, among others: where its namespace leaves together with its parent, that one marks what took part below both.
+fn marks_among(
     store: &Store,
     forest: &Forest,
     config: &RunConfig,
+    endings: &Endings,
     write: &Change,
     keys: &mut Vec<Key>,
 ) -> Result<(), NoMemory>
     requires tree { forest.now.nodes ≡ forest_of (state_of store.now config.now) }
-    ensures { OnOk result (keys.new.items ≡ keys.old.items ++ marks_before (state_of store.now config.now) write.now) }
+    ensures { OnOk result (keys.new.items ≡ keys.old.items ++ marks_before_among (state_of store.now config.now) endings.now write.now) }
 {
     let id = write.id();
     let old = object_in(store.get(id));
     let new = object_in(write.object());
+    if endings.lead_out(forest, id, old, new) {
+        return following_marks(store, forest, config, &id.name, keys);
+    }
+    marks_by(store, forest, config, id, old, new, keys)
+}
+
+/// Marks what a write can change by itself.
+fn marks_by(
+    store: &Store,
+    forest: &Forest,
+    config: &RunConfig,
+    id: &Id,
+    old: Option<&Object>,
+    new: Option<&Object>,
+    keys: &mut Vec<Key>,
+) -> Result<(), NoMemory>
+    requires tree { forest.now.nodes ≡ forest_of (state_of store.now config.now) }
+    ensures { OnOk result (keys.new.items ≡ keys.old.items ++ marks_before_by (state_of store.now config.now) id.now (option_copied old.entry) (option_copied new.entry)) }
+{
+    marks_by_kind(store, forest, config, id, old, new, keys)?;
+    report_marks(store, forest, config, id, old, new, keys)
+}
+
+/// Marks what an object touches by its kind, but for reports.
+fn marks_by_kind(
+    store: &Store,
+    forest: &Forest,
+    config: &RunConfig,
+    id: &Id,
+    old: Option<&Object>,
+    new: Option<&Object>,
+    keys: &mut Vec<Key>,
+) -> Result<(), NoMemory>
+    requires tree { forest.now.nodes ≡ forest_of (state_of store.now config.now) }
+    ensures { OnOk result (keys.new.items ≡ keys.old.items ++ marks_by_kind (state_of store.now config.now) id.now (option_copied old.entry) (option_copied new.entry)) }
+{
     if id.kind.is_namespace() {
         return namespace_marks(store, forest, config, &id.name, old, new, keys);
     }
@@ -139,17 +180,17 @@ fn replaced_marks(
     requires tree { forest.now.nodes ≡ forest_of (state_of store.now config.now) }
     ensures { OnOk result (keys.new.items ≡ keys.old.items ++ (if begins_to_end old.now new.now then ending_marks (state_of store.now config.now) name.now else label_marks (state_of store.now config.now) name.now)) }
 {
-    if is_terminating(new) && !is_terminating(old) {
+    if begins_to_end(old, new) {
         return ending_marks(store, forest, config, name, keys);
     }
     known_of(store, forest, name, keys)
 }
 
-/// Whether a namespace is on its way out.
-fn is_terminating(namespace: &Object) -> bool
-    ensures { result ≡ is_terminating namespace.now.payload }
+/// Whether a namespace that stays is on its way out from now on.
+pub(crate) fn begins_to_end(old: &Object, new: &Object) -> bool
+    ensures { result ≡ begins_to_end old.now new.now }
 {
-    matches!(&namespace.payload, Payload::Namespace { terminating: true })
+    is_terminating(new) && !is_terminating(old)
 }
 
 /// Marks what a HierarchyConfiguration touches that is written or removed.
@@ -179,29 +220,11 @@ fn is_modes(id: &Id) -> bool
 }
 
 /// The parent of a namespace once its HierarchyConfiguration is `new`, or is gone. None where there is no namespace.
-fn parent_under<'a>(home: Option<&'a Object>, new: Option<&'a Object>) -> Option<&'a Text>
+pub(crate) fn parent_under<'a>(
+    home: Option<&'a Object>,
+    new: Option<&'a Object>,
+) -> Option<&'a Text>
     ensures { option_copied result ≡ option_and_then (parent_with (option_copied new.entry)) (option_copied home.entry) }
 {
     parent_by(home?, new)
-}
-
-/// The parent of a namespace whose HierarchyConfiguration is `new`, or isn't there.
-fn parent_by<'a>(home: &'a Object, new: Option<&'a Object>) -> Option<&'a Text>
-    ensures { option_copied result ≡ parent_with (option_copied new.entry) home.now }
-{
-    match (home.annotations.get(SUBNAMESPACE_OF), new) {
-        (Some(parent), _) => Some(parent),
-        (None, Some(new)) => named_parent(new),
-        (None, None) => None,
-    }
-}
-
-/// The parent that a HierarchyConfiguration names.
-fn named_parent(object: &Object) -> Option<&Text>
-    ensures { option_copied result ≡ named_parent object.now }
-{
-    match &object.payload {
-        Payload::Hierarchy { parent, .. } => parent.as_ref(),
-        _ => None,
-    }
 }

@@ -1,0 +1,295 @@
+// The reports that a write changes.
+ghost use Rattle.std.specs.Prelude.{◌≡◌, ◌++◌, ◌∷◌, [], OnOk, if◌then◌else◌, is_some, option_copied};
+ghost use Rattle.hx_model.specs.Answers.{owns_named};
+ghost use Rattle.hx_model.specs.Forest.{children_of};
+ghost use Rattle.hx_model.specs.Propagation.{as_list};
+ghost use Rattle.hx_model.specs.Tree.{forest_of};
+ghost use Rattle.hx_model.specs.declared.key.Key.TheVariants as key;
+ghost use Rattle.hx_marks.specs.Before.{hierarchy_reports_by, namespace_reports_by, place_reports_to, report_marks_by, state_of};
+ghost use Rattle.hx_marks.specs.Law.{begins_to_end};
+ghost use Rattle.hx_marks.specs.Reports.{anchored_reports, created_reports, ending_reports, moved_reports, removed_reports, report_keys, reports_of, ring_reports};
+
+use crate::below::{chain_from, live_below, open_below, push_below};
+use crate::lookups::object_in;
+use crate::moves::{comes_back_by, opens_under};
+use crate::writes::{begins_to_end, parent_under};
+use hx_forest::Forest;
+use hx_model::{Key, RunConfig, is_owned_by, is_same_name, parent_by};
+use hx_object::well_known::HIERARCHY;
+use hx_object::{Id, Kind, NoMemory, Object, Text};
+use hx_store::Store;
+
+/// Marks the reports that a write of an object changes.
+pub(crate) fn report_marks(
+    store: &Store,
+    forest: &Forest,
+    config: &RunConfig,
+    id: &Id,
+    old: Option<&Object>,
+    new: Option<&Object>,
+    keys: &mut Vec<Key>,
+) -> Result<(), NoMemory>
+    requires tree { forest.now.nodes ≡ forest_of (state_of store.now config.now) }
+    ensures { OnOk result (keys.new.items ≡ keys.old.items ++ report_marks_by (state_of store.now config.now) id.now (option_copied old.entry) (option_copied new.entry)) }
+{
+    match id.kind {
+        Kind::Namespace => namespace_reports(store, forest, config, &id.name, old, new, keys),
+        Kind::HierarchyConfiguration => hierarchy_reports(store, forest, config, id, new, keys),
+        Kind::SubnamespaceAnchor => anchored_reports(store, forest, config, id, old, new, keys),
+        _ => Ok(()),
+    }
+}
+
+/// Marks the reports that change where a namespace begins to leave, goes, or is made.
+fn namespace_reports(
+    store: &Store,
+    forest: &Forest,
+    config: &RunConfig,
+    name: &Text,
+    old: Option<&Object>,
+    new: Option<&Object>,
+    keys: &mut Vec<Key>,
+) -> Result<(), NoMemory>
+    requires tree { forest.now.nodes ≡ forest_of (state_of store.now config.now) }
+    ensures { OnOk result (keys.new.items ≡ keys.old.items ++ namespace_reports_by (state_of store.now config.now) name.now (option_copied old.entry) (option_copied new.entry)) }
+{
+    match (old, new) {
+        (Some(old), Some(new)) => replaced_reports(store, forest, name, old, new, keys),
+        (Some(_), None) => removed_reports(forest, name, keys),
+        (None, Some(new)) => {
+            let found = store.find(Kind::HierarchyConfiguration, name.as_str(), HIERARCHY);
+            let parent = parent_by(new, object_in(found));
+            created_reports(store, forest, config, name, parent, keys)
+        }
+        (None, None) => Ok(()),
+    }
+}
+
+/// Marks the reports that change where a namespace is replaced: it may be on its way out from now on.
+fn replaced_reports(
+    store: &Store,
+    forest: &Forest,
+    name: &Text,
+    old: &Object,
+    new: &Object,
+    keys: &mut Vec<Key>,
+) -> Result<(), NoMemory>
+    ensures { OnOk result (keys.new.items ≡ keys.old.items ++ (if begins_to_end old.now new.now then ending_reports forest.now.nodes name.now else [])) }
+{
+    if begins_to_end(old, new) {
+        ending_reports(store, forest, name, keys)?;
+    }
+    Ok(())
+}
+
+/// Marks the reports of a namespace that is on its way out from now on, of its children, and of what took part below it.
+fn ending_reports(
+    store: &Store,
+    forest: &Forest,
+    name: &Text,
+    keys: &mut Vec<Key>,
+) -> Result<(), NoMemory>
+    ensures { OnOk result (keys.new.items ≡ keys.old.items ++ ending_reports forest.now.nodes name.now) }
+{
+    let members = open_below(store.allocator(), forest, name)?;
+    report_key(forest, name, keys)?;
+    reports_of(forest, forest.children(name), keys)?;
+    reports_of(forest, &members, keys)
+}
+
+/// Marks the reports of a namespace and of its children.
+pub(crate) fn near_reports(
+    forest: &Forest,
+    name: &Text,
+    keys: &mut Vec<Key>,
+) -> Result<(), NoMemory>
+    ensures { OnOk result (keys.new.items ≡ keys.old.items ++ (report_keys forest.now.nodes name.now ++ reports_of forest.now.nodes (children_of forest.now.nodes name.now))) }
+{
+    report_key(forest, name, keys)?;
+    reports_of(forest, forest.children(name), keys)
+}
+
+/// Marks the reports of the parent and of the children of a namespace that goes, and of the ring that it was in.
+fn removed_reports(forest: &Forest, name: &Text, keys: &mut Vec<Key>) -> Result<(), NoMemory>
+    ensures { OnOk result (keys.new.items ≡ keys.old.items ++ removed_reports forest.now.nodes name.now) }
+{
+    let parent = forest.parent(name);
+    parent_report(forest, parent, keys)?;
+    reports_of(forest, forest.children(name), keys)?;
+    if comes_back_by(forest, name, parent) {
+        let ring = forest.chain(name)?;
+        reports_of(forest, &ring, keys)?;
+    }
+    Ok(())
+}
+
+/// Marks the reports of a namespace that is made under a parent, of the parent, and of all that waited for it below.
+fn created_reports(
+    store: &Store,
+    forest: &Forest,
+    config: &RunConfig,
+    name: &Text,
+    parent: Option<&Text>,
+    keys: &mut Vec<Key>,
+) -> Result<(), NoMemory>
+    requires tree { forest.now.nodes ≡ forest_of (state_of store.now config.now) }
+    ensures { OnOk result (keys.new.items ≡ keys.old.items ++ created_reports (forest_of (state_of store.now config.now)) name.now (option_copied parent.entry)) }
+{
+    let mut members = Vec::new(store.allocator());
+    push_below(&mut members, forest, forest.children(name))?;
+    if parent.is_some() || !forest.children(name).is_empty() {
+        push_report(name, keys)?;
+    }
+    parent_report(forest, parent, keys)?;
+    reports_of(forest, &members, keys)
+}
+
+/// Marks the reports that change where a HierarchyConfiguration is written or removed.
+fn hierarchy_reports(
+    store: &Store,
+    forest: &Forest,
+    config: &RunConfig,
+    id: &Id,
+    new: Option<&Object>,
+    keys: &mut Vec<Key>,
+) -> Result<(), NoMemory>
+    requires tree { forest.now.nodes ≡ forest_of (state_of store.now config.now) }
+    ensures { OnOk result (keys.new.items ≡ keys.old.items ++ hierarchy_reports_by (state_of store.now config.now) id.now (option_copied new.entry)) }
+{
+    if id.name.as_str() != HIERARCHY {
+        return Ok(());
+    }
+    let home = object_in(store.find(Kind::Namespace, "", id.ns.as_str()));
+    placed_reports(store, forest, config, &id.ns, parent_under(home, new), keys)
+}
+
+/// Marks the reports that change where a namespace gets a parent. Where it has that parent already, its own alone.
+fn placed_reports(
+    store: &Store,
+    forest: &Forest,
+    config: &RunConfig,
+    name: &Text,
+    parent: Option<&Text>,
+    keys: &mut Vec<Key>,
+) -> Result<(), NoMemory>
+    requires tree { forest.now.nodes ≡ forest_of (state_of store.now config.now) }
+    ensures { OnOk result (keys.new.items ≡ keys.old.items ++ place_reports_to (state_of store.now config.now) name.now (option_copied parent.entry)) }
+{
+    let old = forest.parent(name);
+    if is_same_name(old, parent) {
+        return report_key(forest, name, keys);
+    }
+    let before = forest.is_open(name);
+    let after = opens_under(forest, name, parent);
+    moved_reports(forest, name, old, parent, before, after, keys)
+}
+
+/// Marks the reports of a namespace that moves, of both parents, of the rings that open and close, and of what begins or ends to take part with it. The namespace takes part before it moves, or after it.
+fn moved_reports(
+    forest: &Forest,
+    name: &Text,
+    old: Option<&Text>,
+    new: Option<&Text>,
+    before: bool,
+    after: bool,
+    keys: &mut Vec<Key>,
+) -> Result<(), NoMemory>
+    ensures { OnOk result (keys.new.items ≡ keys.old.items ++ moved_reports forest.now.nodes name.now (option_copied old.entry) (option_copied new.entry) before after) }
+{
+    report_key(forest, name, keys)?;
+    parent_report(forest, old, keys)?;
+    parent_report(forest, new, keys)?;
+    ring_reports(forest, name, old, keys)?;
+    ring_reports(forest, name, new, keys)?;
+    if before != after {
+        let members = live_below(forest, name)?;
+        reports_of(forest, &members, keys)?;
+    }
+    Ok(())
+}
+
+/// Marks the reports of the ring that a namespace is in under a parent.
+fn ring_reports(
+    forest: &Forest,
+    name: &Text,
+    parent: Option<&Text>,
+    keys: &mut Vec<Key>,
+) -> Result<(), NoMemory>
+    ensures { OnOk result (keys.new.items ≡ keys.old.items ++ ring_reports forest.now.nodes name.now (option_copied parent.entry)) }
+{
+    if comes_back_by(forest, name, parent) {
+        let ring = chain_from(*keys.allocator(), forest, parent)?;
+        reports_of(forest, &ring, keys)?;
+    }
+    Ok(())
+}
+
+/// Marks the report of the namespace that an anchor asks for, where the anchor is made or removed and the namespace is its own.
+fn anchored_reports(
+    store: &Store,
+    forest: &Forest,
+    config: &RunConfig,
+    id: &Id,
+    old: Option<&Object>,
+    new: Option<&Object>,
+    keys: &mut Vec<Key>,
+) -> Result<(), NoMemory>
+    requires tree { forest.now.nodes ≡ forest_of (state_of store.now config.now) }
+    ensures { OnOk result (keys.new.items ≡ keys.old.items ++ anchored_reports (state_of store.now config.now) id.now (option_copied old.entry) (option_copied new.entry)) }
+{
+    if old.is_some() != new.is_some() && owns_named(store, config, id) {
+        report_key(forest, &id.name, keys)?;
+    }
+    Ok(())
+}
+
+/// Whether the annotation of the namespace that an anchor asks for names the anchor's own.
+fn owns_named(store: &Store, config: &RunConfig, id: &Id) -> bool
+    ensures { result ≡ owns_named (state_of store.now config.now) id.now }
+{
+    match store.find(Kind::Namespace, "", id.name.as_str()) {
+        Some(found) => is_owned_by(found.object(), &id.ns),
+        None => false,
+    }
+}
+
+/// Marks the report of a parent, where there is one.
+fn parent_report(
+    forest: &Forest,
+    parent: Option<&Text>,
+    keys: &mut Vec<Key>,
+) -> Result<(), NoMemory>
+    ensures { OnOk result (keys.new.items ≡ keys.old.items ++ reports_of forest.now.nodes (as_list (option_copied parent.entry))) }
+{
+    match parent {
+        Some(parent) => report_key(forest, parent, keys),
+        None => Ok(()),
+    }
+}
+
+/// Marks the reports of some namespaces.
+fn reports_of(forest: &Forest, names: &[Text], keys: &mut Vec<Key>) -> Result<(), NoMemory>
+    ensures { OnOk result (keys.new.items ≡ keys.old.items ++ reports_of forest.now.nodes names.now) }
+{
+    for name in names {
+        report_key(forest, name, keys)?;
+    }
+    Ok(())
+}
+
+/// Marks the report of a namespace that is there, included and not on its way out.
+pub(crate) fn report_key(forest: &Forest, name: &Text, keys: &mut Vec<Key>) -> Result<(), NoMemory>
+    ensures { OnOk result (keys.new.items ≡ keys.old.items ++ report_keys forest.now.nodes name.now) }
+{
+    if forest.is_calm(name) {
+        push_report(name, keys)?;
+    }
+    Ok(())
+}
+
+fn push_report(name: &Text, keys: &mut Vec<Key>) -> Result<(), NoMemory>
+    ensures { OnOk result (keys.new.items ≡ keys.old.items ++ key.Report name.now ∷ []) }
+{
+    keys.push(Key::Report { ns: name.clone()? })?;
+    Ok(())
+}
