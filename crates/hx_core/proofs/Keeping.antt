@@ -79,6 +79,7 @@ pub short_by : (facts : Facts) (write : Option Write) → length (chain_in facts
 short_by (found.Tree ns takes_part chain) None short = tt
 short_by (found.Tree ns takes_part chain) (Some write) short = short
 short_by (found.Copy ns takes_part place mode sources) write short = tt
+short_by (found.Report takes hierarchy children conditions) write short = tt
 short_by (found.Child takes_part anchored excluded taken) write short = tt
 short_by (found.Anchor live anchor status) write short = tt
 short_by (found.Purge leaving least) write short = tt

@@ -28,10 +28,10 @@ use Rattle.hx_model.specs.Propagation.{copy_of, goes_to, id_in, sources_above, t
 use Rattle.hx_model.specs.Serving.{IsKept, IsServed}
 use Rattle.hx_model.specs.State.{State, object_at, namespace_id, has_home, least_in, lies_in, same_id, state_after, with_version}
 use Rattle.hx_model.specs.Subnamespaces.{anchor_id}
-use Rattle.hx_model.specs.Tree.{forest_of, is_terminating}
+use Rattle.hx_model.specs.Tree.{forest_of, hierarchy_id, is_terminating}
 use Rattle.hx_model.specs.TreeLabels.{is_open}
 use Rattle.hx_model.specs.Valid.{IsValid, IsStored}
-use Rattle.hx_model.specs.Wanted.{anchor_status, anchor_write, child_write, copied_in, copy_write, guard_at, guards_of, labelled, least_id, next_to_go, placed, purge_guards, subnamespace, tree_write, wanted_anchor, wanted_child, wanted_copy, wanted_purge, wanted_tree, wanted_write, with_status_of, without_copy}
+use Rattle.hx_model.specs.Wanted.{anchor_status, anchor_write, child_write, copied_in, copy_write, guard_at, guards_of, labelled, least_id, next_to_go, placed, purge_guards, subnamespace, tree_write, wanted_anchor, wanted_child, wanted_copy, wanted_purge, wanted_report, wanted_tree, wanted_write, with_status_of, without_copy}
 use Rattle.hx_model.specs.Writes.{HasPlace, MayLeave, MayWrite, MayWriteAll, id_written}
 use Rattle.hx_model.specs.declared.key.Key.{Key}
 use Rattle.hx_model.specs.declared.key.Key.TheVariants as key
@@ -43,6 +43,8 @@ use Rattle.hx_model.proofs.Objects.{id_total, same_from_Equal, found_id, object_
 use Rattle.hx_model.proofs.Storing.{All-found}
 use Rattle.hx_marks.proofs.Frames.{least_lies}
 use Rattle.hx_marks.proofs.Permitting.{one_write}
+use Rattle.hx_marks.proofs.Replacing.{live_is}
+use Rattle.hx_marks.proofs.ReportWrites.{report_write_known}
 use Rattle.hx_marks.proofs.Wanting.{along_found, wants_copied}
 use Rattle.hx_core.specs.Committing.{IsOutOrThere, StaysOut}
 use Rattle.hx_core.specs.Turns.{IsSince, IsOf}
@@ -248,6 +250,25 @@ module _ (was s : State) (write : Write) (valid : IsValid was) (since : IsSince 
         out = out_by s write (subst (IsOutOrThere s) (sym at.0) (λ home inside there ends. ap is_some same ∙ at.1));
       }
 
+  -- a report is of a namespace that isn't on its way out
+  report_stays : (n : List ℕ) → wanted_report was n ≡ Some write → are_met s (guards_of was (key.Report n)) ≡ true → Stays was s write
+  report_stays n wants met =
+      let parts = and_parts (is_met s (guard_at was (hierarchy_id n))) _ met in
+      let more = and_parts (is_met s (guard_at was (namespace_id n))) true parts.1 in
+      let known = report_write_known was n write valid wants in
+      let place : id_written write ≡ hierarchy_id n = ap id_written known.puts ∙ known.place in
+      let same : object_at s.objects (namespace_id n) ≡ object_at was.objects (namespace_id n) = place_same was s (namespace_id n) valid since more.0 in
+      let live : not (is_terminating known.home.payload) ≡ true = sym (live_is was valid n known.home known.there) ∙ (and_parts (is_live (forest_of was) n) _ known.calm).0 in
+      record {
+        place = subst (λ (q : Id). object_at s.objects q ≡ object_at was.objects q) (sym place) (place_same was s (hierarchy_id n) valid since parts.0);
+        home = subst (λ (q : Id). has_home s.objects q ≡ has_home was.objects q) (sym place) (same_home was s (hierarchy_id n) (λ e. same));
+        leaves = λ q cuts is may. never_cut known.report q write known.puts cuts;
+        out = out_by s write (subst (IsOutOrThere s) (sym place) (λ home inside at ends.
+            let one : Some home ≡ Some known.home = sym at ∙ (same ∙ known.there) in
+            let payload : home.payload ≡ known.home.payload = let h = one in cc in
+            absurd (true≢false (sym live ∙ ap (λ p. not (is_terminating p)) (sym payload) ∙ ap not ends))));
+      }
+
   -- the namespace may go, too, if nothing lay in it then
   purge_stays : (n : List ℕ) → wanted_purge was n ≡ Some write → are_met s (guards_of was (key.Purge n)) ≡ true → Stays was s write
   purge_stays n wants met = by (least_in was.objects n) refl
@@ -297,7 +318,7 @@ module _ (was s : State) (write : Write) (valid : IsValid was) (since : IsSince 
 stays : (was s : State) (k : Key) (write : Write) → IsValid was → IsSince was s → wanted_write was k ≡ Some write → are_met s (guards_of was k) ≡ true → Stays was s write
 stays was s (key.Copy n kind name) write valid since wants met = copy_stays was s write valid since n kind name wants met
 stays was s (key.Tree n) write valid since wants met = tree_stays was s write valid since n wants met
-stays was s (key.Report n) write valid since wants met = no_write write wants
+stays was s (key.Report n) write valid since wants met = report_stays was s write valid since n wants met
 stays was s (key.Child n name) write valid since wants met = child_stays was s write valid since n name wants met
 stays was s (key.Anchor n name) write valid since wants met = anchor_stays was s write valid since n name wants met
 stays was s (key.Used n name) write valid since wants met = no_write write wants
@@ -401,7 +422,9 @@ module _ (was s : State) (write : Write) (valid : IsValid was) (later : was.last
       (unmet was s (id_in kind name n) write valid later (copy_place was kind name n (is_open (forest_of was) n) (object_at was.objects (namespace_id n)) write wants) may)
   unmet_all (key.Tree n) wants =
       first_out (is_met new (guard_at was (namespace_id n))) true (unmet was s (namespace_id n) write valid later (tree_place was n (is_open (forest_of was) n) (chain_of (forest_of was) n) (object_at was.objects (namespace_id n)) write refl wants) may)
-  unmet_all (key.Report n) wants = no_write write wants
+  unmet_all (key.Report n) wants =
+      let known = report_write_known was n write valid wants in
+      first_out (is_met new (guard_at was (hierarchy_id n))) _ (unmet was s (hierarchy_id n) write valid later (ap id_written known.puts ∙ known.place) may)
   unmet_all (key.Child n m) wants =
       let puts : write ≡ Put (subnamespace n m) = child_is (is_open (forest_of was) n) (is_some (object_at was.objects (anchor_id n m))) (is_in m was.config.excluded) (is_some (object_at was.objects (namespace_id m))) n m write wants in
       second_out (is_met new (guard_at was (anchor_id n m))) _ (second_out (is_met new (guard_at was (namespace_id n))) _ (first_out (is_met new (guard_at was (namespace_id m))) true (unmet was s (namespace_id m) write valid later (ap id_written puts) may)))
