@@ -6,6 +6,8 @@
 #[cfg(test)]
 mod bodies;
 #[cfg(test)]
+mod charges;
+#[cfg(test)]
 mod forests;
 #[cfg(test)]
 mod graphs;
@@ -13,6 +15,8 @@ mod graphs;
 mod plans;
 #[cfg(test)]
 mod ports;
+#[cfg(test)]
+mod quantities;
 #[cfg(test)]
 mod readings;
 #[cfg(test)]

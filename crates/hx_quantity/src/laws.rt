@@ -1,0 +1,11 @@
+// What is printed is read again.
+ghost use Rattle.std.specs.Prelude.{◌≡◌, ◌≢◌, ◌≤◌, ◌<◌, ◌^◌, ◌⊎◌, ◌%◌, ℕ, Ok, Err};
+ghost use Rattle.hx_quantity.specs.declared.quantity.QuantityFault.{QuantityFault};
+ghost use Rattle.hx_quantity.specs.declared.quantity.QuantityFault.TheVariants.{TooLong};
+ghost use Rattle.hx_quantity.specs.Quantities.{quantity_of, quantity_text};
+
+/// The text of an amount is read as that amount, unless it has more than 18 digits: those of amounts from 10^18 that aren't whole units are too many for [`read`](crate::read).
+pub fn law_of_quantities()
+    ensures read { (amount : ℕ) → amount < 2 ^ 63 → (amount < 10 ^ 18) ⊎ (amount % 1000 ≡ 0) → quantity_of (quantity_text amount) ≡ Ok amount }
+    ensures too_long { (amount : ℕ) → 10 ^ 18 ≤ amount → amount < 2 ^ 63 → amount % 1000 ≢ 0 → quantity_of (quantity_text amount) ≡ Err TooLong }
+{}
