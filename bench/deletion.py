@@ -59,9 +59,9 @@ class Beside(Run):
         self.ask([namespace("goes"), *(make("goes", f"r{at}") for at in range(objects))])
         self.settle()
         self.ask([end("goes")])
-        # its tree labels want nothing any more
-        assert self.settle(1) == [b"nothing"]
-        took = self.turns(objects) / objects
+        # its tree labels and its report want nothing any more, and the first object goes between them
+        assert sorted(self.settle(3)) == [b"nothing", b"nothing", b"written"]
+        took = self.turns(objects - 1) / (objects - 1)
         # the last turn removes the namespace
         self.turns(1)
         return took

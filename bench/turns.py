@@ -126,7 +126,8 @@ def measure_settle(program, file):
             flush=True,
         )
         run.close()
-    return SIZES[1] * 2 - 1 + SOURCES * SIZES[1]
+    # each namespace has a HierarchyConfiguration, the root one that tells its children
+    return SIZES[1] * 2 + SOURCES * SIZES[1]
 
 
 def measure_start(program, other, file, rows):

@@ -3,8 +3,8 @@
 It is written from the words of docs/BEHAVIOUR.md. A user's requests on HierarchyConfigurations and Roles skip the rules that can be skipped; takes name
 their keys. An object lies under its kind, its namespace and its name, with a value and a version: the value is its labels, its content (of a namespace
 the parent that its annotation names, of a HierarchyConfiguration its parent and whether it lets deletion cascade, of a Role its verb), its exception as
-`KEY=TEXT`, the namespace that a copy comes from, and its status (a namespace that is on its way out, or what an anchor is told). Lines are in the short
-form of turns.txt.
+`KEY=TEXT`, the namespace that a copy comes from, and its status (a namespace that is on its way out, what an anchor is told, or the children and the
+conditions that a HierarchyConfiguration tells, where there are any). Lines are in the short form of turns.txt.
 """
 import itertools
 from typing import NamedTuple, Optional
@@ -20,7 +20,7 @@ class Value(NamedTuple):
     content: Optional[str] = None
     rule: Optional[str] = None
     origin: Optional[str] = None
-    status: Optional[str] = None
+    status: object = None
 
 
 ENDED = "Terminating"
@@ -107,6 +107,8 @@ class Machine:
             return (self.least(ns), None) if self.home(ns) and not self.is_live(ns) else None
         if what == "anchor":
             return self.wanted_status(ns, rest[0])
+        if what == "report":
+            return self.wanted_report(ns)
         if what not in ("copy", "tree", "child") or not self.is_open(ns):
             return None
         if what == "child":
@@ -136,6 +138,28 @@ class Machine:
         status = "Missing" if home is None else "Ok" if home.content == ns else "Conflict"
         return (place, there._replace(status=status)) if status != there.status else None
 
+    def reason(self, ns):
+        """Why a namespace is halted, or none."""
+        parent = self.parent(ns)
+        if parent is not None and ns in self.chain(parent):
+            return "InCycle"
+        if self.own_halt(ns):
+            return "ParentMissing"
+        return "AncestorHaltActivities" if any(map(self.own_halt, self.chain(ns))) else None
+
+    def wanted_report(self, ns):
+        place, home = ("hierarchy", ns, "hierarchy"), self.home(ns)
+        if not self.is_live(ns):
+            return None
+        there = self.value(place)
+        children = tuple(sorted(other[2] for other in self.objects if other[0] == "namespace" and self.parent(other[2]) == ns))
+        misses = home.content and self.home(home.content) and ("anchor", home.content, ns) not in self.objects
+        conditions = tuple(filter(None, (self.reason(ns), "SubnamespaceAnchorMissing" if misses else None)))
+        status = (children, conditions) if children or conditions else None
+        if there is None:
+            return (place, Value(content=("", False), status=status)) if status else None
+        return (place, there._replace(status=status)) if status != there.status else None
+
     def guards(self, key):
         what, ns, *rest = key.split(" ")
         name = rest[-1] if rest else ""
@@ -144,6 +168,7 @@ class Machine:
             "tree": [],
             "child": [("anchor", ns, name), ("namespace", "", name)],
             "anchor": [("anchor", ns, name)],
+            "report": [("hierarchy", ns, "hierarchy")],
             "purge": [self.least(ns)],
         }
         return [(place, self.version(place)) for place in [*inner[what], ("namespace", "", ns)]]
@@ -262,7 +287,7 @@ class Machine:
         names = {place[2] for place in self.objects if place[0] in ("namespace", "anchor")}
         roles = {place[2] for place in self.objects if place[0] == "role"}
         anchors = [place[1:] for place in self.objects if place[0] == "anchor"]
-        keys = [f"{what} {ns}" for ns in names for what in ("tree", "purge")] + [f"copy {ns} roles {role}" for ns in names for role in roles]
+        keys = [f"{what} {ns}" for ns in names for what in ("tree", "report", "purge")] + [f"copy {ns} roles {role}" for ns in names for role in roles]
         keys += [f"{what} {ns} {name}" for ns, name in anchors for what in ("child", "anchor")]
         todo, seen, ends = [self.objects], set(), set()
         while todo:
@@ -311,6 +336,12 @@ STORIES = [
     ("the parent leaves", [*TREE, *SOURCE, *LABELLED], ("copy b roles r", "purge a"), "finish", ["DELETE namespace a", "PUT! hierarchy b", "POST! role b/s verb=own"]),
     ("the parent comes back", [*TREE, *SOURCE, *LABELLED, *COPIED, "DELETE namespace a", "take 1 purge a", "finish 1", "take 1 purge a", "finish 1"], ("copy b roles r", "tree b"), "finish", ["POST! namespace a", "POST! role a/r verb=list", "DELETE namespace a"]),
     ("a subnamespace leaves and is asked for again", [*SUBNAMESPACE, "DELETE anchor a/b"], ("purge b", "child a b"), "finish", ["POST anchor a/b", "POST! role a/r verb=get", "DELETE namespace b"]),
+    ("a child comes, and moves", ["POST! namespace a", "POST! namespace b", "POST! namespace c"], ("report a", "report b"), "finish", ["POST! hierarchy b parent=a", "PUT! hierarchy b parent=c", "DELETE! hierarchy b"]),
+    ("what is told goes with what is given", [*TREE, "take 1 report a", "finish 1"], ("report a", "tree b"), "finish", ["PUT! hierarchy a cascade=true", "DELETE! hierarchy a", "DELETE! hierarchy b"]),
+    ("a cycle is told", [*TREE, "POST! namespace c", "POST! hierarchy c parent=b"], ("report b", "report c"), "finish", ["POST! hierarchy a parent=b", "PUT! hierarchy c parent=a", "DELETE! hierarchy a"]),
+    ("a parent that leaves is told", [*TREE, "POST! namespace c", "POST! hierarchy c parent=b"], ("report b", "report c"), "finish", ["DELETE namespace a", "PUT! namespace c label:tier=x", "DELETE! hierarchy b"]),
+    ("a missing anchor is told", SUBNAMESPACE, ("report b", "report a"), "finish", ["DELETE! anchor a/b", "POST anchor a/b", "DELETE namespace a"]),
+    ("a parent that goes is told", [*TREE, "DELETE namespace a"], ("report b", "purge a"), "finish", ["POST! role b/r verb=get", "PUT! hierarchy b", "POST! namespace a"]),
     ("the parent goes missing", [*TREE, *SOURCE], ("copy b roles r", "tree b"), "finish", ["PUT! hierarchy b parent=gone", "POST! namespace gone", "PUT! role a/r verb=list"]),
 ]
 
