@@ -1,10 +1,9 @@
 -- What makes an object illegal.
 --     object_fault     the first fault of an object
 --     IsLegal          an object without fault, whose payload is one of its kind
-use Rattle.std.specs.Prelude.{◌≡◌, ◌≤◌, ℕ, Bool, true, false, not, ◌&&◌, ◌||◌, nat_lt, List, [], codes, length, map, Option, Some, None, if◌then◌else◌}
-use Rattle.std.specs.List.{list_all}
-use Rattle.std.specs.Str.{bytes_eq}
-use Rattle.serde_json.specs.Data.{Data, string, object, Members, depth}
+use Rattle.std.specs.Prelude.{◌≡◌, ◌≤◌, ℕ, Bool, true, not, ◌&&◌, ◌||◌, nat_lt, List, [], codes, length, map, Option, Some, None, Ok, if◌then◌else◌}
+use Rattle.std.specs.List.{AllByRecursion, list_all}
+use Rattle.serde_json.specs.Data.{object, Members, depth}
 use Rattle.serde_json.specs.Find.{get_member}
 use Rattle.serde_json.specs.Read.{max_depth}
 use Rattle.serde_json.specs.Written.{compact_text}
@@ -12,12 +11,15 @@ use Rattle.hx_object.specs.Canonical.{IsCanonical}
 use Rattle.hx_object.specs.Json.{limit_pair}
 use Rattle.hx_object.specs.Kinds.{is_in_cluster, is_plain}
 use Rattle.hx_object.specs.Names.{is_dns_label, is_name_of, is_label_key, is_label_value, is_annotation_key}
+use Rattle.hx_object.specs.Needs.{need_of}
 use Rattle.hx_object.specs.Pairs.{has_ascending_keys}
+use Rattle.hx_object.specs.Quantities.{quantity_of}
 use Rattle.hx_object.specs.Sizes.{counted, greatest_size, size_of}
 use Rattle.hx_object.specs.declared.kind.Kind.{Kind}
-use Rattle.hx_object.specs.declared.kind.Kind.TheVariants.{Namespace, HncConfiguration, HierarchyConfiguration, SubnamespaceAnchor, HierarchicalResourceQuota, Secret}
+use Rattle.hx_object.specs.declared.kind.Kind.TheVariants.{Namespace, HncConfiguration, HierarchyConfiguration, SubnamespaceAnchor, HierarchicalResourceQuota}
 use Rattle.hx_object.specs.declared.object.Id.{Id}
 use Rattle.hx_object.specs.declared.object.Object.{Object}
+use Rattle.hx_object.specs.declared.object.Limit.{Limit}
 use Rattle.hx_object.specs.declared.object.Need.{Need}
 use Rattle.hx_object.specs.declared.object.ObjectFault.{ObjectFault}
 use Rattle.hx_object.specs.declared.object.ObjectFault.TheVariants.{BadName, BadLabel, TooManyLabels, TooLarge}
@@ -59,18 +61,6 @@ object_fault x =
 
 -- ---- legal objects
 
-abbrev pub token_type : List ℕ
-token_type = codes "kubernetes.io/service-account-token"
-
-abbrev pub is_token : Option Data → Bool
-is_token (Some (string text)) = bytes_eq text token_type
-is_token _ = false
-
--- what the members of a plain kind say: a Secret's type. Pods and claims come with quotas
-abbrev pub need_of : Kind → Members → Need
-need_of Secret ms = record { finished = false; token = is_token (get_member (codes "type") ms); storage = 0; containers = [] }
-need_of _ ms = record { finished = false; token = false; storage = 0; containers = [] }
-
 -- the kept text of a plain kind: a JSON object without floats and without the common members, compact, its members in order
 pub record IsPlain (kind : Kind) (members : List ℕ) (need : Need) : Type 0 where
   pub whole : Members
@@ -80,13 +70,17 @@ pub record IsPlain (kind : Kind) (members : List ℕ) (need : Need) : Type 0 whe
   pub own : (get_member (codes "apiVersion") whole ≡ None) × (get_member (codes "kind") whole ≡ None) × (get_member (codes "metadata") whole ≡ None)
   pub says : need ≡ need_of kind whole
 
+-- a limit's amount is what its text says
+abbrev pub IsLimit : Limit → Type 0
+IsLimit limit = quantity_of limit.written ≡ Ok limit.amount
+
 -- the payload is one of the kind
 abbrev pub IsPayloadOf : Kind → Payload → Type 0
 IsPayloadOf kind (NamespaceOf terminating) = kind ≡ Namespace
 IsPayloadOf kind (Config entries) = kind ≡ HncConfiguration
 IsPayloadOf kind (Hierarchy parent cascade children conditions) = (kind ≡ HierarchyConfiguration) × ((parent ≡ Some []) → ⊥)
 IsPayloadOf kind (Anchor status) = kind ≡ SubnamespaceAnchor
-IsPayloadOf kind (Quota hard status) = (kind ≡ HierarchicalResourceQuota) × (has_ascending_keys (map limit_pair hard) ≡ true)
+IsPayloadOf kind (Quota hard status) = (kind ≡ HierarchicalResourceQuota) × (has_ascending_keys (map limit_pair hard) ≡ true) × AllByRecursion IsLimit hard
 IsPayloadOf kind (Plain members need) = (is_plain kind ≡ true) × IsPlain kind members need
 
 -- an object without fault, whose payload is one of its kind, and that lies in a namespace exactly where its kind asks for one

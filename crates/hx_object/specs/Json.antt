@@ -147,7 +147,7 @@ specified_members (Anchor status) = no_members
 specified_members (Quota hard status) = member (codes "spec") (object (member (codes "hard") (object (limits_members hard)) no_members)) no_members
 specified_members (Plain members need) = members_in (read members)
 
--- the members beside `apiVersion`, `kind` and `metadata`. A quota's status is written once quotas are served
+-- the members beside `apiVersion`, `kind` and `metadata`. A quota's status is written once usage is reported
 abbrev pub own_members : Payload → Members
 own_members (Namespace terminating) = member (codes "status") (object (member (codes "phase") (string (phase_of terminating)) no_members)) no_members
 own_members (Config entries) = specified_members (Config entries)

@@ -9,5 +9,8 @@ pub mod Json
 pub mod Placed
 pub mod Sizes
 pub mod CappedSizes
+pub mod Quantities
+pub mod Values
+pub mod Needs
 pub mod Faults
 pub mod Sharing

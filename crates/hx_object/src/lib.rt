@@ -12,6 +12,7 @@ mod memory;
 mod names;
 mod object;
 mod pairs;
+mod quantity;
 mod shared;
 mod size;
 mod text;
@@ -28,5 +29,6 @@ pub use object::{
     Payload, Usage,
 };
 pub use pairs::Pairs;
+pub use quantity::QuantityFault;
 pub use shared::Shared;
 pub use text::Text;

@@ -4,7 +4,7 @@ use Rattle.std.specs.List.{list_all, position, position_or_len}
 use Rattle.std.proofs.lemmas.Bool.Decides.{nat_tests}
 use Rattle.std.proofs.lemmas.List.Sums.{prefix_len-le-length}
 use Rattle.hx_object.specs.Names.{is_digit}
-use Rattle.hx_quantity.specs.Quantities.{digits_len}
+use Rattle.hx_object.specs.Quantities.{digits_len}
 
 -- what is no digit
 abbrev other : ℕ → Bool

@@ -2,9 +2,10 @@
 use Rattle.std.proofs.Common.{◌≡◌, ◌++◌, ℕ, ◌-◌, ◌^◌, List, [], codes, Ok, Err, refl}
 use Rattle.std.specs.Prelude.{replicate}
 use Rattle.std.specs.Fmt.{digits}
-use Rattle.hx_quantity.specs.declared.quantity.QuantityFault.{QuantityFault}
-use Rattle.hx_quantity.specs.declared.quantity.QuantityFault.TheVariants.{Syntax, TooLong, TooLarge}
-use Rattle.hx_quantity.specs.Quantities.{factor_of, quantity_of, quantity_text}
+use Rattle.hx_object.specs.declared.quantity.QuantityFault.{QuantityFault}
+use Rattle.hx_object.specs.declared.quantity.QuantityFault.TheVariants.{Syntax, TooLong, TooLarge}
+use Rattle.hx_object.specs.Quantities.{factor_of, quantity_of}
+use Rattle.hx_quantity.specs.Quantities.{quantity_text}
 
 -- a text has an amount
 abbrev amounts : List ℕ → ℕ → Type 0

@@ -13,9 +13,9 @@ use Rattle.std.proofs.lemmas.Int.Digits.{digits_value-lt}
 use Rattle.std.proofs.lemmas.Nat.{div-add-mod'}
 use Rattle.std.proofs.lemmas.Str.Parse.{IsNumeralModel, numerals_by_value}
 use Rattle.hx_object.specs.Names.{is_digit, point}
-use Rattle.hx_quantity.specs.declared.factor.Factor.{Factor}
-use Rattle.hx_quantity.specs.declared.quantity.QuantityFault.TheVariants.{TooLong}
-use Rattle.hx_quantity.specs.Quantities.{Written, amount_of, digits_len, factor_of, quantity_by, quantity_of, quantity_text, scaled, written_of}
+use Rattle.hx_object.specs.declared.quantity.QuantityFault.TheVariants.{TooLong}
+use Rattle.hx_object.specs.Quantities.{Factor, Written, amount_of, digits_len, factor_of, quantity_by, quantity_of, scaled, written_of}
+use Rattle.hx_quantity.specs.Quantities.{quantity_text}
 
 digits-then : (ds rest : List ℕ) → list_all is_digit ds ≡ true → digits_len rest ≡ 0 → digits_len (ds ++ rest) ≡ length ds
 digits-then [] rest all none = none

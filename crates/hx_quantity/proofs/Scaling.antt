@@ -5,8 +5,8 @@ use Rattle.std.proofs.Math.Nat.{pow-le-pow_right, one-le-pow}
 use Rattle.std.proofs.lemmas.Bool.{cases_lt}
 use Rattle.std.proofs.lemmas.Bool.Decides.{nat_tests}
 use Rattle.std.proofs.lemmas.Nat.{le-div, mul-le}
-use Rattle.hx_quantity.specs.declared.quantity.QuantityFault.TheVariants.{TooLarge}
-use Rattle.hx_quantity.specs.Quantities.{amount_of}
+use Rattle.hx_object.specs.declared.quantity.QuantityFault.TheVariants.{TooLarge}
+use Rattle.hx_object.specs.Quantities.{amount_of}
 
 above : (amount : ℕ) → 2 ^ 63 ≤ amount → nat_le amount (2 ^ 63 - 1) ≡ false
 above amount large = grind (arith, nat_tests)

@@ -1,6 +1,7 @@
 // What the suffixes stand for.
-ghost use Rattle.std.specs.Prelude.{◌≡◌, ◌<◌, IfSome};
-ghost use Rattle.hx_quantity.specs.Quantities.{factor_of};
+ghost use Rattle.std.specs.Prelude.{◌≡◌, ◌<◌, IfSome, option_map};
+ghost use Rattle.hx_quantity.specs.Inside.{times};
+ghost use Rattle.hx_object.specs.Quantities.{factor_of};
 
 /// What a number is times: `times / over`.
 #[derive(Clone, Copy)]
@@ -26,9 +27,9 @@ impl Factor {
 }
 
 /// What a suffix stands for.
-#[tactic(auto, unfolding(crate::specs::Quantities::factor_of))]
+#[tactic(auto, unfolding(hx_object::specs::Quantities::factor_of))]
 pub(crate) fn factor_of(suffix: &[u8]) -> Option<Factor>
-    ensures factor { result ≡ factor_of suffix.now }
+    ensures factor { option_map times result ≡ factor_of suffix.now }
     ensures some { IfSome result (λ factor. 0 < factor.over) }
 {
     match suffix {

@@ -1,8 +1,9 @@
 // What is printed is read again.
 ghost use Rattle.std.specs.Prelude.{◌≡◌, ◌≢◌, ◌≤◌, ◌<◌, ◌^◌, ◌⊎◌, ◌%◌, ℕ, Ok, Err};
-ghost use Rattle.hx_quantity.specs.declared.quantity.QuantityFault.{QuantityFault};
-ghost use Rattle.hx_quantity.specs.declared.quantity.QuantityFault.TheVariants.{TooLong};
-ghost use Rattle.hx_quantity.specs.Quantities.{quantity_of, quantity_text};
+ghost use Rattle.hx_object.specs.declared.quantity.QuantityFault.{QuantityFault};
+ghost use Rattle.hx_object.specs.declared.quantity.QuantityFault.TheVariants.{TooLong};
+ghost use Rattle.hx_object.specs.Quantities.{quantity_of};
+ghost use Rattle.hx_quantity.specs.Quantities.{quantity_text};
 
 /// The text of an amount is read as that amount, unless it has more than 18 digits: those of amounts from 10^18 that aren't whole units are too many for [`read`](crate::read).
 pub fn law_of_quantities()

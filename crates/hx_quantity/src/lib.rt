@@ -10,4 +10,4 @@ mod parts;
 mod quantity;
 
 pub use laws::law_of_quantities;
-pub use quantity::{QuantityFault, print, read};
+pub use quantity::{print, read};

@@ -3,7 +3,7 @@ ghost use Rattle.std.specs.Prelude.{◌≡◌, ◌≤◌, ℕ, true, length, not
 ghost use Rattle.std.specs.List.{list_all};
 ghost use Rattle.hx_object.specs.Names.{is_digit};
 ghost use Rattle.hx_quantity.specs.Inside.{written};
-ghost use Rattle.hx_quantity.specs.Quantities.{digits_len, written_of};
+ghost use Rattle.hx_object.specs.Quantities.{digits_len, written_of};
 
 /// The digits before the point, those behind it, and what follows.
 #[derive(Clone, Copy)]

@@ -4,24 +4,14 @@ ghost use Rattle.std.specs.Int.{div_ceil};
 ghost use Rattle.std.specs.List.{list_all};
 ghost use Rattle.std.specs.Str.Parse.{digits_value};
 ghost use Rattle.hx_object.specs.Names.{is_digit};
-ghost use Rattle.hx_quantity.specs.Inside.{written};
-ghost use Rattle.hx_quantity.specs.Quantities.{amount_of, number_of, quantity_of, quantity_text, scaled};
+ghost use Rattle.hx_quantity.specs.Inside.{times, written};
+ghost use Rattle.hx_object.specs.Quantities.{amount_of, number_of, quantity_of, scaled};
+ghost use Rattle.hx_quantity.specs.Quantities.{quantity_text};
 
 use crate::factor::{Factor, factor_of};
 use crate::parts::{Parts, parts_of};
-use hx_object::{NoMemory, Text};
+use hx_object::{NoMemory, QuantityFault, Text};
 use std::alloc::Global;
-
-/// Why a text isn't read as a quantity.
-#[derive(Clone, Copy, Debug, PartialEq, Eq)]
-pub enum QuantityFault {
-    /// It isn't a number in decimal with one of the suffixes or without one. Signs, exponents and spaces aren't taken.
-    Syntax,
-    /// More than 18 digits stand before the point, or more than 9 behind it.
-    TooLong,
-    /// The amount in thousandths is over 2^63 - 1.
-    TooLarge,
-}
 
 /// How many digits may stand before the point.
 const MOST_WHOLE: usize = 18;
@@ -32,7 +22,7 @@ const MOST_FRACTION: usize = 9;
 /// Reads a quantity, in thousandths, rounded up. The first fault counts, in the order of [`QuantityFault`].
 ///
 /// The suffixes are `n`, `u`, `m`, `k`, `M`, `G`, `T`, `P` and `E` for powers of 1,000, and `Ki`, `Mi`, `Gi`, `Ti`, `Pi` and `Ei` for powers of 1,024.
-#[tactic(auto, unfolding(crate::specs::Quantities::quantity_of))]
+#[tactic(auto, unfolding(hx_object::specs::Quantities::quantity_of))]
 pub fn read(text: &str) -> Result<u64, QuantityFault>
     ensures { result ≡ quantity_of text.now }
 {
@@ -79,7 +69,7 @@ fn value_of(digits: &[u8]) -> u64
 fn scaled(number: u128, places: u32, factor: Factor) -> Result<u64, QuantityFault>
     requires places { places ≤ 9 }
     requires over { 0 < factor.over }
-    ensures { result ≡ amount_of (scaled number places factor) }
+    ensures { result ≡ amount_of (scaled number places (times factor)) }
 {
     let over = divisor(places, factor);
     let Some(product) = number.checked_mul(factor.times as u128 * 1_000) else {

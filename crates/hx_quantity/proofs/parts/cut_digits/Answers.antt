@@ -1,7 +1,7 @@
 use Rattle.std.proofs.Common.{◌≡◌, subst, sym, true, rules, take}
 use Rattle.std.specs.List.{list_all}
 use Rattle.hx_object.specs.Names.{is_digit}
-use Rattle.hx_quantity.specs.Quantities.{digits_len}
+use Rattle.hx_object.specs.Quantities.{digits_len}
 use Rattle.hx_quantity.proofs.Digits.{first-digits}
 use Rattle.hx_quantity.proofs.parts.cut_digits.Goals as goal
 

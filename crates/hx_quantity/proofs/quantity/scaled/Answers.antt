@@ -1,6 +1,6 @@
 use Rattle.std.proofs.Common.{◌*◌, ◌∙◌, ap, sym}
 use Rattle.std.specs.Int.{div_ceil}
-use Rattle.hx_quantity.specs.Quantities.{amount_of}
+use Rattle.hx_object.specs.Quantities.{amount_of}
 use Rattle.hx_quantity.proofs.Scaling.{not-below, too_large}
 use Rattle.hx_quantity.proofs.quantity.scaled.Goals as goal
 
