@@ -1,12 +1,21 @@
 // What an object is charged.
 ghost use Rattle.std.specs.Prelude.{◌≡◌};
 ghost use Rattle.hx_object.specs.Kinds.{is_plain};
-ghost use Rattle.hx_model.specs.Charges.{charge_of, charge_by, is_charged, is_running, is_unstated, is_pod, asked_of, one_of};
+ghost use Rattle.hx_model.specs.Charges.{charge_of, charge_by, is_charged, is_running, is_unstated, is_pod, asked_of, one_of, kind_for, resources_for};
 
 use crate::asks::{ask_of, asked_by, lacks};
 use crate::payload::{containers_in, is_finished, storage_in};
 use hx_model::{Resource, is_copy};
 use hx_object::{Kind, Object, Payload};
+
+const POD_RESOURCES: [Resource; 6] = [
+    Resource::Pods,
+    Resource::RequestsCpu,
+    Resource::RequestsMemory,
+    Resource::LimitsCpu,
+    Resource::LimitsMemory,
+    Resource::CountPods,
+];
 
 /// What an object adds to the usage of a resource in its namespace, in thousandths.
 ///
@@ -28,6 +37,46 @@ pub fn is_unstated(object: &Object, resource: Resource) -> bool
     ensures { result ≡ is_unstated object.now resource }
 {
     is_pod(object.id.kind) && lacks(containers_in(&object.payload), ask_of(resource))
+}
+
+/// The kind whose objects are charged for a resource. Those of all others are charged nothing.
+pub fn kind_for(resource: Resource) -> Kind
+    ensures { result ≡ kind_for resource }
+{
+    match resource {
+        Resource::Pods
+        | Resource::RequestsCpu
+        | Resource::RequestsMemory
+        | Resource::LimitsCpu
+        | Resource::LimitsMemory
+        | Resource::CountPods => Kind::Pod,
+        Resource::RequestsStorage | Resource::CountClaims => Kind::PersistentVolumeClaim,
+        Resource::CountRoles => Kind::Role,
+        Resource::CountRoleBindings => Kind::RoleBinding,
+        Resource::CountConfigMaps => Kind::ConfigMap,
+        Resource::CountSecrets => Kind::Secret,
+        Resource::CountNetworkPolicies => Kind::NetworkPolicy,
+        Resource::CountLimitRanges => Kind::LimitRange,
+        Resource::CountServices => Kind::Service,
+    }
+}
+
+/// The resources that objects of a kind are charged for.
+pub fn resources_for(kind: Kind) -> &'static [Resource]
+    ensures { result.now ≡ resources_for kind }
+{
+    match kind {
+        Kind::Role => &[Resource::CountRoles],
+        Kind::RoleBinding => &[Resource::CountRoleBindings],
+        Kind::ConfigMap => &[Resource::CountConfigMaps],
+        Kind::Secret => &[Resource::CountSecrets],
+        Kind::NetworkPolicy => &[Resource::CountNetworkPolicies],
+        Kind::LimitRange => &[Resource::CountLimitRanges],
+        Kind::Pod => &POD_RESOURCES,
+        Kind::Service => &[Resource::CountServices],
+        Kind::PersistentVolumeClaim => &[Resource::RequestsStorage, Resource::CountClaims],
+        _ => &[],
+    }
 }
 
 /// Whether an object is charged at all.
@@ -87,7 +136,7 @@ fn one_of(counted: Kind, kind: Kind) -> u128
 }
 
 /// Whether it is a Pod that hasn't finished.
-fn is_running(kind: Kind, payload: &Payload) -> bool
+pub fn is_running(kind: Kind, payload: &Payload) -> bool
     ensures { result ≡ is_running kind payload.now }
 {
     is_pod(kind) && !is_finished(payload)

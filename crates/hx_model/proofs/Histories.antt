@@ -4,7 +4,7 @@ use Rattle.std.specs.Prelude.{◌||◌}
 use Rattle.hx_model.specs.declared.ask.Ask.{Ask}
 use Rattle.hx_model.specs.declared.ask.Answer.{Answer}
 use Rattle.hx_model.specs.declared.ask.Answer.TheVariants.{One, Many, Gone, Refused as Refusing}
-use Rattle.hx_model.specs.declared.refusal.Refusal.TheVariants.{BadLine, BadPath, BadQuery, NotJson, NotWhole, NotKind, OtherPlace, Broken, NoPath, NotFound, NoMethod, Exists, OtherVersion, TooLong, Missing, WrongType, BadName, BadLabel, TooManyLabels, TooLarge, StoreFailed, NotServed, NoMemory as NoRoom}
+use Rattle.hx_model.specs.declared.refusal.Refusal.TheVariants.{BadLine, BadPath, BadQuery, NotJson, NotWhole, NotKind, OtherPlace, Broken, OverQuota, NoPath, NotFound, NoMethod, Exists, OtherVersion, TooLong, Missing, WrongType, NoQuantity, BadName, BadLabel, TooManyLabels, TooLarge, StoreFailed, NotServed, NoMemory as NoRoom}
 use Rattle.hx_model.specs.Machine.{World, History, IsHistory, world_after, replay, loses_to_fault, is_lost_to_fault, answer_of}
 use Rattle.hx_model.specs.Requests.{request_entry}
 
@@ -37,6 +37,7 @@ answer_of-request_entry ask (Refusing NotWhole) = refl
 answer_of-request_entry ask (Refusing (NotKind kind)) = refl
 answer_of-request_entry ask (Refusing OtherPlace) = refl
 answer_of-request_entry ask (Refusing (Broken rule)) = refl
+answer_of-request_entry ask (Refusing (OverQuota ns quota resource used asked hard)) = refl
 answer_of-request_entry ask (Refusing NoPath) = refl
 answer_of-request_entry ask (Refusing (NotFound kind name)) = refl
 answer_of-request_entry ask (Refusing NoMethod) = refl
@@ -45,6 +46,7 @@ answer_of-request_entry ask (Refusing (OtherVersion kind name version)) = refl
 answer_of-request_entry ask (Refusing TooLong) = refl
 answer_of-request_entry ask (Refusing (Missing path)) = refl
 answer_of-request_entry ask (Refusing (WrongType path)) = refl
+answer_of-request_entry ask (Refusing (NoQuantity path)) = refl
 answer_of-request_entry ask (Refusing BadName) = refl
 answer_of-request_entry ask (Refusing BadLabel) = refl
 answer_of-request_entry ask (Refusing TooManyLabels) = refl

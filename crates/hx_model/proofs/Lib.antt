@@ -28,3 +28,10 @@ pub mod Displacing
 pub mod TurnExamples
 pub mod DeletionExamples
 pub mod ChargeExamples
+pub mod QuotaExamples
+pub mod Charging
+pub mod Freely
+pub mod Rising
+pub mod Admitting
+pub mod Overrunning
+pub mod Tearing

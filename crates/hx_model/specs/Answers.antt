@@ -2,6 +2,7 @@
 --     place_refusal     the refusal for want of the object or its namespace, or because the object is there
 --     version_refusal   the refusal because the object has another version than the one that is expected
 --     rule_refusal      the refusal by the first rule of admission that is broken
+--     quota_refusal     the refusal by the quotas that hold for what is written
 --     limit_refusals    the refusals by the limits, in their order
 --     refusal_of        the first refusal that holds
 --     writes_of         what an ask changes where nothing refuses it
@@ -9,8 +10,7 @@
 --     answer_to         the answer and the next state. A refusal and a read leave the state
 use Rattle.std.specs.Prelude.{◌≡◌, ◌≢◌, ℕ, ◌+◌, Bool, true, false, not, ◌&&◌, ◌||◌, ◌==◌, nat_lt, nat_le, is_some, is_none, List, [], ◌∷◌, filter, map, Option, Some, None, if◌then◌else◌, option_map, option_and_then}
 use Rattle.std.specs.Option.{option_map_or}
-use Rattle.std.specs.Str.{bytes_eq}
-use Rattle.hx_object.specs.Kinds.{number_of, is_in_cluster}
+use Rattle.hx_object.specs.Kinds.{is_in_cluster}
 use Rattle.hx_object.specs.contracts.object.ObjectPartialEq.TheImpl as object_eq
 use Rattle.hx_object.specs.declared.kind.Kind.{Kind}
 use Rattle.hx_object.specs.declared.kind.Kind.TheVariants.{Namespace}
@@ -35,9 +35,11 @@ use Rattle.hx_model.specs.Cases.{Case, Family}
 use Rattle.hx_model.specs.Denials.{refusal_by}
 use Rattle.hx_model.specs.Conflicts.{with_written, makes_conflict}
 use Rattle.hx_model.specs.Modes.{config_id}
+use Rattle.hx_model.specs.Quotas.{refused_by_quotas}
 use Rattle.hx_model.specs.Rules.{rules}
 use Rattle.hx_model.specs.Subnamespaces.{is_anchored, is_owned_by, is_reached, has_followers, has_children, cascades}
 use Rattle.hx_model.specs.Tree.{forest_of, namespaces_in, is_terminating}
+pub use Rattle.hx_model.specs.State.{is_listed}
 use Rattle.hx_model.specs.State.{State, Objects, object_at, namespace_id, home_in, with_version, after_writes, state_after}
 
 -- ---- what an ask changes
@@ -151,6 +153,12 @@ case_of s _ = None
 abbrev pub rule_refusal : State → Ask → Option Refusal
 rule_refusal s ask = option_and_then (λ c. option_map (refusal_by c.id) (first (rules c))) (case_of s ask)
 
+-- the quotas that hold for what is written refuse it
+abbrev pub quota_refusal : State → Ask → Option Refusal
+quota_refusal s (Create x skip) = refused_by_quotas s None x
+quota_refusal s (Replace x expected skip) = refused_by_quotas s (object_at s.objects x.id) x
+quota_refusal s _ = None
+
 -- a POST brings a name that no namespace or anchor has
 abbrev pub brings_name : State → Ask → Bool
 brings_name s (Create x skip) = (is_namespace x.id.kind || is_anchor x.id.kind) && not (is_named s.objects x.id.name)
@@ -181,13 +189,9 @@ limit_refusals s ask =
 
 -- the first refusal that holds, in their order
 abbrev pub refusal_of : State → Ask → Option Refusal
-refusal_of s ask = first (place_refusal s ask ∷ version_refusal s ask ∷ rule_refusal s ask ∷ limit_refusals s ask)
+refusal_of s ask = first (place_refusal s ask ∷ version_refusal s ask ∷ rule_refusal s ask ∷ quota_refusal s ask ∷ limit_refusals s ask)
 
 -- ---- answers
-
--- the object is of the kind and lies in the namespace, if one is asked for
-abbrev pub is_listed : Kind → Option (List ℕ) → Object → Bool
-is_listed kind ns x = (number_of kind == number_of x.id.kind) && option_map_or (bytes_eq x.id.ns) ns true
 
 -- the objects of a list, in order: those of its kind and namespace whose labels the selector holds for
 abbrev pub selected : Kind → Option (List ℕ) → Selector → Objects → Objects

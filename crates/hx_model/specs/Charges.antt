@@ -1,6 +1,8 @@
 -- What quotas limit, and what objects are charged for it, in thousandths.
+--     hard_of            the limits of a quota, in order of names
 --     resource_named     the resource that a name in `spec.hard` stands for
 --     charge_of x r      what an object is charged for a resource
+--     kind_for r, resources_for k    the kind whose objects are charged for a resource;  the resources that objects of a kind are charged for
 --     is_unstated x r    a Pod has a container that doesn't state what it asks of the resource
 use Prim.Native.String.{String}
 use Rattle.std.specs.Prelude.{ℕ, Bool, true, false, not, ◌&&◌, nat_eq, List, [], ◌∷◌, codes, slice_index_or, Option, Some, None, is_none, unwrap_or, fold, max, sum_by, if◌then◌else◌}
@@ -11,9 +13,10 @@ use Rattle.hx_object.specs.Kinds.{number_of, is_plain}
 use Rattle.hx_object.specs.declared.kind.Kind.{Kind}
 use Rattle.hx_object.specs.declared.kind.Kind.TheVariants.{Role, RoleBinding, ConfigMap, Secret, NetworkPolicy, LimitRange, Pod, Service, PersistentVolumeClaim}
 use Rattle.hx_object.specs.declared.object.Container.{Container}
+use Rattle.hx_object.specs.declared.object.Limit.{Limit}
 use Rattle.hx_object.specs.declared.object.Object.{Object}
 use Rattle.hx_object.specs.declared.object.Payload.{Payload}
-use Rattle.hx_object.specs.declared.object.Payload.TheVariants.{Plain}
+use Rattle.hx_object.specs.declared.object.Payload.TheVariants.{Quota, Plain}
 use Rattle.hx_model.specs.Limits.{is_copy}
 use Rattle.hx_model.specs.declared.resource.Resource.{Resource}
 use Rattle.hx_model.specs.declared.resource.Resource.TheVariants.{Pods, RequestsCpu, RequestsMemory, LimitsCpu, LimitsMemory, RequestsStorage, CountRoles, CountRoleBindings, CountConfigMaps, CountSecrets, CountNetworkPolicies, CountLimitRanges, CountPods, CountServices, CountClaims}
@@ -46,6 +49,11 @@ resource_names =
 -- the resource of a name; any other name has none
 unfoldable pub resource_named : List ℕ → Option Resource
 resource_named name = lookup (bytes_eq name) resource_names
+
+-- the limits of a quota
+abbrev pub hard_of : Payload → List Limit
+hard_of (Quota hard status) = hard
+hard_of _ = []
 
 -- ---- what was read from the members of an object
 
@@ -133,6 +141,39 @@ is_charged x = is_plain x.id.kind && not (is_copy x)
 -- what an object is charged, in thousandths
 unfoldable pub charge_of : Object → Resource → ℕ
 charge_of x resource = if is_charged x then charge_by x.id.kind x.payload resource else 0
+
+-- ---- kinds
+
+-- the kind whose objects are charged for a resource: those of all others are charged nothing
+abbrev pub kind_for : Resource → Kind
+kind_for Pods = Pod
+kind_for RequestsCpu = Pod
+kind_for RequestsMemory = Pod
+kind_for LimitsCpu = Pod
+kind_for LimitsMemory = Pod
+kind_for RequestsStorage = PersistentVolumeClaim
+kind_for CountRoles = Role
+kind_for CountRoleBindings = RoleBinding
+kind_for CountConfigMaps = ConfigMap
+kind_for CountSecrets = Secret
+kind_for CountNetworkPolicies = NetworkPolicy
+kind_for CountLimitRanges = LimitRange
+kind_for CountPods = Pod
+kind_for CountServices = Service
+kind_for CountClaims = PersistentVolumeClaim
+
+-- the resources that objects of a kind are charged for
+abbrev pub resources_for : Kind → List Resource
+resources_for Role = CountRoles ∷ []
+resources_for RoleBinding = CountRoleBindings ∷ []
+resources_for ConfigMap = CountConfigMaps ∷ []
+resources_for Secret = CountSecrets ∷ []
+resources_for NetworkPolicy = CountNetworkPolicies ∷ []
+resources_for LimitRange = CountLimitRanges ∷ []
+resources_for Pod = Pods ∷ RequestsCpu ∷ RequestsMemory ∷ LimitsCpu ∷ LimitsMemory ∷ CountPods ∷ []
+resources_for Service = CountServices ∷ []
+resources_for PersistentVolumeClaim = RequestsStorage ∷ CountClaims ∷ []
+resources_for _ = []
 
 -- ---- what isn't stated
 

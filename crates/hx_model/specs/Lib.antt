@@ -25,7 +25,9 @@ pub mod RulesHierarchy
 pub mod RulesAnchors
 pub mod RulesConfig
 pub mod RulesCopies
+pub mod RulesQuotas
 pub mod Rules
+pub mod Quotas
 pub mod Answers
 pub mod Reports
 pub mod Wanted
@@ -39,3 +41,4 @@ pub mod Covered
 pub mod Machine
 pub mod Requests
 pub mod Parents
+pub mod Overruns

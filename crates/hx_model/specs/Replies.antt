@@ -3,7 +3,7 @@
 --     rule_row               a rule as refusals name it, its reason and its message
 --     status_of              the reason and the message of a refusal
 --     code_of, reason_of, message_of      its HTTP status, its reason in one word, and its message
---     details_of             the rule that was broken
+--     details_of             the rule that was broken, and of a limit of a quota its names and numbers
 --     status_data, status_text      the whole body, as a JSON value and as its compact text
 use Rattle.std.specs.Prelude.{ℕ, List, ◌++◌, codes}
 use Rattle.std.specs.Fmt.{decimal}
@@ -12,14 +12,15 @@ use Rattle.serde_json.specs.Data.{Data, string, object, number, unsigned, Member
 use Rattle.serde_json.specs.Written.{compact_text}
 use Rattle.hx_object.specs.Json.{unless_empty}
 use Rattle.hx_object.specs.Kinds.{name_of, resource_of}
+use Rattle.hx_quantity.specs.Quantities.{quantity_text}
 use Rattle.hx_object.specs.declared.kind.Kind.{Kind}
 use Rattle.hx_model.specs.declared.reason.Reason.{Reason}
 use Rattle.hx_model.specs.declared.reason.Reason.TheVariants as of
 use Rattle.hx_model.specs.declared.reason.Reason.TheVariants.{BadRequest, Forbidden, MethodNotAllowed, AlreadyExists, Conflict, RequestEntityTooLarge, Invalid, InternalError, NotImplemented, ServiceUnavailable, InsufficientStorage}
 use Rattle.hx_model.specs.declared.rule.Rule.{Rule}
-use Rattle.hx_model.specs.declared.rule.Rule.TheVariants.{X1, N4, H7, C1, O1, N3, H1, H2, H3, H4, H5, H6, H8, C2, C3, C4, C6, C5, A2, A1, A4, A3, N1, N2, O3, O2, L1, L2, L3, L4}
+use Rattle.hx_model.specs.declared.rule.Rule.TheVariants.{X1, N4, H7, C1, O1, N3, H1, H2, H3, H4, H5, H6, H8, C2, C3, C4, C6, C5, A2, A1, A4, A3, N1, N2, O3, O2, Q3, Q2, L1, L2, L3, L4}
 use Rattle.hx_model.specs.declared.refusal.Refusal.{Refusal}
-use Rattle.hx_model.specs.declared.refusal.Refusal.TheVariants.{BadLine, BadPath, BadQuery, NotJson, NotWhole, NotKind, OtherPlace, Broken, NoPath, NotFound, NoMethod, Exists, OtherVersion, TooLong, Missing, WrongType, BadName, BadLabel, TooManyLabels, TooLarge, StoreFailed, NotServed, NoMemory}
+use Rattle.hx_model.specs.declared.refusal.Refusal.TheVariants.{BadLine, BadPath, BadQuery, NotJson, NotWhole, NotKind, OtherPlace, Broken, OverQuota, NoPath, NotFound, NoMethod, Exists, OtherVersion, TooLong, Missing, WrongType, NoQuantity, BadName, BadLabel, TooManyLabels, TooLarge, StoreFailed, NotServed, NoMemory}
 
 -- ---- reasons
 
@@ -84,6 +85,8 @@ rule_row N1 = rule_as "N1" Forbidden "delete the anchor instead"
 rule_row N2 = rule_as "N2" Forbidden "cascading deletion is not allowed"
 rule_row O3 = rule_as "O3" Forbidden "the exception is not valid"
 rule_row O2 = rule_as "O2" Forbidden "a source would overwrite or be overwritten"
+rule_row Q3 = rule_as "Q3" Forbidden "the quota resource is unknown"
+rule_row Q2 = rule_as "Q2" Forbidden "a container does not state a limited resource"
 rule_row L1 = rule_as "L1" InsufficientStorage "too many namespaces"
 rule_row L2 = rule_as "L2" InsufficientStorage "too many objects"
 rule_row L3 = rule_as "L3" InsufficientStorage "too many bytes"
@@ -102,6 +105,11 @@ message_about kind name said = resource_of kind ++ (codes " \"" ++ (name ++ (cod
 -- the version that a name has
 unfoldable pub version_message : Kind → List ℕ → ℕ → List ℕ
 version_message kind name version = resource_of kind ++ (codes " \"" ++ (name ++ (codes "\" has version " ++ decimal version)))
+
+-- the limit of a quota that is passed, with what is used, what is asked for and the limit
+unfoldable pub quota_message : List ℕ → List ℕ → List ℕ → ℕ → ℕ → ℕ → List ℕ
+quota_message ns quota resource used asked hard =
+    codes "quota " ++ (quota ++ (codes " in namespace " ++ (ns ++ (codes ": " ++ (resource ++ (codes " used " ++ (quantity_text used ++ (codes ", asked " ++ (quantity_text asked ++ (codes ", hard " ++ quantity_text hard))))))))))
 
 -- two texts, one after the other
 unfoldable pub said_of : List ℕ → List ℕ → List ℕ
@@ -126,6 +134,7 @@ status_of NotWhole = says BadRequest (codes "body has a number that is not whole
 status_of (NotKind kind) = says BadRequest (said_of (codes "body is not ") (name_of kind))
 status_of OtherPlace = says BadRequest (codes "body names another place")
 status_of (Broken rule) = says (rule_row rule).reason (rule_row rule).message
+status_of (OverQuota ns quota resource used asked hard) = says Forbidden (quota_message ns quota resource used asked hard)
 status_of NoPath = says of.NotFound (codes "path not served")
 status_of (NotFound kind name) = says of.NotFound (message_about kind name (codes "not found"))
 status_of NoMethod = says MethodNotAllowed (codes "method not served here")
@@ -134,6 +143,7 @@ status_of (OtherVersion kind name version) = says Conflict (version_message kind
 status_of TooLong = says RequestEntityTooLarge (codes "more than 131072 bytes")
 status_of (Missing path) = says Invalid (said_of path (codes " is missing"))
 status_of (WrongType path) = says Invalid (said_of path (codes " has the wrong type"))
+status_of (NoQuantity path) = says Invalid (said_of path (codes " is no quantity"))
 status_of BadName = says Invalid (codes "name is not allowed")
 status_of BadLabel = says Invalid (codes "label or annotation is not allowed")
 status_of TooManyLabels = says Invalid (codes "more than 256 labels")
@@ -156,9 +166,12 @@ message_of refusal = (status_of refusal).message
 
 -- ---- bodies
 
--- the rule that was broken
+-- the rule that was broken; of a limit that is passed also which one, and its numbers
 abbrev pub details_of : Refusal → Members
 details_of (Broken rule) = member (codes "rule") (string (name_of_rule rule)) no_members
+details_of (OverQuota ns quota resource used asked hard) =
+    member (codes "asked") (string (quantity_text asked)) (member (codes "hard") (string (quantity_text hard)) (member (codes "namespace") (string ns) (member (codes "quota") (string quota)
+    (member (codes "resource") (string resource) (member (codes "rule") (string (codes "Q1")) (member (codes "used") (string (quantity_text used)) no_members))))))
 details_of _ = no_members
 
 -- the body of a refusal

@@ -1,5 +1,4 @@
 -- What is served so far.
---     is_written       the kinds whose objects may be stored: quotas, Pods and claims aren't yet
 --     is_given         a payload that requests give: no namespace that is on its way out, and nothing that reconcilers report
 --     is_kept          a payload that may be stored: what is reported of quotas isn't yet
 --     is_text_or_none  a text, or none
@@ -18,7 +17,7 @@ use Rattle.serde_json.specs.Read.{read}
 use Rattle.hx_object.specs.Faults.{IsLegal}
 use Rattle.hx_object.specs.Pairs.{has_ascending_keys}
 use Rattle.hx_object.specs.declared.kind.Kind.{Kind}
-use Rattle.hx_object.specs.declared.kind.Kind.TheVariants.{HierarchicalResourceQuota, Secret, Pod, PersistentVolumeClaim}
+use Rattle.hx_object.specs.declared.kind.Kind.TheVariants.{Secret}
 use Rattle.hx_object.specs.declared.object.Mode.{Mode}
 use Rattle.hx_object.specs.declared.object.Mode.TheVariants.{AllowPropagate}
 use Rattle.hx_object.specs.declared.object.ModeEntry.{ModeEntry}
@@ -29,13 +28,6 @@ use Rattle.hx_model.specs.declared.ask.Ask.{Ask}
 use Rattle.hx_model.specs.declared.ask.Ask.TheVariants.{Get, List as ListOf, Create, Replace, Delete}
 use Rattle.hx_model.specs.declared.ask.Answer.{Answer}
 use Rattle.hx_model.specs.declared.ask.Answer.TheVariants.{One, Many, Gone, Refused}
-
--- objects of these kinds may be stored
-abbrev pub is_written : Kind → Bool
-is_written HierarchicalResourceQuota = false
-is_written Pod = false
-is_written PersistentVolumeClaim = false
-is_written _ = true
 
 -- the modes that bodies may name so far
 abbrev pub is_given_mode : Mode → Bool
@@ -95,10 +87,9 @@ pub record IsKept (x : Object) : Type 0 where
   pub payload : is_kept x.payload ≡ true
   pub typed : is_typed x.id.kind x.payload ≡ true
 
--- a legal object of such a kind
+-- a legal object that may be stored
 pub record IsServed (x : Object) : Type 0 where
   pub legal : IsLegal x
-  pub written : is_written x.id.kind ≡ true
   pub kept : IsKept x
 
 -- an object that is to be stored is one that requests give, and has no version yet

@@ -11,13 +11,16 @@
 --     has_home objects id  that namespace is there, or the kind has none
 --     with_version            an object with another version
 --     lies_in n id, least_in objects n   an identity lies in a namespace;  the first of the objects that do
+--     is_listed kind ns x     an object is of a kind, and in a namespace if one is asked for
 --     state_after        the state after a write: one new version for all that it changes
 use Rattle.std.specs.Prelude.{ℕ, ◌+◌, Bool, true, not, ◌&&◌, ◌||◌, ◌==◌, is_some, List, [], ◌∷◌, filter, find, Option, Some, None, option_and_then, if◌then◌else◌}
+use Rattle.std.specs.Option.{option_map_or}
 use Rattle.std.specs.Ordering.{is_lt}
 use Rattle.std.specs.Str.{bytes_eq}
 use Rattle.std.specs.FinMap.Entries.{by_order}
 use Rattle.hx_object.specs.Kinds.{number_of, is_in_cluster}
 use Rattle.hx_object.specs.Order.{id_cmp}
+use Rattle.hx_object.specs.declared.kind.Kind.{Kind}
 use Rattle.hx_object.specs.declared.kind.Kind.TheVariants.{Namespace}
 use Rattle.hx_object.specs.declared.object.Id.{Id}
 use Rattle.hx_object.specs.declared.object.Object.{Object}
@@ -92,6 +95,10 @@ lies_in n id = not (is_in_cluster id.kind) && bytes_eq n id.ns
 -- the first object that lies in a namespace
 abbrev pub least_in : Objects → List ℕ → Option Object
 least_in objects n = find (λ (x : Object). lies_in n x.id) objects
+
+-- the object is of the kind and lies in the namespace, if one is asked for
+abbrev pub is_listed : Kind → Option (List ℕ) → Object → Bool
+is_listed kind ns x = (number_of kind == number_of x.id.kind) && option_map_or (bytes_eq x.id.ns) ns true
 
 -- the object with another version
 abbrev pub with_version : Object → ℕ → Object

@@ -3,7 +3,9 @@ ghost use Rattle.std.specs.Prelude.{◌≡◌, ◌++◌, IfOk, OnOk, string_byte
 ghost use Rattle.hx_model.specs.Messages.{text_of};
 ghost use Rattle.hx_model.specs.Replies.{status_of, code_of, message_of};
 
-use crate::status::{RefusalStatus, about, breaks, has_version, joins, joins_kind, says};
+use crate::status::{
+    RefusalStatus, about, breaks, has_version, joins, joins_kind, over_quota, says,
+};
 use crate::{Reason, Rule};
 use hx_object::{Kind, NoMemory, Text};
 use std::alloc::Global;
@@ -33,6 +35,15 @@ pub enum Refusal {
     Broken {
         rule: Rule,
     },
+    /// 403: a limit of a quota would be passed. It stands under `resource` in the quota's `spec.hard`; so much of it is used in the subtree of the quota's namespace, and so much more is asked for, all in thousandths.
+    OverQuota {
+        namespace: Text,
+        quota: Text,
+        resource: Text,
+        used: u128,
+        asked: u128,
+        hard: u64,
+    },
     /// 404: the path leads nowhere.
     NoPath,
     /// 404: no object of that kind and name is there.
@@ -61,6 +72,10 @@ pub enum Refusal {
     },
     /// 422: a member has another type.
     WrongType {
+        member: Text,
+    },
+    /// 422: a member isn't a quantity.
+    NoQuantity {
         member: Text,
     },
     /// 422: a name breaks its grammar.
@@ -135,6 +150,14 @@ impl Refusal {
             Refusal::NotKind { kind } => joins_kind(Reason::BadRequest, "body is not ", *kind),
             Refusal::OtherPlace => says(Reason::BadRequest, "body names another place"),
             Refusal::Broken { rule } => breaks(*rule),
+            Refusal::OverQuota {
+                namespace,
+                quota,
+                resource,
+                used,
+                asked,
+                hard,
+            } => over_quota(namespace, quota, resource, *used, *asked, *hard),
             Refusal::NoPath => says(Reason::NotFound, "path not served"),
             Refusal::NotFound { kind, name } => about(Reason::NotFound, *kind, name, "not found"),
             Refusal::NoMethod => says(Reason::MethodNotAllowed, "method not served here"),
@@ -155,6 +178,11 @@ impl Refusal {
                 Reason::Invalid,
                 member.as_str(),
                 " has the wrong type",
+            ),
+            Refusal::NoQuantity { member } => joins(
+                Reason::Invalid,
+                member.as_str(),
+                " is no quantity",
             ),
             Refusal::BadName => says(Reason::Invalid, "name is not allowed"),
             Refusal::BadLabel => says(Reason::Invalid, "label or annotation is not allowed"),

@@ -4,7 +4,7 @@ ghost use Rattle.hx_model.specs.Replies.{rule_row};
 
 use crate::Reason;
 
-/// The rules of admission and the limits of a store, in the order in which they are tried.
+/// The rules of admission and the limits of a store, in the order in which they are tried. The refusal of what passes a limit of a quota names more than a rule: it is [`crate::Refusal::OverQuota`].
 #[derive(Clone, Copy, Debug, PartialEq, Eq)]
 pub enum Rule {
     /// Admission is skipped only where that is allowed.
@@ -59,6 +59,10 @@ pub enum Rule {
     O3,
     /// No source is written where a copy would overwrite it, or so that its copy would overwrite another.
     O2,
+    /// Each limit of a quota is of a resource that is known.
+    Q3,
+    /// Each container of a Pod states what it asks of the resources that quotas limit.
+    Q2,
     /// At most 4,096 names of namespaces and anchors.
     L1,
     /// At most 65,536 objects that count.
@@ -131,6 +135,8 @@ impl Rule {
             Rule::N2 => forbids("N2", "cascading deletion is not allowed"),
             Rule::O3 => forbids("O3", "the exception is not valid"),
             Rule::O2 => forbids("O2", "a source would overwrite or be overwritten"),
+            Rule::Q3 => forbids("Q3", "the quota resource is unknown"),
+            Rule::Q2 => forbids("Q2", "a container does not state a limited resource"),
             Rule::L1 => limits("L1", "too many namespaces"),
             Rule::L2 => limits("L2", "too many objects"),
             Rule::L3 => limits("L3", "too many bytes"),

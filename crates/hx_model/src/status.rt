@@ -2,10 +2,11 @@
 ghost use Rattle.std.specs.Prelude.{◌≡◌, ◌++◌, OnOk, string_bytes};
 ghost use Rattle.hx_object.specs.Kinds.{name_of};
 ghost use Rattle.hx_model.specs.Messages.{text_of};
-ghost use Rattle.hx_model.specs.Replies.{rule_row, said_of, message_about, version_message};
+ghost use Rattle.hx_model.specs.Replies.{rule_row, said_of, message_about, version_message, quota_message};
 
 use crate::{Reason, Rule};
 use hx_object::{Kind, NoMemory, Text};
+use hx_quantity::print;
 
 /// What the table of refusals says of one: the reason in one word, and what is said to whom asked.
 #[derive(Drop)]
@@ -32,6 +33,15 @@ pub enum Message<'a> {
         name: &'a str,
         version: u64,
     },
+    /// The limit of a quota that is passed, with amounts in thousandths.
+    OverQuota {
+        namespace: &'a str,
+        quota: &'a str,
+        resource: &'a str,
+        used: u128,
+        asked: u128,
+        hard: u64,
+    },
 }
 
 impl Message<'_> {
@@ -48,6 +58,14 @@ impl Message<'_> {
                 name,
                 version,
             } => push_version(out, *kind, name, *version),
+            Message::OverQuota {
+                namespace,
+                quota,
+                resource,
+                used,
+                asked,
+                hard,
+            } => push_over_quota(out, namespace, quota, resource, *used, *asked, *hard),
         }
     }
 }
@@ -73,6 +91,29 @@ fn push_version(out: &mut String, kind: Kind, name: &str, version: u64) -> Resul
 {
     let resource = kind.resource();
     Ok(write!(out, "{resource} \"{name}\" has version {version}")?)
+}
+
+#[tactic(auto, unfolding(crate::specs::Replies::quota_message))]
+fn push_over_quota(
+    out: &mut String,
+    namespace: &str,
+    quota: &str,
+    resource: &str,
+    used: u128,
+    asked: u128,
+    hard: u64,
+) -> Result<(), NoMemory>
+    ensures { OnOk result (string_bytes out.new ≡ string_bytes out.old ++ quota_message namespace.now quota.now resource.now used asked hard) }
+{
+    let alloc = *out.allocator();
+    let used = print(alloc, used)?;
+    let asked = print(alloc, asked)?;
+    let hard = print(alloc, u128::from(hard))?;
+    let (used, asked, hard) = (used.as_str(), asked.as_str(), hard.as_str());
+    Ok(write!(
+        out,
+        "quota {quota} in namespace {namespace}: {resource} used {used}, asked {asked}, hard {hard}"
+    )?)
 }
 
 /// The row that says one text.
@@ -121,6 +162,31 @@ pub fn has_version(reason: Reason, kind: Kind, name: &Text, version: u64) -> Ref
             kind,
             name,
             version,
+        },
+    }
+}
+
+/// The row that says which limit of a quota is passed.
+pub fn over_quota<'a>(
+    namespace: &'a Text,
+    quota: &'a Text,
+    resource: &'a Text,
+    used: u128,
+    asked: u128,
+    hard: u64,
+) -> RefusalStatus<'a>
+    ensures reason { result.reason ≡ Reason.Forbidden }
+    ensures message { text_of result.message ≡ quota_message namespace.now quota.now resource.now used asked hard }
+{
+    RefusalStatus {
+        reason: Reason::Forbidden,
+        message: Message::OverQuota {
+            namespace: namespace.as_str(),
+            quota: quota.as_str(),
+            resource: resource.as_str(),
+            used,
+            asked,
+            hard,
         },
     }
 }
