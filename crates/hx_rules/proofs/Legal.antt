@@ -161,7 +161,6 @@ copy_served x n served copied label =
         home = λ inside. absurd (true≢false (sym inside ∙ outside));
         payload = served.legal.payload;
       };
-      written = served.written;
       kept = record {
         labels = ascending-with_pair inherited_from x.id.ns x.labels served.kept.labels;
         annotations = ascending-filter (λ pair. not (is_hnc_key pair.0)) x.annotations served.kept.annotations;
@@ -219,7 +218,6 @@ labelled_served x chain served names short =
         home = served.legal.home;
         payload = served.legal.payload;
       };
-      written = served.written;
       kept = record {
         labels = ascending-tree 0 chain taking (ascending-with_pair included_namespace (codes "true") own (ascending-filter (λ pair. not (is_tree_key pair.0)) x.labels served.kept.labels));
         annotations = served.kept.annotations;
@@ -256,7 +254,6 @@ subnamespace_served n m parent name =
         home = λ inside. refl;
         payload = refl;
       };
-      written = refl;
       kept = record { labels = refl; annotations = refl; payload = refl; typed = refl };
     }
 
@@ -282,7 +279,6 @@ status_served status x served kind =
         home = served.legal.home;
         payload = kind;
       };
-      written = served.written;
       kept = record { labels = served.kept.labels; annotations = served.kept.annotations; payload = refl; typed = ap (λ k. is_typed k (Anchor (Some status))) kind };
     }
 
@@ -317,7 +313,6 @@ report_served children conditions x served kind =
         home = served.legal.home;
         payload = (kind, named_still x.id.kind x.payload kind served.legal.payload);
       };
-      written = served.written;
       kept = record { labels = served.kept.labels; annotations = served.kept.annotations; payload = refl; typed = ap (λ k. is_typed k y.payload) kind };
     }
 
@@ -347,6 +342,5 @@ bare_report_served n children conditions label =
         home = λ inside. absurd (true≢false (sym inside));
         payload = (refl, λ h. let g : None ≡ Some [] = h in cc);
       };
-      written = refl;
       kept = record { labels = refl; annotations = refl; payload = refl; typed = refl };
     }
