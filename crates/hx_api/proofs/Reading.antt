@@ -14,7 +14,7 @@ use Rattle.hx_json.specs.Reading.{Target, fault_of}
 use Rattle.hx_json.specs.ReadObject.{IsFaultOf, IsReadOf, IsWhole}
 use Rattle.hx_json.specs.declared.fault.JsonFault.{JsonFault}
 use Rattle.hx_json.specs.declared.fault.JsonFault.TheVariants.{NotJson, NotWhole, WrongKind, MissingMember, WrongType, BadQuantity, WrongPlace, Object as OfObject, NoMemory}
-use Rattle.hx_model.specs.Serving.{IsGiven, IsServed, is_given, is_kept, is_written}
+use Rattle.hx_model.specs.Serving.{IsGiven, IsServed, is_given, is_kept}
 use Rattle.hx_model.specs.declared.ask.Ask.{Ask}
 use Rattle.hx_model.specs.declared.refusal.Refusal.{Refusal}
 use Rattle.hx_model.specs.declared.refusal.Refusal.TheVariants as refusal
@@ -74,9 +74,8 @@ given_kept (Quota hard (u ∷ us)) h = h
 given_kept (Plain members need) h = refl
 
 -- an object that a request gives may be stored
-pub served : (x : Object) → IsLegal x → is_written x.id.kind ≡ true → IsGiven x → IsServed x
-served x legal written given = record {
+pub served : (x : Object) → IsLegal x → IsGiven x → IsServed x
+served x legal given = record {
   legal = legal;
-  written = written;
   kept = record { labels = given.labels; annotations = given.annotations; payload = given_kept x.payload given.payload; typed = given.typed };
 }

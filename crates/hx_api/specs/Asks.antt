@@ -11,7 +11,6 @@ use Rattle.hx_model.specs.First.{so, first}
 use Rattle.hx_select.specs.Selectors.{everything, selector_of}
 use Rattle.hx_select.specs.declared.selector.Selector.{Selector}
 use Rattle.hx_select.specs.declared.selector.SelectFault.{SelectFault}
-use Rattle.hx_model.specs.Serving.{is_written}
 use Rattle.hx_model.specs.declared.ask.Ask.{Ask}
 use Rattle.hx_model.specs.declared.ask.Ask.TheVariants as of
 use Rattle.hx_model.specs.declared.refusal.Refusal.{Refusal}
@@ -46,11 +45,9 @@ is_feed _ = false
 abbrev pub query_refusal : ResourcePath (List ℕ) → Parameters → Option Refusal
 query_refusal resource query = option_map (λ name. BadQuery name) (bad_parameter (is_feed resource) query)
 
--- the request's form is served: not yet the feed, and writes of the kinds that aren't written
+-- the request's form is served: all but the feed are
 abbrev pub is_served : Method → ResourcePath (List ℕ) → Bool
 is_served Get Events = false
-is_served Post (Collection kind ns) = is_written kind
-is_served Put (Object kind ns name) = is_written kind
 is_served method resource = true
 
 -- the refusal of a request at a resource, but for its selector and its body

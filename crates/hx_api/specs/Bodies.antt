@@ -14,7 +14,7 @@ use Rattle.hx_json.specs.Reading.{Target, expected_of, fault_of, object_of}
 use Rattle.hx_json.specs.declared.fault.JsonFault.{JsonFault}
 use Rattle.hx_json.specs.declared.fault.JsonFault.TheVariants as of
 use Rattle.hx_model.specs.declared.refusal.Refusal.{Refusal}
-use Rattle.hx_model.specs.declared.refusal.Refusal.TheVariants.{NotJson, NotWhole, NotKind, OtherPlace, Missing, WrongType, BadName, BadLabel, TooManyLabels, TooLarge, NoMemory}
+use Rattle.hx_model.specs.declared.refusal.Refusal.TheVariants.{NotJson, NotWhole, NotKind, OtherPlace, Missing, WrongType, NoQuantity, BadName, BadLabel, TooManyLabels, TooLarge, NoMemory}
 
 -- an object, and the version that it expects
 abbrev pub Said : Type 0
@@ -43,14 +43,14 @@ object_refusal of_object.BadLabel = BadLabel
 object_refusal of_object.TooManyLabels = TooManyLabels
 object_refusal of_object.TooLarge = TooLarge
 
--- the refusal of a fault, at a path of a kind. A member that is no quantity has the wrong type
+-- the refusal of a fault, at a path of a kind
 abbrev pub refusal_of : Kind → JsonFault → Refusal
 refusal_of kind of.NotJson = NotJson
 refusal_of kind of.NotWhole = NotWhole
 refusal_of kind of.WrongKind = NotKind kind
 refusal_of kind (of.MissingMember path) = Missing path
 refusal_of kind (of.WrongType path) = WrongType path
-refusal_of kind (of.BadQuantity path) = WrongType path
+refusal_of kind (of.BadQuantity path) = NoQuantity path
 refusal_of kind of.WrongPlace = OtherPlace
 refusal_of kind (of.Object fault) = object_refusal fault
 refusal_of kind of.NoMemory = NoMemory

@@ -2,7 +2,6 @@
 --     as_sent                a resource path whose segments lie in the path that was sent
 --     parts_of_version       the parts of an `apiVersion` that a path has
 --     FitsScope              objects of the cluster have no namespace
---     IsServedForm           what is written may be
 --     name_of parameter      its name
 --     said_by query          what the first values of a query's parameters say
 --     over x y               what two queries say, one behind the other
@@ -18,11 +17,8 @@ use Rattle.std.specs.Str.{bytes_eq}
 use Rattle.hx_object.specs.Kinds.{is_in_cluster}
 use Rattle.hx_object.specs.Pairs.{value_of}
 use Rattle.hx_json.specs.Reading.{is_long_decimal}
-use Rattle.hx_model.specs.Serving.{is_written}
 use Rattle.hx_api.specs.Paths.{is_blank}
 use Rattle.hx_api.specs.Queries.{Parameters}
-use Rattle.hx_api.specs.declared.method.Method.{Method}
-use Rattle.hx_api.specs.declared.method.Method.TheVariants.{Post, Put}
 use Rattle.hx_api.specs.declared.query.Parameter.{Parameter}
 use Rattle.hx_api.specs.declared.query.Parameter.TheVariants.{Watch, FieldSelector, DryRun, Continue}
 use Rattle.hx_api.specs.declared.query.Said.{Said}
@@ -47,12 +43,6 @@ FitsScope (Object kind ns name) = is_in_cluster kind ≡ true → ns ≡ None
 abbrev pub parts_of_version : Version → List (List ℕ)
 parts_of_version (Core version) = version.now ∷ []
 parts_of_version (Group group version) = group.now ∷ version.now ∷ []
-
--- what is written is of a kind that is
-abbrev pub IsServedForm : Method → ResourcePath (List ℕ) → Type 0
-IsServedForm Post (Collection kind ns) = is_written kind ≡ true
-IsServedForm Put (Object kind ns name) = is_written kind ≡ true
-IsServedForm method resource = Unit {0}
 
 -- ---- queries
 

@@ -2,7 +2,7 @@
 ghost use Rattle.std.specs.Prelude.{◌≡◌, ◌⊎◌, [], None, Some, Ok, Err, true, IfOk, IfErr};
 ghost use Rattle.hx_object.specs.Kinds.{is_in_cluster};
 ghost use Rattle.hx_json.specs.Reading.{target_at};
-ghost use Rattle.hx_model.specs.Serving.{IsServedAsk, is_written};
+ghost use Rattle.hx_model.specs.Serving.{IsServedAsk};
 ghost use Rattle.hx_api.specs.Asks.{created, replaced};
 ghost use Rattle.hx_api.specs.Bodies.{object_refusal, read_body, refusal_of};
 
@@ -30,9 +30,8 @@ fn refusal_of(kind: Kind, fault: JsonFault) -> Refusal
         JsonFault::NotWhole => Refusal::NotWhole,
         JsonFault::WrongKind => Refusal::NotKind { kind },
         JsonFault::MissingMember(member) => Refusal::Missing { member },
-        JsonFault::WrongType(member) | JsonFault::BadQuantity(member) => Refusal::WrongType {
-            member,
-        },
+        JsonFault::WrongType(member) => Refusal::WrongType { member },
+        JsonFault::BadQuantity(member) => Refusal::NoQuantity { member },
         JsonFault::WrongPlace => Refusal::OtherPlace,
         JsonFault::Object(fault) => object_refusal(fault),
         JsonFault::NoMemory => Refusal::NoMemory,
@@ -47,7 +46,6 @@ pub fn create(
     skip: bool,
     body: &[u8],
 ) -> Result<Ask, Refusal>
-    requires written { is_written kind ≡ true }
     requires namespace { is_in_cluster kind ≡ true → ns.now ≡ [] }
     ensures ok { IfOk result (λ ask. created kind skip (read_body (target_at kind ns.now None) body.now) ≡ Ok ask) }
     ensures refused { IfErr result (λ refusal. (refusal ≡ Refusal.NoMemory) ⊎ (created kind skip (read_body (target_at kind ns.now None) body.now) ≡ Err refusal)) }
@@ -64,7 +62,6 @@ pub fn create(
 
 /// To store the object that a body says in place of the one that is there.
 pub fn replace(reader: &mut BodyReader, id: &Id, skip: bool, body: &[u8]) -> Result<Ask, Refusal>
-    requires written { is_written id.now.kind ≡ true }
     requires namespace { is_in_cluster id.now.kind ≡ true → id.now.ns ≡ [] }
     ensures ok { IfOk result (λ ask. replaced id.now.kind skip (read_body (target_at id.now.kind id.now.ns (Some id.now.name)) body.now) ≡ Ok ask) }
     ensures refused { IfErr result (λ refusal. (refusal ≡ Refusal.NoMemory) ⊎ (replaced id.now.kind skip (read_body (target_at id.now.kind id.now.ns (Some id.now.name)) body.now) ≡ Err refusal)) }

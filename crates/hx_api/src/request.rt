@@ -1,8 +1,8 @@
 // Requests as asks.
 ghost use Rattle.std.specs.Prelude.{◌≡◌, ◌⊎◌, Ok, Err, true, IfOk, IfErr};
-ghost use Rattle.hx_model.specs.Serving.{IsServedAsk, is_written};
+ghost use Rattle.hx_model.specs.Serving.{IsServedAsk};
 ghost use Rattle.hx_api.specs.Asks.{ask_of, namespace, is_feed, is_served, resource_for, ask_at, selector_for, selector_in};
-ghost use Rattle.hx_api.specs.Inside.{FitsScope, IsServedForm};
+ghost use Rattle.hx_api.specs.Inside.{FitsScope};
 ghost use Rattle.hx_api.specs.Paths.{resource_of};
 
 use crate::Method;
@@ -12,7 +12,7 @@ use crate::query::{Query, cut};
 use crate::resource_path::{ResourcePath, allows, decoded};
 use hx_json::BodyReader;
 use hx_model::{Ask, Refusal};
-use hx_object::{Id, Kind, Text};
+use hx_object::{Id, Text};
 use hx_select::{SelectFault, Selector};
 use std::alloc::Global;
 use std::marker::Model;
@@ -93,26 +93,11 @@ fn is_feed(resource: &ResourcePath<Text>) -> bool
     matches!(resource, ResourcePath::Events)
 }
 
-/// Whether objects of the kind may be stored.
-fn is_written(kind: Kind) -> bool
-    ensures { result ≡ is_written kind }
-{
-    !matches!(
-        kind,
-        Kind::HierarchicalResourceQuota | Kind::Pod | Kind::PersistentVolumeClaim
-    )
-}
-
 /// Whether the request's form is served.
 fn is_served(method: Method, resource: &ResourcePath<Text>) -> bool
     ensures { result ≡ is_served method resource.now }
 {
-    match (method, resource) {
-        (Method::Get, ResourcePath::Events) => false,
-        (Method::Post, ResourcePath::Collection { kind, .. }) => is_written(*kind),
-        (Method::Put, ResourcePath::Object { kind, .. }) => is_written(*kind),
-        _ => true,
-    }
+    !matches!((method, resource), (Method::Get, ResourcePath::Events))
 }
 
 /// The selector of a request: only lists have one.
@@ -169,7 +154,6 @@ fn ask_at(
     body: &[u8],
 ) -> Result<Ask, Refusal>
     requires scope { FitsScope resource }
-    requires formed { IsServedForm method resource }
     ensures ok { IfOk result (λ ask. ask_at method resource selector skip body.now ≡ Ok ask) }
     ensures refused { IfErr result (λ refusal. (refusal ≡ Refusal.NoMemory) ⊎ (ask_at method resource selector skip body.now ≡ Err refusal)) }
     ensures served { IfOk result IsServedAsk }

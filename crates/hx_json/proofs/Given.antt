@@ -12,10 +12,12 @@ use Rattle.hx_object.specs.declared.object.Mode.TheVariants.{Propagate, Remove, 
 use Rattle.hx_object.specs.declared.object.ModeEntry.{ModeEntry}
 use Rattle.hx_model.specs.First.{first, or_else, so}
 use Rattle.hx_model.specs.Serving.{is_given, is_given_mode, has_type, is_text_or_none, is_typed}
-use Rattle.hx_json.specs.Reading.{Target, counted_member, entries_of, head_faults, in_spec, is_elsewhere, is_text, items_in, kept_members, member_fault, mode_of_text, own_faults, payload_of, text_or, type_fault, unless_null}
+use Rattle.hx_json.specs.Inside.{has_quantities}
+use Rattle.hx_json.specs.Reading.{Target, counted_member, entries_of, head_faults, in_spec, is_elsewhere, is_text, items_in, kept_members, member_fault, mode_of_text, own_faults, payload_of, quota_fault, text_or, type_fault, unless_null}
 use Rattle.hx_json.specs.declared.fault.JsonFault.TheVariants.{WrongPlace}
 use Rattle.hx_json.proofs.Legal.{kept_in_order, kept_shallow}
 use Rattle.hx_json.proofs.Orders.{type_kept}
+use Rattle.hx_json.proofs.Quotas.{both_none, quota_sound}
 use Rattle.hx_json.proofs.RoundTrip.{read-compact_text}
 
 mode_given : (text : List ℕ) → is_given_mode (unwrap_or (mode_of_text text) Propagate) ≡ true
@@ -48,10 +50,6 @@ typed_is of.Secret d h shallow =
     ∙ ap is_text_or_none (type_kept d)
 typed_is kind d h shallow = refl
 
-both_none : {A : Type 0} (a b : Option A) → or_else a b ≡ None → (a ≡ None) × (b ≡ None)
-both_none None b h = (refl, h)
-both_none (Some x) b h = cc
-
 type_sound : (found : Option Data) → type_fault (codes "type") is_text (unless_null found) ≡ None → is_text_or_none found ≡ true
 type_sound None h = refl
 type_sound (Some null) h = refl
@@ -70,3 +68,13 @@ pub typed_sound : (p : Target) (d : Data) → member_fault p d ≡ None → has_
 typed_sound p d h =
     let own = (both_none (first (head_faults p.kind p.name d)) (or_else (first (own_faults p.kind d)) (so (is_elsewhere p.ns p.name d) WrongPlace)) h).1 in
     own_sound p.kind d (both_none (first (own_faults p.kind d)) (so (is_elsewhere p.ns p.name d) WrongPlace) own).0
+
+own_quantities : (kind : Kind) (d : Data) → first (own_faults kind d) ≡ None → has_quantities kind d ≡ true
+own_quantities of.HierarchicalResourceQuota d h = quota_sound d (both_none (quota_fault d) None h).0
+own_quantities kind d h = refl
+
+-- and quantities as a quota's limits
+pub quantities_sound : (p : Target) (d : Data) → member_fault p d ≡ None → has_quantities p.kind d ≡ true
+quantities_sound p d h =
+    let own = (both_none (first (head_faults p.kind p.name d)) (or_else (first (own_faults p.kind d)) (so (is_elsewhere p.ns p.name d) WrongPlace)) h).1 in
+    own_quantities p.kind d (both_none (first (own_faults p.kind d)) (so (is_elsewhere p.ns p.name d) WrongPlace) own).0

@@ -2,9 +2,8 @@
 --     cut_is, cut_back      what `split_once` at a slash gives, and that it is the one cut
 --     outer_cut, inner_cut  where the key of an identity is cut
 --     kind_is, kind_back    the kind of two digits
-use Rattle.std.proofs.Common.{◌≡◌, ◌≢◌, ◌<◌, ℕ, zero, suc, Bool, true, false, cond, not, ◌&&◌, ◌||◌, ◌==◌, List, [], ◌∷◌, ◌++◌, length, get_or, Option, Some, None, Bor, bytes_eq, find, refl, sym, subst, ap, ◌∙◌, arith, true≢false, eqb-true, eq-eqb}
+use Rattle.std.proofs.Common.{◌≡◌, ◌≢◌, ◌<◌, ℕ, zero, suc, Bool, true, false, cond, not, ◌||◌, ◌==◌, List, [], ◌∷◌, ◌++◌, length, get_or, Option, Some, None, Bor, bytes_eq, find, refl, sym, subst, ap, ◌∙◌, arith, true≢false, eqb-true, eq-eqb}
 use Rattle.std.specs.Prelude.{IfSome, MatchOption}
-use Rattle.std.proofs.lemmas.Bool.{and_parts}
 use Rattle.std.proofs.lemmas.Slice.Eq.{bytes_eq-Decides}
 use Rattle.std.proofs.lemmas.Str.Pattern.{IsSplitOnceResult, split_after, split_parts}
 use Rattle.hx_object.specs.Kinds.{all_kinds, is_in_cluster, number_of}
@@ -12,7 +11,6 @@ use Rattle.hx_object.specs.Names.{slash}
 use Rattle.hx_object.specs.declared.kind.Kind.{Kind}
 use Rattle.hx_object.specs.declared.kind.Kind.TheVariants as of
 use Rattle.hx_object.specs.declared.object.Id.{Id}
-use Rattle.hx_model.specs.Serving.{is_written}
 use Rattle.hx_model.specs.Texts.{key_text, two_digits}
 use Rattle.hx_json.specs.Rows.{HasNoSlash, IsCutAt, IsKeyOf, kind_in, may_lie_in}
 
@@ -60,14 +58,12 @@ inner_cut key id h = record { slashless = h.slashless; is = refl }
 
 -- ---- the kind
 
-pub kind_back : (digits : List ℕ) (kind : Kind) → is_written kind ≡ true → digits ≡ two_digits (number_of kind) → kind_in digits ≡ Some kind
-kind_back digits kind h is = ap kind_in is ∙ by kind h
+pub kind_back : (digits : List ℕ) (kind : Kind) → digits ≡ two_digits (number_of kind) → kind_in digits ≡ Some kind
+kind_back digits kind is = ap kind_in is ∙ by kind
   where
-    by : (kind : Kind) → is_written kind ≡ true → kind_in (two_digits (number_of kind)) ≡ Some kind
-    by of.HierarchicalResourceQuota h = absurd (true≢false (sym h))
-    by of.Pod h = absurd (true≢false (sym h))
-    by of.PersistentVolumeClaim h = absurd (true≢false (sym h))
-    by kind h = refl
+    by : (kind : Kind) → kind_in (two_digits (number_of kind)) ≡ Some kind
+    by of.Namespace = refl
+    by kind = refl
 
 passes_by : {A : Type 0} (p : A → Bool) (y x : A) (rest : Option A) → (rest ≡ Some x → p x ≡ true) → (b : Bool) → p y ≡ b → cond b (Some y) rest ≡ Some x → p x ≡ true
 passes_by p y x rest later true is h = let same : y ≡ x = cc in subst (λ z. p z ≡ true) same is
@@ -77,10 +73,8 @@ found_passes : {A : Type 0} (p : A → Bool) (xs : List A) (x : A) → find p xs
 found_passes p [] x h = absurd (let clash = h in cc)
 found_passes p (y ∷ xs) x h = passes_by p y x (find p xs) (found_passes p xs x) (p y) refl h
 
-pub kind_is : (digits : List ℕ) (kind : Kind) → kind_in digits ≡ Some kind → (is_written kind ≡ true) × (digits ≡ two_digits (number_of kind))
-kind_is digits kind h =
-    let parts = and_parts (is_written kind) (bytes_eq digits (two_digits (number_of kind))) (found_passes (λ kind. is_written kind && bytes_eq digits (two_digits (number_of kind))) all_kinds kind h) in
-    (parts.0, (bytes_eq-Decides digits (two_digits (number_of kind))).0 parts.1)
+pub kind_is : (digits : List ℕ) (kind : Kind) → kind_in digits ≡ Some kind → digits ≡ two_digits (number_of kind)
+kind_is digits kind h = (bytes_eq-Decides digits (two_digits (number_of kind))).0 (found_passes (λ kind. bytes_eq digits (two_digits (number_of kind))) all_kinds kind h)
 
 -- ---- the key
 
@@ -105,8 +99,7 @@ unfolding key_text
 key_is key digits rest ns name kind outer inner found may =
     let known = kind_is digits kind found in
     record {
-      is = outer.is ∙ (λ i. known.1 i ++ (slash ∷ inner.is i));
-      written = known.0;
+      is = outer.is ∙ (λ i. known i ++ (slash ∷ inner.is i));
       home = may_lie kind ns may;
       slashless = inner.slashless;
     }
@@ -117,7 +110,7 @@ module _ (key digits rest : List ℕ) (id : Id) (h : IsKeyOf key id) (outer : (f
   inner_back = subst (λ t. IsCutAt t id.ns id.name) (sym (outer _ _ (outer_cut key id h)).1) (inner_cut key id h)
 
   pub known_back : kind_in digits ≡ Some id.kind
-  known_back = kind_back digits id.kind h.written (outer _ _ (outer_cut key id h)).0
+  known_back = kind_back digits id.kind (outer _ _ (outer_cut key id h)).0
 
   pub may_back : (ns : List ℕ) (kind : Kind) → ns ≡ id.ns → kind ≡ id.kind → may_lie_in kind ns ≡ true
   may_back ns kind same known = (λ i. may_lie_in (known i) (same i)) ∙ may_lie_back id.kind id.ns h.home

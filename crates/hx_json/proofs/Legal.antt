@@ -9,13 +9,15 @@ use Rattle.serde_json.specs.Find.{get_member}
 use Rattle.serde_json.specs.Read.{max_depth}
 use Rattle.serde_json.specs.Written.{compact_text}
 use Rattle.hx_object.specs.Canonical.{IsBefore, IsCanonical, AreMembers}
-use Rattle.hx_object.specs.Faults.{object_fault, IsPlain, IsPayloadOf, IsLegal, need_of}
+use Rattle.hx_object.specs.Faults.{object_fault, IsPlain, IsPayloadOf, IsLegal}
 use Rattle.hx_object.specs.Kinds.{is_in_cluster}
+use Rattle.hx_object.specs.Needs.{need_of}
 use Rattle.hx_object.specs.declared.kind.Kind.{Kind}
 use Rattle.hx_object.specs.declared.object.Id.{Id}
 use Rattle.hx_json.specs.Rows.{said_object}
 use Rattle.hx_json.specs.Reading.{kept_members, payload_of, unless_empty_text, without}
-use Rattle.hx_json.specs.ReadObject.{is_read}
+use Rattle.hx_json.specs.Inside.{has_quantities}
+use Rattle.hx_json.proofs.Quotas.{quota_payload}
 
 -- ---- removing keeps the order and the depth
 
@@ -134,14 +136,14 @@ given None h = cc
 given (Some []) h = cc
 given (Some (byte ∷ text)) h = cc
 
-payload_given : (kind : Kind) (d : Data) → is_read kind ≡ true → IsCanonical d → depth d ≤ max_depth → IsPayloadOf kind (payload_of kind d)
+payload_given : (kind : Kind) (d : Data) → has_quantities kind d ≡ true → IsCanonical d → depth d ≤ max_depth → IsPayloadOf kind (payload_of kind d)
 payload_given Kind.Namespace d is h shallow = refl
 payload_given Kind.HncConfiguration d is h shallow = refl
 payload_given Kind.HierarchyConfiguration d is h shallow = (refl, given _)
 payload_given Kind.SubnamespaceAnchor d is h shallow = refl
-payload_given Kind.HierarchicalResourceQuota d is h shallow = absurd (true≢false (sym is))
-payload_given Kind.Pod d is h shallow = absurd (true≢false (sym is))
-payload_given Kind.PersistentVolumeClaim d is h shallow = absurd (true≢false (sym is))
+payload_given Kind.HierarchicalResourceQuota d is h shallow = quota_payload d h is
+payload_given Kind.Pod d is h shallow = (refl, plain_payload Kind.Pod d h shallow)
+payload_given Kind.PersistentVolumeClaim d is h shallow = (refl, plain_payload Kind.PersistentVolumeClaim d h shallow)
 payload_given Kind.Role d is h shallow = (refl, plain_payload Kind.Role d h shallow)
 payload_given Kind.RoleBinding d is h shallow = (refl, plain_payload Kind.RoleBinding d h shallow)
 payload_given Kind.ConfigMap d is h shallow = (refl, plain_payload Kind.ConfigMap d h shallow)
@@ -151,6 +153,6 @@ payload_given Kind.LimitRange d is h shallow = (refl, plain_payload Kind.LimitRa
 payload_given Kind.Service d is h shallow = (refl, plain_payload Kind.Service d h shallow)
 
 -- an object without fault that a canonical body says is legal
-pub legal : (id : Id) (version : ℕ) (d : Data) → is_read id.kind ≡ true → (is_in_cluster id.kind ≡ true → id.ns ≡ []) → IsCanonical d → depth d ≤ max_depth → object_fault (said_object id version d) ≡ None
+pub legal : (id : Id) (version : ℕ) (d : Data) → has_quantities id.kind d ≡ true → (is_in_cluster id.kind ≡ true → id.ns ≡ []) → IsCanonical d → depth d ≤ max_depth → object_fault (said_object id version d) ≡ None
     → IsLegal (said_object id version d)
 legal id version d is home h shallow sound = record { sound = sound; home = home; payload = payload_given id.kind d is h shallow }

@@ -3,6 +3,7 @@ pub mod Canonical
 pub mod Versions
 pub mod Legal
 mod ReadExamples
+mod ResourceExamples
 mod TreeExamples
 pub mod NoFloat
 pub mod Trees
@@ -25,3 +26,5 @@ pub mod Keys
 pub mod RowsBack
 pub mod KeyTexts
 pub mod Normal
+pub mod Needs
+pub mod Quotas

@@ -161,12 +161,18 @@ order_kept (json.string text) h = refl
 order_kept (json.array js) h = refl
 order_kept (json.object ms) h = kept_sorted None ms h
 
-order_kept_for : (kind : Kind) (j : Json) → keeps_order j ≡ true → keeps_order_for kind j ≡ true
+limits_sorted : (o : Option Json) → IsSorted o → unwrap_or (option_map (is_sorted_in (codes "hard")) o) true ≡ true
+unfolding IsSorted
+limits_sorted None h = refl
+limits_sorted (Some j) h = unwrapped (find.get (codes "hard") j) (get_sorted (codes "hard") j h)
+
+order_kept_for : (kind : Kind) (j : Json) → is_sorted j ≡ true → keeps_order_for kind j ≡ true
 order_kept_for Kind.Namespace j h = refl
 order_kept_for Kind.HncConfiguration j h = refl
 order_kept_for Kind.HierarchyConfiguration j h = refl
 order_kept_for Kind.SubnamespaceAnchor j h = refl
-order_kept_for _ j h = h
+order_kept_for Kind.HierarchicalResourceQuota j h = limits_sorted (find.get (codes "spec") j) (get_sorted (codes "spec") j h)
+order_kept_for _ j h = order_kept j h
 
 -- the compact text of a canonical value is read as it stands
 pub compact_ordered : (kind : Kind) (d : Data) → IsCanonical d → depth d ≤ max_depth → IsOrdered kind (compact_text d)
@@ -175,5 +181,5 @@ compact_ordered kind d h shallow =
     let order = sorted d h in (
       j,
       tree_compact d h shallow,
-      both (is_tame j) _ (tame d h) (both (has_sorted_metadata j) _ (pairs_sorted (find.get (codes "metadata") j) (get_sorted (codes "metadata") j order)) (order_kept_for kind j (order_kept j order))),
+      both (is_tame j) _ (tame d h) (both (has_sorted_metadata j) _ (pairs_sorted (find.get (codes "metadata") j) (get_sorted (codes "metadata") j order)) (order_kept_for kind j order)),
     )

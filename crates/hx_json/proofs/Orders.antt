@@ -124,7 +124,7 @@ either Less a b e = refl
 either Equal a b e = absurd (true≢false e)
 either Greater a b e = refl
 
-get_without : (n k : List ℕ) (ms : Members) → bytes_eq k n ≡ false → get_member k (without n ms) ≡ get_member k ms
+pub get_without : (n k : List ℕ) (ms : Members) → bytes_eq k n ≡ false → get_member k (without n ms) ≡ get_member k ms
 get_without n k no_members other = refl
 get_without n k (member l d ms) other = by (bytes_eq n l) refl (get_without n k ms other)
   where

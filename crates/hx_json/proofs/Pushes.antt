@@ -18,7 +18,7 @@ use Rattle.hx_model.specs.Json.{objects_items, list_text}
 use Rattle.hx_model.specs.Replies.{status_text, gone_text}
 use Rattle.hx_model.specs.declared.refusal.Refusal.{Refusal}
 use Rattle.hx_model.specs.declared.refusal.Refusal.TheVariants as of
-use Rattle.hx_json.specs.Pushed.{pairs_text, pairs_front, namespace_text, metadata_text, head_text, namespace_rest, config_rest, quota_rest, spec_part, conditions_alone, conditions_behind, status_rest, pushed_list, pushed_status, pushed_gone, rule_text}
+use Rattle.hx_json.specs.Pushed.{pairs_text, pairs_front, namespace_text, metadata_text, head_text, namespace_rest, config_rest, quota_rest, spec_part, conditions_alone, conditions_behind, status_rest, pushed_list, pushed_status, pushed_gone, rule_text, over_text}
 
 -- two brackets behind a text
 closed_twice : (text : List ℕ) → (text ++ 125 ∷ []) ++ 125 ∷ [] ≡ text ++ codes "}}"
@@ -161,8 +161,9 @@ list_pushed k xs version =
     ∙ ap (λ t. quoted (name_of k ++ codes "List") ++ (codes ",\"metadata\":{\"resourceVersion\":" ++ t)) (sym (closed_twice (quoted (decimal version)))))
 
 pub status_pushed : (r : Refusal) → pushed_status r ≡ status_text r
-unfolding pushed_status status_text rule_text escape_byte
+unfolding pushed_status status_text rule_text over_text escape_byte
 status_pushed (of.Broken rule) = refl
+status_pushed (of.OverQuota ns quota resource used asked hard) = refl
 status_pushed _ = refl
 
 pub gone_pushed : (version : ℕ) → pushed_gone version ≡ gone_text version

@@ -12,7 +12,7 @@ use Rattle.serde_json.proofs.Views.{get_member-put_other}
 use Rattle.json.specs.Json.{Json}
 use Rattle.hx_object.specs.Canonical.{IsCanonical}
 use Rattle.hx_object.specs.Faults.{IsPayloadOf, object_fault}
-use Rattle.hx_object.specs.Json.{pairs_members, unless_empty, texts_items, metadata_of, phase_of, mode_text, entry_data, entries_items, condition_data, conditions_items, anchor_text, hierarchy_spec, hierarchy_status, own_members, object_data, object_text}
+use Rattle.hx_object.specs.Json.{pairs_members, unless_empty, texts_items, metadata_of, phase_of, mode_text, entry_data, entries_items, condition_data, conditions_items, anchor_text, hierarchy_spec, hierarchy_status, members_in, own_members, object_data, object_text}
 use Rattle.hx_object.specs.Kinds.{is_plain}
 use Rattle.hx_object.specs.declared.kind.Kind.{Kind}
 use Rattle.hx_object.specs.declared.kind.Kind.TheVariants as of
@@ -27,9 +27,9 @@ use Rattle.hx_object.specs.declared.object.ModeEntry.{ModeEntry}
 use Rattle.hx_object.specs.declared.object.Object.{Object}
 use Rattle.hx_object.specs.declared.object.Payload.{Payload}
 use Rattle.hx_object.specs.declared.object.Payload.TheVariants.{Namespace, Config, Hierarchy, Anchor, Quota, Plain}
-use Rattle.hx_model.specs.Serving.{IsServed, has_type, is_given_mode, is_kept, is_typed, is_written}
-use Rattle.hx_json.specs.Reading.{counted_member, entry_of, entries_of, in_spec, is_this, items_in, kept_members, metadata_in, mode_of_text, pairs_in, pairs_of, payload_of, plain_of, text_in, truth_in, unless_empty_text, unless_null}
-use Rattle.hx_json.specs.ReadObject.{is_read}
+use Rattle.hx_model.specs.Serving.{IsServed, has_type, is_given_mode, is_kept, is_typed}
+use Rattle.hx_json.specs.Reading.{counted_member, entry_of, entries_of, in_spec, is_this, items_in, kept_members, limits_of, metadata_in, mode_of_text, pairs_in, pairs_of, payload_of, plain_of, text_in, truth_in, unless_empty_text, unless_null}
+use Rattle.hx_json.specs.Inside.{has_quantities}
 use Rattle.hx_json.specs.Rows.{Gives, IsTextOf, IsUnsound, condition_in, conditions_of, in_front, in_status, reported, row_fault, said_object, status_named, texts_of, with_status}
 use Rattle.hx_json.specs.Trees.{data_of, is_ordered, tree_of, IsNoTree, IsOrdered}
 use Rattle.hx_json.specs.declared.fault.JsonFault.{JsonFault}
@@ -38,6 +38,7 @@ use Rattle.hx_json.proofs.Given.{typed_is}
 use Rattle.hx_json.proofs.InOrder.{canonical_object, metadata, plain_whole, shallow_object}
 use Rattle.hx_json.proofs.Normal.{compact_ordered}
 use Rattle.hx_json.proofs.Orders.{ordered_read}
+use Rattle.hx_json.proofs.Quotas.{limits_back, quantities_back}
 use Rattle.hx_json.proofs.RoundTrip.{read-compact_text}
 use Rattle.hx_json.proofs.Statuses.{reported_typed, still_sound}
 use Rattle.hx_json.proofs.Telling.{behind, head_taken, metadata_there, other_text, own_lacks, pairs_told}
@@ -122,6 +123,7 @@ plain_kind of.Namespace d h = absurd (true≢false (sym h))
 plain_kind of.HncConfiguration d h = absurd (true≢false (sym h))
 plain_kind of.HierarchyConfiguration d h = absurd (true≢false (sym h))
 plain_kind of.SubnamespaceAnchor d h = absurd (true≢false (sym h))
+plain_kind of.HierarchicalResourceQuota d h = absurd (true≢false (sym h))
 plain_kind kind d h = refl
 
 -- the value whose members are those that each object has, and its own
@@ -146,34 +148,39 @@ module _ (version kind metadata : Data) where
   row_payload : Kind → Members → Payload
   row_payload k own = reported (whole own) (payload_of k (whole own))
 
-  payload_back : (k : Kind) (payload : Payload) → IsPayloadOf k payload → is_kept payload ≡ true → is_written k ≡ true → row_payload k (own_members payload) ≡ payload
+  payload_back : (k : Kind) (payload : Payload) → IsPayloadOf k payload → is_kept payload ≡ true → row_payload k (own_members payload) ≡ payload
   unfolding row_payload reported_member
-  payload_back k (Namespace terminating) h kept written =
+  payload_back k (Namespace terminating) h kept =
       let own = own_members (Namespace terminating) in
       ap (λ k. row_payload k own) h
       ∙ ap (λ o. Namespace (is_this (codes "Terminating") o)) (status_there (codes "phase") own)
       ∙ ap Namespace (phase_back terminating)
-  payload_back k (Config entries) h kept written =
+  payload_back k (Config entries) h kept =
       ap (λ k. row_payload k (own_members (Config entries))) h
       ∙ ap (λ o. Config (entries_of (items_in o))) (spec_there (codes "resources") (own_members (Config entries)))
       ∙ ap Config (entries_back entries kept)
-  payload_back k (Hierarchy parent cascade children conditions) h kept written =
+  payload_back k (Hierarchy parent cascade children conditions) h kept =
       let own = own_members (Hierarchy parent cascade children conditions) in
       let parents : _ ≡ parent = ap (λ o. unless_empty_text (text_in o)) (spec_there (codes "parent") own) ∙ parent_back parent cascade h.1 in
       let cascades : _ ≡ cascade = ap truth_in (spec_there (codes "allowCascadingDeletion") own) ∙ cascade_back parent cascade in
       let child : _ ≡ children = ap (λ o. texts_of (items_in o)) (status_there (codes "children") own) ∙ children_back children conditions in
       let condition : _ ≡ conditions = ap (λ o. conditions_of (items_in o)) (status_there (codes "conditions") own) ∙ halts_back children conditions in
       ap (λ k. row_payload k own) h.0 ∙ (λ i. Hierarchy (parents i) (cascades i) (child i) (condition i))
-  payload_back k (Anchor None) h kept written =
+  payload_back k (Anchor None) h kept =
       ap (λ k. row_payload k no_members) h
       ∙ ap (λ o. Anchor (option_and_then status_named (text_in o))) (status_there (codes "status") no_members)
-  payload_back k (Anchor (Some status)) h kept written =
+  payload_back k (Anchor (Some status)) h kept =
       let own = own_members (Anchor (Some status)) in
       ap (λ k. row_payload k own) h
       ∙ ap (λ o. Anchor (option_and_then status_named (text_in o))) (status_there (codes "status") own)
       ∙ ap Anchor (status_back status)
-  payload_back k (Quota hard status) h kept written = absurd (true≢false (sym written ∙ ap is_written h.0))
-  payload_back k (Plain members need) h kept written =
+  payload_back k (Quota hard []) h kept =
+      let own = own_members (Quota hard []) in
+      ap (λ k. row_payload k own) h.0
+      ∙ ap (λ o. Quota (limits_of (members_in o)) []) (spec_there (codes "hard") own)
+      ∙ ap (λ limits. Quota limits []) (limits_back hard h.2)
+  payload_back k (Quota hard (usage ∷ status)) h kept = absurd (true≢false (sym kept))
+  payload_back k (Plain members need) h kept =
       ap (reported (whole (own_members (Plain members need)))) (plain_kind k _ h.0
       ∙ ap (plain_of k) (head_taken version kind metadata (own_members (Plain members need)) (own_lacks k (Plain members need) h) ∙ plain_whole k members need h.1))
       ∙ (λ i. Plain (sym h.1.text i) (sym h.1.says i))
@@ -209,7 +216,7 @@ object_back x served =
     let l = pairs_members x.labels in
     let labels = ap (λ d. pairs_in (counted_member (codes "labels") d)) there ∙ labels_back a l x.id.name x.id.ns (decimal x.version) ∙ pairs_told x.labels in
     let annotations = ap (λ d. pairs_in (counted_member (codes "annotations") d)) there ∙ annotations_back a l x.id.name x.id.ns (decimal x.version) ∙ pairs_told x.annotations in
-    let payload = payload_back _ _ _ x.id.kind x.payload served.legal.payload served.kept.payload served.written in
+    let payload = payload_back _ _ _ x.id.kind x.payload served.legal.payload served.kept.payload in
     λ i. record { id = x.id; labels = labels i; annotations = annotations i; payload = payload i; version = x.version }
 
 canonical : (x : Object) → IsServed x → IsCanonical (object_data x)
@@ -263,6 +270,12 @@ module _ (id : Id) (version : ℕ) (text : List ℕ) (x : Object) (h : IsTextOf 
       let typed = subst (λ (y : Object). is_typed y.id.kind y.payload ≡ true) (sym (told j is ordered)) h.served.kept.typed in
       true≢false (sym typed ∙ reported_typed (data_of j) id.kind (payload_of id.kind (data_of j)) ∙ typed_is id.kind (data_of j) canonical shallow ∙ other)
 
+  -- nor is one of a quota with a limit that is no quantity
+  pub unmeasured : (j : Json) → tree_of text ≡ Some j → is_ordered id.kind j ≡ true → has_quantities id.kind (data_of j) ≡ false → ⊥
+  unmeasured j is ordered other =
+      let payload = subst (λ (y : Object). IsPayloadOf y.id.kind y.payload) (sym (told j is ordered)) h.served.legal.payload in
+      true≢false (sym (quantities_back id.kind (data_of j) payload) ∙ other)
+
   -- and it has no fault of an object
   pub faultless : (j : Json) (f : JsonFault) → tree_of text ≡ Some j → is_ordered id.kind j ≡ true → IsUnsound (said_object id version (data_of j)) f → Gives (Err (row_fault f)) x
   faultless j f is ordered unsound = by f unsound
@@ -283,10 +296,3 @@ module _ (id : Id) (version : ℕ) (text : List ℕ) (x : Object) (h : IsTextOf 
       by faults.WrongPlace h = h
       by (faults.Object fault) unsound = let clash : Some fault ≡ None = sym unsound ∙ sound in cc
       by faults.NoMemory h = tt
-
--- the kinds whose objects may be stored are read
-pub written_read : (kind : Kind) → is_written kind ≡ true → is_read kind ≡ true
-written_read of.HierarchicalResourceQuota h = h
-written_read of.Pod h = h
-written_read of.PersistentVolumeClaim h = h
-written_read kind h = refl

@@ -23,14 +23,14 @@ post = target_at ConfigMap (codes "a") None
 abbrev put : Target
 put = target_at ConfigMap (codes "a") (Some (codes "x"))
 
-abbrev text : List ℕ → Data
+abbrev pub text : List ℕ → Data
 text bytes = string bytes
 
-abbrev one : List ℕ → Data → Data
+abbrev pub one : List ℕ → Data → Data
 one name d = object (member name d no_members)
 
 -- a body of a kind with these members
-abbrev body : List ℕ → List ℕ → Members → Data
+abbrev pub body : List ℕ → List ℕ → Members → Data
 body version kind ms = object (member (codes "apiVersion") (text version) (member (codes "kind") (text kind) ms))
 
 abbrev config_map : Data → Data
@@ -40,10 +40,10 @@ config_map metadata = body (codes "v1") (codes "ConfigMap") (member (codes "meta
 abbrev named_with : List ℕ → Data → Data
 named_with name d = config_map (object (member (codes "name") (text (codes "x")) (member name d no_members)))
 
-abbrev named : Data
+abbrev pub named : Data
 named = one (codes "name") (text (codes "x"))
 
-abbrev hnc : List ℕ → Data → Data
+abbrev pub hnc : List ℕ → Data → Data
 hnc kind spec = body (codes "hnc.x-k8s.io/v1alpha2") kind (member (codes "metadata") named (member (codes "spec") spec no_members))
 
 abbrev hierarchy : Data → Data
@@ -55,7 +55,7 @@ config entries = hnc (codes "HNCConfiguration") (one (codes "resources") (array 
 abbrev entry : Data → Data → Data → Data
 entry group mode resource = object (member (codes "group") group (member (codes "mode") mode (member (codes "resource") resource no_members)))
 
-abbrev seven : Data
+abbrev pub seven : Data
 seven = number (unsigned 7)
 
 -- ---- the head

@@ -24,7 +24,7 @@ passed {A} {B} (Err e) f a b is h = still_gives e a b (subst (λ f. Gives {A = A
 
 module _ (key : List ℕ) (version : ℕ) (body : List ℕ) (x : Object) (h : IsRowOf key version body x) where
   pub row_key : IsKeyOf key x.id
-  row_key = record { is = sym (ap (λ e. e.0) h.is); written = h.served.written; home = h.served.legal.home; slashless = keyed_legal x h.served.legal }
+  row_key = record { is = sym (ap (λ e. e.0) h.is); home = h.served.legal.home; slashless = keyed_legal x h.served.legal }
 
   pub row_text : (id : Id) → id ≡ x.id → IsTextOf id version body x
   row_text id same = record { served = h.served; id_is = sym same; version_is = ap (λ e. e.1.0) h.is; text_is = sym (ap (λ e. e.1.1) h.is) }

@@ -5,6 +5,7 @@ use Rattle.std.specs.Fmt.{digits}
 use Rattle.serde_json.specs.Read.{read}
 use Rattle.serde_json.proofs.OnLiterals.{serde_json_on_literals}
 use Rattle.hx_object.specs.Json.{object_text}
+use Rattle.hx_object.specs.Quantities.{factor_of, quantity_of}
 use Rattle.hx_object.specs.declared.kind.Kind.{Kind}
 use Rattle.hx_object.specs.declared.kind.Kind.TheVariants.{Namespace, HncConfiguration, HierarchyConfiguration, SubnamespaceAnchor, HierarchicalResourceQuota, Role, ConfigMap}
 use Rattle.hx_object.specs.declared.object.Object.{Object}
@@ -68,10 +69,20 @@ pub text_of_anchor : object_text (bare SubnamespaceAnchor (codes "top") (codes "
 unfolding object_text digits serde_json_on_literals
 text_of_anchor = refl
 
--- the limits of a quota
-pub text_of_quota : object_text (bare HierarchicalResourceQuota (codes "top") (codes "q") (Quota (record { resource = codes "cpu"; written = codes "1"; amount = 1000 } ∷ record { resource = codes "pods"; written = codes "3"; amount = 3000 } ∷ []) [])) ≡ codes "{\"apiVersion\":\"hnc.x-k8s.io/v1alpha2\",\"kind\":\"HierarchicalResourceQuota\",\"metadata\":{\"name\":\"q\",\"namespace\":\"top\",\"resourceVersion\":\"7\"},\"spec\":{\"hard\":{\"cpu\":\"1\",\"pods\":\"3\"}}}"
-unfolding object_text digits serde_json_on_literals
-text_of_quota = refl
+-- the limits of a quota, and what is read of them
+abbrev quota : Object
+quota = bare HierarchicalResourceQuota (codes "top") (codes "q") (Quota (record { resource = codes "cpu"; written = codes "1"; amount = 1000 } ∷ record { resource = codes "pods"; written = codes "3"; amount = 3000 } ∷ []) [])
+
+abbrev quota_text : List ℕ
+quota_text = codes "{\"apiVersion\":\"hnc.x-k8s.io/v1alpha2\",\"kind\":\"HierarchicalResourceQuota\",\"metadata\":{\"name\":\"q\",\"namespace\":\"top\",\"resourceVersion\":\"7\"},\"spec\":{\"hard\":{\"cpu\":\"1\",\"pods\":\"3\"}}}"
+
+row_of_quota : stored_entry quota ≡ (codes "05/top/q", (7, quota_text))
+unfolding key_text object_text digits serde_json_on_literals
+row_of_quota = refl
+
+quota_back : option_map (λ d. with_status d (said_object quota.id 7 d)) (read quota_text) ≡ Some quota
+unfolding quantity_of factor_of serde_json_on_literals
+quota_back = refl
 
 abbrev role : Object
 role = record { id = record { kind = Role; ns = codes "top"; name = codes "r" }; labels = (codes "app", codes "web") ∷ (codes "tier", []) ∷ []; annotations = []; payload = Plain (codes "{\"rules\":[]}") nothing; version = 12 }

@@ -3,18 +3,27 @@
 --     seen fault     a fault as callers see it
 --     entry_fault m  the fault of a member of an entry
 --     num_of n       the number that a whole one is
+--     has_quantities k d   each limit of a quota is a quantity
 --     AreAlike       two texts of one value, whose numbers are whole
 --     Says, IsFaultIn    an object, or a fault, is what a value gives
 --     target_of a    the target of what is asked
+--     need_said k d  what all members of a body say that is needed to know
+--     phase_fault, requests_fault, storage_fault    parts of the faults of Pods and claims
 --     fault_in r     the fault that a check found
-use Rattle.std.specs.Prelude.{◌≡◌, ℕ, Bool, List, Option, Some, None, option_copied, Result, Ok, Err}
+use Rattle.std.specs.Prelude.{◌≡◌, ℕ, Bool, true, false, List, [], codes, Option, Some, None, option_copied, unwrap_or, Result, Ok, Err}
 use Rattle.serde_json.specs.Data.{Num, unsigned, negative, Data}
+use Rattle.serde_json.specs.Find.{get}
+use Rattle.hx_object.specs.Json.{members_in}
+use Rattle.hx_object.specs.Needs.{containers_in, is_finished_in, is_token, storage_asked}
+use Rattle.hx_object.specs.declared.kind.Kind.{Kind}
+use Rattle.hx_object.specs.declared.kind.Kind.TheVariants.{HierarchicalResourceQuota, Secret, Pod, PersistentVolumeClaim}
+use Rattle.hx_object.specs.declared.object.Need.{Need}
 use Rattle.hx_object.specs.declared.object.Object.{Object}
-use Rattle.hx_json.specs.Reading.{Target, target_at, expected_of, fault_of, object_of, is_text, is_truth, is_object, is_entries, is_mode, group_fault, resource_fault, mode_fault}
+use Rattle.hx_json.specs.Reading.{Target, target_at, expected_of, fault_of, object_of, is_text, is_truth, is_object, is_entries, is_mode, are_quantities, counted_member, in_spec, inner_fault, quantity_fault, type_fault, phase_path, storage_path, group_fault, resource_fault, mode_fault}
 use Rattle.hx_json.specs.declared.fault.JsonFault.{JsonFault}
 use Rattle.hx_json.specs.declared.fault.JsonFault.TheVariants as of
 use Rattle.hx_json.specs.declared.read.shapes.MemberFault.{MemberFault}
-use Rattle.hx_json.specs.declared.read.shapes.MemberFault.TheVariants.{WrongKind, Missing, WrongType, WrongPlace}
+use Rattle.hx_json.specs.declared.read.shapes.MemberFault.TheVariants.{WrongKind, Missing, WrongType, BadQuantity, WrongPlace}
 use Rattle.hx_json.specs.ReadObject.{IsWhole}
 use Rattle.hx_json.specs.declared.read.Asked.{Asked}
 use Rattle.hx_json.specs.declared.read.number.Whole.{Whole}
@@ -39,6 +48,7 @@ abbrev pub seen : MemberFault → JsonFault
 seen WrongKind = of.WrongKind
 seen (Missing path) = of.MissingMember path.now
 seen (WrongType path) = of.WrongType path.now
+seen (BadQuantity path) = of.BadQuantity path.now
 seen WrongPlace = of.WrongPlace
 
 -- the fault that a check found
@@ -52,10 +62,37 @@ entry_fault part.Group = group_fault
 entry_fault part.Resource = resource_fault
 entry_fault part.Mode = mode_fault
 
+-- each limit of a quota is a quantity
+abbrev pub has_quantities : Kind → Data → Bool
+has_quantities HierarchicalResourceQuota d = are_quantities (members_in (in_spec (codes "hard") d))
+has_quantities kind d = true
+
+-- the fault of a Pod's phase
+abbrev pub phase_fault : Data → Option JsonFault
+phase_fault d = inner_fault phase_path (λ status. type_fault phase_path is_text (counted_member (codes "phase") status)) (counted_member (codes "status") d)
+
+-- the fault of a claim's `spec.resources`, and of its `spec`
+abbrev pub storage_fault : Data → Option JsonFault
+storage_fault resources = inner_fault storage_path (λ requests. quantity_fault storage_path (counted_member (codes "storage") requests)) (counted_member (codes "requests") resources)
+
+abbrev pub requests_fault : Data → Option JsonFault
+requests_fault spec = inner_fault storage_path storage_fault (counted_member (codes "resources") spec)
+
 -- the number that a whole one is
 abbrev pub num_of : Whole → Num
 num_of (Unsigned n) = unsigned n
 num_of (Negative z) = negative z
+
+-- ---- what is needed to know
+
+-- what all members of a body say
+abbrev pub need_said : Kind → Data → Need
+need_said Secret d = record { finished = false; token = is_token (get (codes "type") d); storage = 0; containers = [] }
+need_said Pod d = record { finished = is_finished_in d; token = false; storage = 0; containers = containers_in d }
+need_said PersistentVolumeClaim d = record { finished = false; token = false; storage = unwrap_or (storage_asked d) 0; containers = [] }
+need_said _ d = record { finished = false; token = false; storage = 0; containers = [] }
+
+-- ---- values, and what is read of them
 
 -- two texts of one value, whose numbers are whole
 abbrev pub AreAlike : List ℕ → List ℕ → Type 0

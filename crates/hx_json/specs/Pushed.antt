@@ -10,6 +10,7 @@ use Rattle.std.specs.Str.{IsCharBoundary}
 use Rattle.json.specs.Print.{quoted}
 use Rattle.serde_json.specs.Data.{object}
 use Rattle.serde_json.specs.Written.{comma_if, compact_text, items_text, members_text}
+use Rattle.hx_quantity.specs.Quantities.{quantity_text}
 use Rattle.hx_object.specs.Json.{pairs_members, texts_items, entries_items, conditions_items, limits_members}
 use Rattle.hx_object.specs.Kinds.{name_of, api_version_of}
 use Rattle.hx_object.specs.declared.kind.Kind.{Kind}
@@ -21,7 +22,7 @@ use Rattle.hx_object.specs.declared.object.Object.{Object}
 use Rattle.hx_model.specs.Json.{objects_items}
 use Rattle.hx_model.specs.Replies.{code_of, message_of, name_of_rule, reason_of}
 use Rattle.hx_model.specs.declared.refusal.Refusal.{Refusal}
-use Rattle.hx_model.specs.declared.refusal.Refusal.TheVariants.{Broken}
+use Rattle.hx_model.specs.declared.refusal.Refusal.TheVariants.{Broken, OverQuota}
 use Rattle.hx_model.specs.declared.rule.Rule.{Rule}
 
 -- ---- metadata
@@ -130,8 +131,20 @@ pushed_list kind objects version =
 unfoldable pub rule_text : Rule → List ℕ
 rule_text rule = codes ",\"details\":{\"rule\":" ++ (quoted (name_of_rule rule) ++ codes "}")
 
+-- an amount in quotes
+abbrev pub amount_text : ℕ → List ℕ
+amount_text amount = quoted (quantity_text amount)
+
+-- of a limit of a quota that is passed, which limit it is, and its numbers
+unfoldable pub over_text : List ℕ → List ℕ → List ℕ → ℕ → ℕ → ℕ → List ℕ
+over_text ns quota resource used asked hard =
+    codes ",\"details\":{\"asked\":" ++ (amount_text asked ++ (codes ",\"hard\":" ++ (amount_text hard
+    ++ (codes ",\"namespace\":" ++ (quoted ns ++ (codes ",\"quota\":" ++ (quoted quota ++ (codes ",\"resource\":" ++ (quoted resource
+    ++ (codes ",\"rule\":\"Q1\",\"used\":" ++ (amount_text used ++ codes "}")))))))))))
+
 abbrev pub details_part : Refusal → List ℕ
 details_part (Broken rule) = rule_text rule
+details_part (OverQuota ns quota resource used asked hard) = over_text ns quota resource used asked hard
 details_part _ = []
 
 -- a refusal

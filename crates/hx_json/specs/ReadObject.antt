@@ -1,24 +1,14 @@
 -- What `read_object` promises of the bytes of a body.
---     is_read k              the kinds that are read so far
 --     IsWhole                the bytes are JSON of whole numbers
 --     IsFaultOf, IsReadOf    a fault, or an object, is what the bytes give
-use Rattle.std.specs.Prelude.{◌≡◌, ℕ, Bool, true, false, List, Option, Some, None, IsUtf8}
+use Rattle.std.specs.Prelude.{◌≡◌, ℕ, true, false, List, Option, Some, None, IsUtf8}
 use Rattle.serde_json.specs.Data.{Data}
 use Rattle.serde_json.specs.Read.{read}
 use Rattle.serde_json.specs.Written.{has_float}
-use Rattle.hx_object.specs.declared.kind.Kind.{Kind}
-use Rattle.hx_object.specs.declared.kind.Kind.TheVariants.{HierarchicalResourceQuota, Pod, PersistentVolumeClaim}
 use Rattle.hx_object.specs.declared.object.Object.{Object}
 use Rattle.hx_json.specs.Reading.{Target, expected_of, fault_of, object_of}
 use Rattle.hx_json.specs.declared.fault.JsonFault.{JsonFault}
 use Rattle.hx_json.specs.declared.fault.JsonFault.TheVariants.{NotJson, NotWhole, NoMemory}
-
--- the kinds that are read so far
-abbrev pub is_read : Kind → Bool
-is_read HierarchicalResourceQuota = false
-is_read Pod = false
-is_read PersistentVolumeClaim = false
-is_read _ = true
 
 -- the body is JSON of whole numbers, and this is its value
 abbrev pub IsWhole : List ℕ → Data → Type 0

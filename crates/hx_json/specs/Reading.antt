@@ -6,28 +6,32 @@
 --     object_of p d    the object that a body without fault says
 --     expected_of n d  the version that it expects
 -- A member that is absent, or null and not required, counts as absent. Where `spec` is there, isn't null and isn't an object, each member inside it has the wrong type.
-use Rattle.std.specs.Prelude.{◌^◌, ◌-◌, ◌*◌, ◌+◌, ◌==◌, ℕ, Bool, true, false, not, ◌&&◌, ◌||◌, nat_le, List, [], ◌∷◌, codes, length, fold, Option, Some, None, option_and_then, option_map, unwrap_or, is_some, if◌then◌else◌}
+use Rattle.std.specs.Prelude.{◌^◌, ◌-◌, ◌*◌, ◌+◌, ◌==◌, ℕ, Bool, true, false, not, ◌&&◌, ◌||◌, nat_le, List, [], ◌∷◌, codes, length, fold, Option, Some, None, option_and_then, option_map, unwrap_or, is_some, is_none, if◌then◌else◌}
 use Rattle.std.specs.List.{list_all}
 use Rattle.std.specs.Option.{option_map_or}
 use Rattle.std.specs.Str.{bytes_eq}
 use Rattle.serde_json.specs.Data.{Data, null, boolean, string, array, object, Items, no_items, item, Members, no_members, member}
 use Rattle.serde_json.specs.Find.{get}
 use Rattle.serde_json.specs.Written.{compact_text}
-use Rattle.hx_object.specs.Faults.{object_fault, need_of}
+use Rattle.hx_object.specs.Faults.{object_fault}
+use Rattle.hx_object.specs.Json.{members_in}
 use Rattle.hx_object.specs.Kinds.{name_of, api_version_of}
 use Rattle.hx_object.specs.Names.{is_digit}
+use Rattle.hx_object.specs.Needs.{amount_in, need_of, written_in}
+pub use Rattle.hx_object.specs.Values.{counted_member, in_spec, items_in, text_in, unless_null}
 use Rattle.hx_object.specs.declared.kind.Kind.{Kind}
-use Rattle.hx_object.specs.declared.kind.Kind.TheVariants.{Namespace, HncConfiguration, HierarchyConfiguration, SubnamespaceAnchor, Secret}
+use Rattle.hx_object.specs.declared.kind.Kind.TheVariants.{Namespace, HncConfiguration, HierarchyConfiguration, SubnamespaceAnchor, HierarchicalResourceQuota, Secret, Pod, PersistentVolumeClaim}
 use Rattle.hx_object.specs.declared.object.Id.{Id}
 use Rattle.hx_object.specs.declared.object.Object.{Object}
+use Rattle.hx_object.specs.declared.object.Limit.{Limit}
 use Rattle.hx_object.specs.declared.object.Mode.{Mode}
 use Rattle.hx_object.specs.declared.object.Mode.TheVariants.{Propagate, Remove, Ignore}
 use Rattle.hx_object.specs.declared.object.ModeEntry.{ModeEntry}
 use Rattle.hx_object.specs.declared.object.Payload.{Payload}
-use Rattle.hx_object.specs.declared.object.Payload.TheVariants.{Namespace as NamespaceOf, Config, Hierarchy, Anchor, Plain}
+use Rattle.hx_object.specs.declared.object.Payload.TheVariants.{Namespace as NamespaceOf, Config, Hierarchy, Anchor, Quota, Plain}
 use Rattle.hx_model.specs.First.{so, or_else, first}
 use Rattle.hx_json.specs.declared.fault.JsonFault.{JsonFault}
-use Rattle.hx_json.specs.declared.fault.JsonFault.TheVariants.{WrongKind, MissingMember, WrongType, WrongPlace, Object as ObjectFaultOf}
+use Rattle.hx_json.specs.declared.fault.JsonFault.TheVariants.{WrongKind, MissingMember, WrongType, BadQuantity, WrongPlace, Object as ObjectFaultOf}
 
 -- the path's kind and namespace, and on a PUT its name
 pub record Target : Type 0 where
@@ -39,15 +43,6 @@ abbrev pub target_at : Kind → List ℕ → Option (List ℕ) → Target
 target_at kind ns name = record { kind = kind; ns = ns; name = name }
 
 -- ---- members
-
--- a member, where it is there and isn't null
-abbrev pub unless_null : Option Data → Option Data
-unless_null (Some null) = None
-unless_null found = found
-
--- a member that counts, or none
-abbrev pub counted_member : List ℕ → Data → Option Data
-counted_member name d = unless_null (get name d)
 
 abbrev pub is_text : Data → Bool
 is_text (string text) = true
@@ -79,11 +74,6 @@ type_fault path passes (Some d) = so (not (passes d)) (WrongType path)
 abbrev pub required_fault : List ℕ → (Data → Bool) → Option Data → Option JsonFault
 required_fault path passes None = Some (MissingMember path)
 required_fault path passes (Some d) = so (not (passes d)) (WrongType path)
-
--- the text of a member that is one
-abbrev pub text_in : Option Data → Option (List ℕ)
-text_in (Some (string text)) = Some text
-text_in _ = None
 
 -- a member is this text
 abbrev pub is_this : List ℕ → Option Data → Bool
@@ -122,10 +112,6 @@ head_faults kind name d =
 
 -- ---- what is specified
 
--- a member of `spec`
-abbrev pub in_spec : List ℕ → Data → Option Data
-in_spec name d = option_and_then (counted_member name) (counted_member (codes "spec") d)
-
 -- a member of `spec` is absent or passes a test. Where `spec` is no object, the member has the wrong type
 abbrev pub spec_fault : List ℕ → List ℕ → (Data → Bool) → Data → Option JsonFault
 spec_fault path name passes d =
@@ -140,10 +126,6 @@ are_objects (item d ds) = is_object d && are_objects ds
 abbrev pub is_entries : Data → Bool
 is_entries (array ds) = are_objects ds
 is_entries _ = false
-
-abbrev pub items_in : Option Data → Items
-items_in (Some (array ds)) = ds
-items_in _ = no_items
 
 -- the first fault of the items
 abbrev pub first_of_items : (Data → Option JsonFault) → Items → Option JsonFault
@@ -184,10 +166,80 @@ hierarchy_faults d =
     ∷ spec_fault (codes "spec.allowCascadingDeletion") (codes "allowCascadingDeletion") is_truth d
     ∷ []
 
+-- ---- quotas, Pods and claims
+
+-- the first fault of a member that is there, unless it is no object: then what it is to have has the wrong type
+abbrev pub inner_fault : List ℕ → (Data → Option JsonFault) → Option Data → Option JsonFault
+inner_fault path fault None = None
+inner_fault path fault (Some d) = if is_object d then fault d else Some (WrongType path)
+
+abbrev pub is_quantity : Data → Bool
+is_quantity d = is_some (amount_in d)
+
+-- a member is absent or a quantity
+abbrev pub quantity_fault : List ℕ → Option Data → Option JsonFault
+quantity_fault path None = None
+quantity_fault path (Some d) = so (not (is_quantity d)) (BadQuantity path)
+
+abbrev pub are_quantities : Members → Bool
+are_quantities no_members = true
+are_quantities (member k d ms) = is_quantity d && are_quantities ms
+
+abbrev pub hard_path : List ℕ
+hard_path = codes "spec.hard"
+
+-- the faults of a quota's `spec`
+abbrev pub hard_faults : Data → List (Option JsonFault)
+hard_faults spec =
+    required_fault hard_path is_object (get (codes "hard") spec)
+    ∷ so (not (are_quantities (members_in (get (codes "hard") spec)))) (BadQuantity hard_path)
+    ∷ []
+
+-- a quota has limits, though it may have none of them
+abbrev pub quota_fault : Data → Option JsonFault
+quota_fault d = or_else (so (is_none (counted_member (codes "spec") d)) (MissingMember hard_path)) (inner_fault hard_path (λ spec. first (hard_faults spec)) (counted_member (codes "spec") d))
+
+-- what a container asks for, under `requests` or `limits`
+abbrev pub asks_faults : List ℕ → Data → List (Option JsonFault)
+asks_faults path d = quantity_fault path (counted_member (codes "cpu") d) ∷ quantity_fault path (counted_member (codes "memory") d) ∷ []
+
+abbrev pub asks_fault : List ℕ → List ℕ → Data → Option JsonFault
+asks_fault path part resources = inner_fault path (λ d. first (asks_faults path d)) (counted_member part resources)
+
+abbrev pub resources_faults : List ℕ → Data → List (Option JsonFault)
+resources_faults path d = asks_fault path (codes "requests") d ∷ asks_fault path (codes "limits") d ∷ []
+
+abbrev pub container_fault : List ℕ → Data → Option JsonFault
+container_fault path container = inner_fault path (λ d. first (resources_faults path d)) (counted_member (codes "resources") container)
+
+abbrev pub phase_path : List ℕ
+phase_path = codes "status.phase"
+
+-- the containers, then the init containers, one by one
+abbrev pub pod_faults : Data → List (Option JsonFault)
+pod_faults d =
+    spec_fault (codes "spec.containers") (codes "containers") is_entries d
+    ∷ spec_fault (codes "spec.initContainers") (codes "initContainers") is_entries d
+    ∷ first_of_items (container_fault (codes "spec.containers.resources")) (items_in (in_spec (codes "containers") d))
+    ∷ first_of_items (container_fault (codes "spec.initContainers.resources")) (items_in (in_spec (codes "initContainers") d))
+    ∷ inner_fault phase_path (λ status. type_fault phase_path is_text (counted_member (codes "phase") status)) (counted_member (codes "status") d)
+    ∷ []
+
+abbrev pub storage_path : List ℕ
+storage_path = codes "spec.resources.requests.storage"
+
+-- what a claim asks for
+abbrev pub claim_fault : Data → Option JsonFault
+claim_fault d =
+    inner_fault storage_path (λ spec. inner_fault storage_path (λ resources. inner_fault storage_path (λ requests. quantity_fault storage_path (counted_member (codes "storage") requests)) (counted_member (codes "requests") resources)) (counted_member (codes "resources") spec)) (counted_member (codes "spec") d)
+
 -- the faults of the members that a kind has beside those of all kinds
 abbrev pub own_faults : Kind → Data → List (Option JsonFault)
 own_faults HncConfiguration d = config_faults d
 own_faults HierarchyConfiguration d = hierarchy_faults d
+own_faults HierarchicalResourceQuota d = quota_fault d ∷ []
+own_faults Pod d = pod_faults d
+own_faults PersistentVolumeClaim d = claim_fault d ∷ []
 own_faults Secret d = type_fault (codes "type") is_text (counted_member (codes "type") d) ∷ []
 own_faults _ d = []
 
@@ -228,6 +280,14 @@ abbrev pub entries_of : Items → List ModeEntry
 entries_of no_items = []
 entries_of (item d ds) = entry_of d ∷ entries_of ds
 
+-- a limit, by its name and value
+abbrev pub limit_of : List ℕ → Data → Limit
+limit_of key d = record { resource = key; written = unwrap_or (written_in d) []; amount = unwrap_or (amount_in d) 0 }
+
+abbrev pub limits_of : Members → List Limit
+limits_of no_members = []
+limits_of (member k d ms) = limit_of k d ∷ limits_of ms
+
 -- the members without one name
 abbrev pub without : List ℕ → Members → Members
 without name no_members = no_members
@@ -248,6 +308,7 @@ payload_of Namespace d = NamespaceOf false
 payload_of HncConfiguration d = Config (entries_of (items_in (in_spec (codes "resources") d)))
 payload_of HierarchyConfiguration d = Hierarchy (unless_empty_text (text_in (in_spec (codes "parent") d))) (truth_in (in_spec (codes "allowCascadingDeletion") d)) [] []
 payload_of SubnamespaceAnchor d = Anchor None
+payload_of HierarchicalResourceQuota d = Quota (limits_of (members_in (in_spec (codes "hard") d))) []
 payload_of kind d = plain_of kind (kept_members d)
 
 -- the identity: a name that the path has, or else the body's

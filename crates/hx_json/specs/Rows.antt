@@ -1,7 +1,7 @@
 -- Stored rows of objects, and what is read of one.
 --     IsRowOf key version body x    the row of an object that may be stored
 --     IsOnlyOf, HasNoObject         no other object has the row;  no object has it
---     kind_in digits     of the kinds whose objects may be stored, the one of this number
+--     kind_in digits     the kind of this number
 --     IsCutAt text a b   the text is cut at its first slash
 --     may_lie_in k ns    a key of the kind may name the namespace
 --     IsKeyOf key id     the key of an identity whose object may be stored
@@ -9,13 +9,14 @@
 --     children_said d    the children that a value says
 --     conditions_said d  the conditions that a value says
 --     reported d p       a payload, with what a value reports of it
+--     is_told p          a payload that a text tells
 --     with_status d x    the same of an object
 --     IsUnsound x f      the fault is that of an object
 --     IsTextOf id v t x  the text is that of an object that may be stored, of an identity and a version
 --     row_fault f        why a row isn't read, by why its body isn't
 --     Gives r x          an answer is this value, or want of memory
 --     GivesId, GivesTextOf, GivesRow    it is what a key, a text or a row is of, if that is of any
-use Rattle.std.specs.Prelude.{◌≡◌, ℕ, Bool, true, false, not, ◌==◌, ◌&&◌, ◌||◌, List, [], ◌∷◌, ◌++◌, codes, find, Option, option_and_then, Result, Ok, Err, IsUtf8, Some, None, if◌then◌else◌}
+use Rattle.std.specs.Prelude.{◌≡◌, ℕ, Bool, true, false, not, ◌==◌, ◌||◌, List, [], ◌∷◌, ◌++◌, codes, find, Option, option_and_then, Result, Ok, Err, IsUtf8, Some, None, if◌then◌else◌}
 use Rattle.std.specs.List.{AllByRecursion}
 use Rattle.std.specs.Str.{bytes_eq}
 use Rattle.serde_json.specs.Data.{Data, Items, no_items, item}
@@ -23,6 +24,7 @@ use Rattle.hx_object.specs.Faults.{object_fault}
 use Rattle.hx_object.specs.Json.{object_text}
 use Rattle.hx_object.specs.Kinds.{all_kinds, is_in_cluster, number_of}
 use Rattle.hx_object.specs.Names.{slash}
+pub use Rattle.hx_object.specs.Values.{in_status}
 use Rattle.hx_object.specs.declared.kind.Kind.{Kind}
 use Rattle.hx_object.specs.declared.object.AnchorStatus.{AnchorStatus}
 use Rattle.hx_object.specs.declared.object.AnchorStatus.TheVariants as anchor
@@ -31,8 +33,8 @@ use Rattle.hx_object.specs.declared.object.Condition.TheVariants as condition
 use Rattle.hx_object.specs.declared.object.Id.{Id}
 use Rattle.hx_object.specs.declared.object.Object.{Object}
 use Rattle.hx_object.specs.declared.object.Payload.{Payload}
-use Rattle.hx_object.specs.declared.object.Payload.TheVariants.{Namespace as NamespaceOf, Hierarchy, Anchor}
-use Rattle.hx_model.specs.Serving.{IsServed, is_written}
+use Rattle.hx_object.specs.declared.object.Payload.TheVariants.{Namespace as NamespaceOf, Hierarchy, Anchor, Quota}
+use Rattle.hx_model.specs.Serving.{IsServed}
 use Rattle.hx_model.specs.Texts.{key_text, stored_entry, two_digits}
 use Rattle.hx_json.specs.Reading.{counted_member, is_this, items_in, metadata_in, pairs_in, payload_of, text_in, text_or}
 use Rattle.hx_json.specs.declared.fault.JsonFault.{JsonFault}
@@ -56,9 +58,9 @@ HasNoObject key version body = (x : Object) → IsRowOf key version body x → �
 
 -- ---- keys
 
--- of the kinds whose objects may be stored, the one whose number these digits are
+-- the kind whose number these digits are
 abbrev pub kind_in : List ℕ → Option Kind
-kind_in digits = find (λ kind. is_written kind && bytes_eq digits (two_digits (number_of kind))) all_kinds
+kind_in digits = find (λ kind. bytes_eq digits (two_digits (number_of kind))) all_kinds
 
 -- no byte is a slash
 abbrev pub HasNoSlash : List ℕ → Type 0
@@ -73,10 +75,9 @@ pub record IsCutAt (text front rest : List ℕ) : Type 0 where
 abbrev pub may_lie_in : Kind → List ℕ → Bool
 may_lie_in kind ns = not (is_in_cluster kind) || bytes_eq ns []
 
--- the key is that of an identity whose object may be stored
+-- the key is that of an identity, which has a namespace only where its kind lies in one
 pub record IsKeyOf (key : List ℕ) (id : Id) : Type 0 where
   pub is : key ≡ key_text id
-  pub written : is_written id.kind ≡ true
   pub home : is_in_cluster id.kind ≡ true → id.ns ≡ []
   pub slashless : HasNoSlash id.ns
 
@@ -91,10 +92,6 @@ said_object id version d = record {
   payload = payload_of id.kind d;
   version = version;
 }
-
--- a member of `status`
-abbrev pub in_status : List ℕ → Data → Option Data
-in_status name d = option_and_then (counted_member name) (counted_member (codes "status") d)
 
 -- the phase of a namespace that is on its way out
 abbrev pub says_terminating : Data → Bool
@@ -158,6 +155,11 @@ reported d payload = payload
 -- the same of an object
 abbrev pub with_status : Data → Object → Object
 with_status d x = record x { payload = reported d x.payload }
+
+-- a payload that a text tells: what is reported of a quota isn't written yet
+abbrev pub is_told : Payload → Bool
+is_told (Quota hard (usage ∷ status)) = false
+is_told payload = true
 
 -- the fault is that of an object, or want of memory
 abbrev pub IsUnsound : Object → JsonFault → Type 0

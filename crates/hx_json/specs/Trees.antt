@@ -6,6 +6,7 @@
 --     is_sorted j           the keys of each object ascend
 --     kept_of ms            the members that a plain kind keeps
 --     keeps_order j         they ascend
+--     has_sorted_limits j   the limits of a quota ascend
 --     has_sorted_metadata j labels and annotations ascend
 --     places_in ms          where the members go that each object has
 --     said v                the value of a tree in memory
@@ -23,7 +24,7 @@ use Rattle.serde_json.specs.Read.{number_of, max_depth}
 use Rattle.hx_object.specs.Placed.{joined}
 use Rattle.hx_object.specs.Texts.{bytes_cmp}
 use Rattle.hx_object.specs.declared.kind.Kind.{Kind}
-use Rattle.hx_object.specs.declared.kind.Kind.TheVariants.{Namespace, HncConfiguration, HierarchyConfiguration, SubnamespaceAnchor}
+use Rattle.hx_object.specs.declared.kind.Kind.TheVariants.{Namespace, HncConfiguration, HierarchyConfiguration, SubnamespaceAnchor, HierarchicalResourceQuota}
 use Rattle.hx_object.specs.declared.members.Places.{Places}
 use Rattle.hx_json.specs.declared.fault.JsonFault.{JsonFault}
 use Rattle.hx_json.specs.declared.fault.JsonFault.TheVariants.{NoMemory}
@@ -139,17 +140,22 @@ own_trees _ = json.no_members
 abbrev pub keeps_order : Json → Bool
 keeps_order j = are_sorted None (kept_of (own_trees j))
 
--- the same, of the kinds that keep members
+-- a member's keys ascend, where it is there
+abbrev pub is_sorted_in : List ℕ → Json → Bool
+is_sorted_in name j = unwrap_or (option_map is_sorted (find.get name j)) true
+
+-- the limits of a quota ascend
+abbrev pub has_sorted_limits : Json → Bool
+has_sorted_limits j = unwrap_or (option_map (is_sorted_in (codes "hard")) (find.get (codes "spec") j)) true
+
+-- what a kind keeps in order is in order
 abbrev pub keeps_order_for : Kind → Json → Bool
 keeps_order_for Namespace j = true
 keeps_order_for HncConfiguration j = true
 keeps_order_for HierarchyConfiguration j = true
 keeps_order_for SubnamespaceAnchor j = true
+keeps_order_for HierarchicalResourceQuota j = has_sorted_limits j
 keeps_order_for _ j = keeps_order j
-
--- a member's keys ascend, where it is there
-abbrev pub is_sorted_in : List ℕ → Json → Bool
-is_sorted_in name j = unwrap_or (option_map is_sorted (find.get name j)) true
 
 -- labels and annotations of metadata ascend
 abbrev pub has_sorted_pairs : Json → Bool

@@ -22,6 +22,7 @@ pub enum JsonFault {
     MissingMember(Text),
     /// The member has the wrong type. The whole body has the empty name.
     WrongType(Text),
+    /// The member, or a limit in it, is no quantity.
     BadQuantity(Text),
     /// `metadata.name` or `metadata.namespace` is given and isn't the path's.
     WrongPlace,

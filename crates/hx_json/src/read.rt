@@ -7,9 +7,9 @@ ghost use Rattle.hx_object.specs.Canonical.{IsCanonical};
 ghost use Rattle.hx_object.specs.Faults.{IsLegal};
 ghost use Rattle.hx_object.specs.Kinds.{is_in_cluster};
 ghost use Rattle.hx_model.specs.Serving.{IsGiven, has_type};
-ghost use Rattle.hx_json.specs.Inside.{IsFaultIn, Says, target_of};
+ghost use Rattle.hx_json.specs.Inside.{IsFaultIn, Says, has_quantities, target_of};
 ghost use Rattle.hx_json.specs.Reading.{member_fault, target_at};
-ghost use Rattle.hx_json.specs.ReadObject.{IsFaultOf, IsReadOf, is_read};
+ghost use Rattle.hx_json.specs.ReadObject.{IsFaultOf, IsReadOf};
 ghost use Rattle.hx_json.specs.Rows.{IsUnsound, said_object};
 ghost use Rattle.hx_json.specs.Trees.{IsOrdered, IsUnordered, is_ordered, said};
 
@@ -17,9 +17,13 @@ mod conditions;
 mod kept;
 mod member_checks;
 mod members;
+mod needs;
 mod number;
 mod parts;
+mod quantity;
+mod quota;
 mod reported;
+mod resource_checks;
 mod row;
 mod shapes;
 mod tree;
@@ -72,7 +76,6 @@ impl BodyReader {
         ns: &Text,
         name: Option<&Text>,
     ) -> Result<Read, JsonFault>
-        requires known { is_read kind ≡ true }
         requires home { is_in_cluster kind ≡ true → ns.now ≡ [] }
         ensures ok { IfOk result (λ r. IsReadOf (target_at kind ns.now (option_copied name.entry)) body.now r.object r.expected) }
         ensures fault { IfErr result (λ f. IsFaultOf (target_at kind ns.now (option_copied name.entry)) body.now f) }
@@ -95,7 +98,6 @@ fn read_text(
     text: &str,
     asked: Asked<'_>,
 ) -> Result<Read, JsonFault>
-    requires known { is_read asked.kind ≡ true }
     requires home { is_in_cluster asked.kind ≡ true → asked.ns.now ≡ [] }
     ensures ok { IfOk result (λ r. IsReadOf (target_of asked.entry) text.now r.object r.expected) }
     ensures fault { IfErr result (λ f. IsFaultOf (target_of asked.entry) text.now f) }
@@ -116,7 +118,6 @@ fn read_ordered(
     text: &str,
     asked: Asked<'_>,
 ) -> Result<Read, JsonFault>
-    requires known { is_read asked.kind ≡ true }
     requires home { is_in_cluster asked.kind ≡ true → asked.ns.now ≡ [] }
     requires ordered { IsOrdered asked.kind text.now }
     ensures ok { IfOk result (λ r. IsReadOf (target_of asked.entry) text.now r.object r.expected) }
@@ -137,7 +138,6 @@ fn read_as_is(
     text: &str,
     asked: Asked<'_>,
 ) -> Result<Option<Read>, JsonFault>
-    requires known { is_read asked.kind ≡ true }
     requires home { is_in_cluster asked.kind ≡ true → asked.ns.now ≡ [] }
     ensures ok { IfOk result (λ o. IfSome o (λ r. IsReadOf (target_of asked.entry) text.now r.object r.expected)) }
     ensures fault { IfErr result (λ f. IsFaultOf (target_of asked.entry) text.now f) }
@@ -162,7 +162,6 @@ fn tell(
     requires ordered { is_ordered asked.kind (value_view value.now) ≡ true }
     requires canonical { IsCanonical (said value.now) }
     requires shallow { depth (said value.now) ≤ max_depth }
-    requires known { is_read asked.kind ≡ true }
     requires home { is_in_cluster asked.kind ≡ true → asked.ns.now ≡ [] }
     ensures ok { IfOk result (λ r. Says (target_of asked.entry) (said value.now) r.object r.expected) }
     ensures fault { IfErr result (λ f. IsFaultIn (target_of asked.entry) (said value.now) f) }
@@ -184,7 +183,6 @@ fn object_in(
     requires ordered { is_ordered asked.kind (value_view value.now) ≡ true }
     requires canonical { IsCanonical (said value.now) }
     requires shallow { depth (said value.now) ≤ max_depth }
-    requires known { is_read asked.kind ≡ true }
     requires home { is_in_cluster asked.kind ≡ true → asked.ns.now ≡ [] }
     requires sound { member_fault (target_of asked) (said value.now) ≡ None }
     ensures ok { IfOk result (λ r. Says (target_of asked.entry) (said value.now) r.object r.expected) }
@@ -209,9 +207,9 @@ fn object_at(
     requires ordered { is_ordered id.kind (value_view value.now) ≡ true }
     requires canonical { IsCanonical (said value.now) }
     requires shallow { depth (said value.now) ≤ max_depth }
-    requires known { is_read id.kind ≡ true }
     requires home { is_in_cluster id.kind ≡ true → id.ns ≡ [] }
     requires typed { has_type id.kind (said value.now) ≡ true }
+    requires quantities { has_quantities id.kind (said value.now) ≡ true }
     ensures object { IfOk result (λ x. x ≡ said_object id version (said value.now)) }
     ensures legal { IfOk result (λ x. IsLegal x × IsGiven x) }
     ensures fault { IfErr result (IsUnsound (said_object id version (said value.now))) }

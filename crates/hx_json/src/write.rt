@@ -1,4 +1,5 @@
 // Objects, lists of objects, refusals and removals as compact JSON, which is appended to a text.
+mod details;
 mod list;
 mod object;
 mod payload;

@@ -4,9 +4,10 @@ ghost use Rattle.json.specs.Value.{value_view};
 ghost use Rattle.hx_model.specs.First.{first};
 ghost use Rattle.hx_json.specs.Inside.{fault_in, entry_fault};
 ghost use Rattle.hx_json.specs.Reading.{config_faults, first_of_items, head_faults, hierarchy_faults, is_elsewhere, is_other, is_this, kind_fault, member_fault, metadata_faults, name_fault, own_faults, target_at};
-ghost use Rattle.hx_json.specs.Trees.{has_sorted_metadata, has_sorted_pairs, said, said_items};
+ghost use Rattle.hx_json.specs.Trees.{has_sorted_metadata, has_sorted_pairs, keeps_order_for, said, said_items};
 
 use super::members::{get, in_metadata, in_spec, member, text_in};
+use super::resource_checks::{check_claim, check_pod, check_quota};
 use super::shapes::{MemberFault, Shape, check, check_in_spec, check_texts, is_object, required};
 use hx_object::{Kind, Text};
 use json::Value;
@@ -141,11 +142,15 @@ fn check_hierarchy(value: &Value<'_>) -> Result<(), MemberFault>
 
 /// The faults of the members that a kind has beside those of all kinds.
 fn check_own(value: &Value<'_>, kind: Kind) -> Result<(), MemberFault>
+    requires { keeps_order_for kind (value_view value.now) ≡ true }
     ensures { fault_in result ≡ first (own_faults kind (said value.now)) }
 {
     match kind {
         Kind::HncConfiguration => check_config(value),
         Kind::HierarchyConfiguration => check_hierarchy(value),
+        Kind::HierarchicalResourceQuota => check_quota(value),
+        Kind::Pod => check_pod(value),
+        Kind::PersistentVolumeClaim => check_claim(value),
         Kind::Secret => check(member(value, "type"), "type", Shape::Text),
         _ => Ok(()),
     }
@@ -179,7 +184,8 @@ pub fn check_members(
     ns: &Text,
     name: Option<&Text>,
 ) -> Result<(), MemberFault>
-    requires { has_sorted_metadata (value_view value.now) ≡ true }
+    requires metadata { has_sorted_metadata (value_view value.now) ≡ true }
+    requires order { keeps_order_for kind (value_view value.now) ≡ true }
     ensures { fault_in result ≡ member_fault (target_at kind ns.now (option_copied name.entry)) (said value.now) }
 {
     check_head(value, kind, name)?;

@@ -1,5 +1,5 @@
 // The members of values.
-ghost use Rattle.std.specs.Prelude.{◌≡◌, option_map};
+ghost use Rattle.std.specs.Prelude.{◌≡◌, Some, IfSome, option_map};
 ghost use Rattle.json.specs.Find as find;
 ghost use Rattle.json.specs.Value.{value_view};
 ghost use Rattle.serde_json.specs.Find.{get};
@@ -19,7 +19,8 @@ pub fn get<'v, 'a>(value: &'v Value<'a>, name: &str) -> Option<&'v Value<'a>>
 
 /// A member that is there and isn't null.
 pub fn member<'v, 'a>(value: &'v Value<'a>, name: &str) -> Option<&'v Value<'a>>
-    ensures { option_map (λ v. said v.now) result ≡ counted_member name.now (said value.now) }
+    ensures tree { IfSome result (λ v. Some (value_view v.now) ≡ find.get name.now (value_view value.now)) }
+    ensures said { option_map (λ v. said v.now) result ≡ counted_member name.now (said value.now) }
 {
     match get(value, name) {
         None | Some(Value::Null) => None,

@@ -56,14 +56,23 @@ fn negative(numeral: &Numeral<'_>) -> Option<Whole>
     }
 }
 
+/// The same, and zero where there is none.
+pub fn whole_or_zero(text: &str) -> Whole
+    ensures { num_of result ≡ whole_or_zero text.now }
+{
+    match whole_in(text) {
+        Some(whole) => whole,
+        None => Whole::Unsigned(0),
+    }
+}
+
 /// The number in decimal.
 pub fn push_number(out: &mut String, text: &str) -> Result<(), NoMemory>
     ensures { OnOk result (string_bytes out.new ≡ string_bytes out.old ++ number_text (whole_or_zero text.now)) }
 {
     let mut buffer = Buffer::new();
-    match whole_in(text) {
-        Some(Whole::Unsigned(n)) => push(out, buffer.format(n)),
-        Some(Whole::Negative(n)) => push(out, buffer.format(n)),
-        None => push(out, buffer.format(0u64)),
+    match whole_or_zero(text) {
+        Whole::Unsigned(n) => push(out, buffer.format(n)),
+        Whole::Negative(n) => push(out, buffer.format(n)),
     }
 }

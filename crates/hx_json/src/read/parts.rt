@@ -5,16 +5,17 @@ ghost use Rattle.serde_json.specs.Data.{depth};
 ghost use Rattle.serde_json.specs.Read.{max_depth};
 ghost use Rattle.hx_object.specs.declared.kind.Kind.TheVariants as Kind;
 ghost use Rattle.hx_object.specs.Canonical.{IsCanonical};
-ghost use Rattle.hx_object.specs.Faults.{is_token, need_of};
 ghost use Rattle.hx_model.specs.Serving.{has_type, is_text_or_none};
 ghost use Rattle.hx_json.specs.Reading.{counted_member, entries_of, entry_of, expected_of, id_of, in_spec, kept_members, metadata_in, pair_of, pairs_in, pairs_of, payload_of, plain_of, target_at, text_in, text_or, unless_empty_text, unless_null};
-ghost use Rattle.hx_json.specs.Trees.{are_sorted, is_sorted, is_sorted_in, is_sorted_inside, keeps_order_for, laid_members, laid_out, said, said_items};
+ghost use Rattle.hx_json.specs.Trees.{are_sorted, has_sorted_limits, is_sorted, is_sorted_in, is_sorted_inside, keeps_order_for, laid_members, laid_out, said, said_items};
 
 use super::kept::kept;
 use super::members::{get, in_metadata, in_spec, member, text_in, truth_in};
+use super::needs::need_of;
+use super::quota::limits_in;
 use super::shapes::mode_of;
 use super::version::version_in;
-use hx_object::{Id, Kind, List, Mode, ModeEntry, Need, NoMemory, Pairs, Payload, Text};
+use hx_object::{Id, Kind, List, Mode, ModeEntry, NoMemory, Pairs, Payload, Text};
 use json::Value;
 use std::alloc::Global;
 
@@ -136,9 +137,10 @@ pub fn payload_of(
         Kind::HncConfiguration => config(alloc, value),
         Kind::HierarchyConfiguration => hierarchy(alloc, value),
         Kind::SubnamespaceAnchor => Ok(Payload::Anchor { status: None }),
+        Kind::HierarchicalResourceQuota => quota(alloc, value),
         _ => Ok(Payload::Plain {
             members: kept(alloc, room, value)?,
-            need: need_of(alloc, value, kind),
+            need: need_of(alloc, value, kind)?,
         }),
     }
 }
@@ -185,35 +187,22 @@ fn hierarchy(alloc: Global, value: &Value<'_>) -> Result<Payload, NoMemory>
     })
 }
 
+fn quota(alloc: Global, value: &Value<'_>) -> Result<Payload, NoMemory>
+    requires { has_sorted_limits (value_view value.now) ≡ true }
+    ensures { IfOk result (λ p. p ≡ payload_of Kind.HierarchicalResourceQuota (said value.now)) }
+{
+    Ok(Payload::Quota {
+        hard: limits_in(alloc, value)?,
+        status: List::of(Vec::new(alloc)),
+    })
+}
+
 fn copied(alloc: Global, text: Option<&str>) -> Result<Option<Text>, NoMemory>
     ensures { IfOk result (λ o. o ≡ option_map (λ s. s.now) text.entry) }
 {
     match text {
         Some(text) => Ok(Some(Text::of(alloc, text)?)),
         None => Ok(None),
-    }
-}
-
-/// What a plain kind needs.
-#[tactic(auto, using(crate::proofs::Orders::type_kept))]
-fn need_of(alloc: Global, value: &Value<'_>, kind: Kind) -> Need
-    ensures { result ≡ need_of kind (kept_members (said value.now)) }
-{
-    Need {
-        finished: false,
-        token: kind == Kind::Secret && is_token(get(value, "type")),
-        storage: 0,
-        containers: List::of(Vec::new(alloc)),
-    }
-}
-
-/// Whether a Secret of this type is a service account's token.
-fn is_token(found: Option<&Value<'_>>) -> bool
-    ensures { result ≡ is_token (option_map (λ v. said v.now) found.entry) }
-{
-    match found {
-        Some(Value::String(text)) => *text == "kubernetes.io/service-account-token",
-        _ => false,
     }
 }
 

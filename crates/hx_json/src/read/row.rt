@@ -5,10 +5,11 @@ ghost use Rattle.hx_object.specs.Faults.{IsLegal};
 ghost use Rattle.hx_object.specs.Json.{object_text};
 ghost use Rattle.hx_object.specs.Kinds.{is_in_cluster};
 ghost use Rattle.hx_object.specs.declared.object.Id.{Id as IdOf};
-ghost use Rattle.hx_model.specs.Serving.{IsServed, is_written};
+ghost use Rattle.hx_model.specs.Serving.{IsServed};
 ghost use Rattle.hx_json.specs.Rows.{GivesId, GivesRow, GivesTextOf, HasNoObject, IsCutAt, IsKeyOf, IsOnlyOf, IsRowOf, kind_in, may_lie_in, row_fault};
 
 use super::parts::has_type;
+use super::quota::has_quantities;
 use super::reported::with_status;
 use super::tree::{is_ordered, read_tree};
 use super::{BodyReader, object_at};
@@ -85,7 +86,6 @@ fn read_body(
     id: Id,
     version: u64,
 ) -> Result<Object, RowFault>
-    requires written { is_written id.kind ≡ true }
     requires home { is_in_cluster id.kind ≡ true → id.ns ≡ [] }
     ensures served { IfOk result IsServed }
     ensures id { IfOk result (λ x. x.id ≡ id) }
@@ -100,6 +100,9 @@ fn read_body(
         return Err(RowFault::NoObject);
     }
     if !has_type(&value, id.kind) {
+        return Err(RowFault::NoObject);
+    }
+    if !has_quantities(&value, id.kind) {
         return Err(RowFault::NoObject);
     }
     match object_at(alloc, room, &value, id, version) {
@@ -159,7 +162,7 @@ fn cut_at_slash(text: &str) -> Option<(&str, &str)>
     text.split_once('/')
 }
 
-/// Of the kinds whose objects may be stored, the one whose number two digits are.
+/// The kind whose number two digits are.
 fn kind_in(digits: &str) -> Option<Kind>
     ensures { result ≡ kind_in digits.now }
 {
@@ -168,13 +171,16 @@ fn kind_in(digits: &str) -> Option<Kind>
         "02" => Some(Kind::HncConfiguration),
         "03" => Some(Kind::HierarchyConfiguration),
         "04" => Some(Kind::SubnamespaceAnchor),
+        "05" => Some(Kind::HierarchicalResourceQuota),
         "06" => Some(Kind::Role),
         "07" => Some(Kind::RoleBinding),
         "08" => Some(Kind::ConfigMap),
         "09" => Some(Kind::Secret),
         "10" => Some(Kind::NetworkPolicy),
         "11" => Some(Kind::LimitRange),
+        "12" => Some(Kind::Pod),
         "13" => Some(Kind::Service),
+        "14" => Some(Kind::PersistentVolumeClaim),
         _ => None,
     }
 }

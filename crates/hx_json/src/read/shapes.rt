@@ -17,6 +17,7 @@ pub enum MemberFault {
     WrongKind,
     Missing(&'static str),
     WrongType(&'static str),
+    BadQuantity(&'static str),
     WrongPlace,
 }
 
@@ -29,6 +30,7 @@ impl MemberFault {
             MemberFault::WrongKind => Ok(JsonFault::WrongKind),
             MemberFault::Missing(path) => Ok(JsonFault::MissingMember(Text::of(alloc, path)?)),
             MemberFault::WrongType(path) => Ok(JsonFault::WrongType(Text::of(alloc, path)?)),
+            MemberFault::BadQuantity(path) => Ok(JsonFault::BadQuantity(Text::of(alloc, path)?)),
             MemberFault::WrongPlace => Ok(JsonFault::WrongPlace),
         }
     }

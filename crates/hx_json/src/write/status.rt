@@ -1,10 +1,10 @@
 // Refusals and removals as compact JSON: each is a Kubernetes `Status`.
 ghost use Rattle.std.specs.Prelude.{◌≡◌, ◌++◌, string_bytes, OnOk};
 ghost use Rattle.hx_model.specs.Replies.{gone_text, status_text};
-ghost use Rattle.hx_json.specs.Pushed.{details_part, rule_text};
 
+use super::details::push_details;
 use super::text::{push, push_number, push_quoted, push_quoted_number, push_text};
-use hx_model::{Refusal, Rule};
+use hx_model::Refusal;
 use hx_object::NoMemory;
 
 /// Appends the text of a refusal: a Kubernetes `Status`.
@@ -20,24 +20,6 @@ pub fn push_status(out: &mut String, refusal: &Refusal) -> Result<(), NoMemory>
     push(out, r#","metadata":{},"reason":"#)?;
     push_quoted(out, refusal.reason().name())?;
     push(out, r#","status":"Failure"}"#)
-}
-
-/// Appends the rule that was broken, where one was.
-fn push_details(out: &mut String, refusal: &Refusal) -> Result<(), NoMemory>
-    ensures { OnOk result (string_bytes out.new ≡ string_bytes out.old ++ details_part refusal.now) }
-{
-    match refusal {
-        Refusal::Broken { rule } => push_rule(out, *rule),
-        _ => Ok(()),
-    }
-}
-
-fn push_rule(out: &mut String, rule: Rule) -> Result<(), NoMemory>
-    ensures { OnOk result (string_bytes out.new ≡ string_bytes out.old ++ rule_text rule) }
-{
-    push(out, r#","details":{"rule":"#)?;
-    push_quoted(out, rule.name())?;
-    push(out, "}")
 }
 
 /// Appends the text of a removal, with the version of its write: a Kubernetes `Status` of success.

@@ -12,7 +12,7 @@ pub returns-in-Ok-clause-legal : goal.returns-in-Ok-clause-legal
 returns-in-Ok-clause-legal c =
     let d = said c.args.value.now in
     let says : c.in-Ok.object ≡ said_object c.args.id c.args.version d = search rules in (
-      subst IsLegal (sym says) (legal c.args.id c.args.version d c.requires.known c.requires.home c.requires.canonical c.requires.shallow (subst (λ o. object_fault o ≡ None) says c.in-Ok.ensures.sound)),
+      subst IsLegal (sym says) (legal c.args.id c.args.version d c.requires.quantities c.requires.home c.requires.canonical c.requires.shallow (subst (λ o. object_fault o ≡ None) says c.in-Ok.ensures.sound)),
       record {
         labels = c.keep_their_types.ensures.labels;
         annotations = c.keep_their_types.ensures.annotations;

@@ -3,7 +3,7 @@ use Rattle.json.specs.Print.{quoted}
 use Rattle.hx_model.specs.Replies.{name_of_rule}
 use Rattle.hx_json.specs.Pushed.{rule_text}
 use Rattle.hx_json.proofs.Steps.{glue, last, seen}
-use Rattle.hx_json.proofs.write.status.push_rule.Goals as goal
+use Rattle.hx_json.proofs.write.details.push_rule.Goals as goal
 
 pub returns : goal.returns
 unfolding rule_text

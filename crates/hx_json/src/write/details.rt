@@ -1,0 +1,71 @@
+// What a refusal says beside its reason and its message.
+ghost use Rattle.std.specs.Prelude.{◌≡◌, ◌++◌, string_bytes, OnOk};
+ghost use Rattle.json.specs.Print.{quoted};
+ghost use Rattle.hx_quantity.specs.Quantities.{quantity_text};
+ghost use Rattle.hx_json.specs.Pushed.{details_part, over_text, rule_text};
+
+use super::text::{push, push_quoted, push_text};
+use hx_model::{Refusal, Rule};
+use hx_object::{NoMemory, Text};
+use hx_quantity::print;
+
+/// Appends the rule that was broken, where one was, and of a limit of a quota its names and its numbers.
+pub fn push_details(out: &mut String, refusal: &Refusal) -> Result<(), NoMemory>
+    ensures { OnOk result (string_bytes out.new ≡ string_bytes out.old ++ details_part refusal.now) }
+{
+    match refusal {
+        Refusal::Broken { rule } => push_rule(out, *rule),
+        Refusal::OverQuota {
+            namespace,
+            quota,
+            resource,
+            used,
+            asked,
+            hard,
+        } => push_over(out, namespace, quota, resource, *used, *asked, *hard),
+        _ => Ok(()),
+    }
+}
+
+fn push_rule(out: &mut String, rule: Rule) -> Result<(), NoMemory>
+    ensures { OnOk result (string_bytes out.new ≡ string_bytes out.old ++ rule_text rule) }
+{
+    push(out, r#","details":{"rule":"#)?;
+    push_quoted(out, rule.name())?;
+    push(out, "}")
+}
+
+/// Appends which limit of which quota is passed, and its numbers.
+fn push_over(
+    out: &mut String,
+    namespace: &Text,
+    quota: &Text,
+    resource: &Text,
+    used: u128,
+    asked: u128,
+    hard: u64,
+) -> Result<(), NoMemory>
+    ensures { OnOk result (string_bytes out.new ≡ string_bytes out.old ++ over_text namespace.now quota.now resource.now used asked hard) }
+{
+    push(out, r#","details":{"asked":"#)?;
+    push_amount(out, asked)?;
+    push(out, r#","hard":"#)?;
+    push_amount(out, u128::from(hard))?;
+    push(out, r#","namespace":"#)?;
+    push_text(out, namespace)?;
+    push(out, r#","quota":"#)?;
+    push_text(out, quota)?;
+    push(out, r#","resource":"#)?;
+    push_text(out, resource)?;
+    push(out, r#","rule":"Q1","used":"#)?;
+    push_amount(out, used)?;
+    push(out, "}")
+}
+
+/// Appends an amount in quotes.
+fn push_amount(out: &mut String, amount: u128) -> Result<(), NoMemory>
+    ensures { OnOk result (string_bytes out.new ≡ string_bytes out.old ++ quoted (quantity_text amount)) }
+{
+    let text = print(*out.allocator(), amount)?;
+    push_text(out, &text)
+}
