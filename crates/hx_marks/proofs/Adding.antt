@@ -2,6 +2,7 @@
 --     grown           an equal list
 --     grown_on        something behind what another call adds
 --     carried         the next item of a loop, and those of the rest
+--     kept_next       the next item of a loop that keeps some
 --     nothing         none
 --     none_sent       nothing is sent of a kind that isn't propagated
 --     no_kind_marks   where a kind is ignored and propagated as before, nothing is marked
@@ -41,6 +42,15 @@ carried f xs i x new mid start within is added before =
     ap (λ ys. ys ++ rest) added
     ∙ append_assoc mid (f x) rest
     ∙ ap (λ ys. mid ++ ys) (sym (at_drop_more (flat_map f) xs i x within ∙ ap (λ y. f y ++ rest) (sym is)))
+    ∙ before
+
+-- a loop keeps the next item, which passes a test
+pub kept_next : {A : Type 0} (t : A → Bool) (xs : List A) (i : ℕ) (x : A) (new mid start : List A) → i < length xs → x ≡ get_or xs i x → t x ≡ true → new ≡ mid ++ x ∷ [] → mid ++ filter t (drop i xs) ≡ start → new ++ filter t (drop (i + 1) xs) ≡ start
+kept_next t xs i x new mid start within is kept added before =
+    let rest = filter t (drop (i + 1) xs) in
+    ap (λ ys. ys ++ rest) added
+    ∙ append_assoc mid (x ∷ []) rest
+    ∙ ap (λ ys. mid ++ ys) (sym (at_drop_more (filter t) xs i x within ∙ ap (λ y. cond (t y) (y ∷ rest) rest) (sym is) ∙ ap (λ b. cond b (x ∷ rest) rest) kept))
     ∙ before
 
 pub nothing : {A : Type 0} (old xs : List A) → xs ≡ [] → old ≡ old ++ xs

@@ -50,3 +50,4 @@ pub mod Reading
 pub mod Adding
 pub mod Promising
 pub mod Regular
+pub mod Sending

@@ -75,7 +75,7 @@ one_write s write fits may = record {
 served_with_version : (x : Object) (version : ℕ) → IsServed x → IsServed (with_version x version)
 served_with_version x version served =
     let kept : IsKept (with_version x version) = record { labels = served.kept.labels; annotations = served.kept.annotations; payload = served.kept.payload; typed = served.kept.typed } in
-    record { legal = legal_with_version x version served.legal; written = served.written; kept = kept }
+    record { legal = legal_with_version x version served.legal; kept = kept }
 
 -- the namespace that an identity lies in is there
 home_there : (objects : Objects) (id : Id) → is_some (object_at objects (namespace_id id.ns)) ≡ true → has_home objects id ≡ true

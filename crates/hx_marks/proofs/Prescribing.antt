@@ -57,7 +57,7 @@ same_with_pair keeps key value (p ∷ ps) skips =
       | Greater ↦ λ e. ap (λ l. cond (keeps p) (p ∷ l) l) (same_with_pair keeps key value ps skips)
     ] refl
 
-kept_pass : {A : Type 0} (test : A → Bool) (xs : List A) → list_all test (filter test xs) ≡ true
+pub kept_pass : {A : Type 0} (test : A → Bool) (xs : List A) → list_all test (filter test xs) ≡ true
 kept_pass test [] = refl
 kept_pass test (x ∷ xs) = elim (test x) as (λ b. test x ≡ b → list_all test (cond b (x ∷ filter test xs) (filter test xs)) ≡ true) [
   | true ↦ λ e. and_from (test x) (list_all test (filter test xs)) e (kept_pass test xs)

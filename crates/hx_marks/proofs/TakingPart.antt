@@ -1,6 +1,7 @@
 -- Who takes part below a namespace, and at the top of a move.
 --     open_under       below a namespace one takes part exactly if all up to it are calm, and it takes part
 --     open_below_live, open_below_none     so below one that takes part, and below one that doesn't
+--     open_beside      one whose parent takes part does so exactly if it is calm
 --     opens_after      a namespace takes part once it has another parent
 use Rattle.std.specs.Prelude.{is_none}
 use Rattle.std.proofs.Common.{◌≡◌, ℕ, Bool, true, false, cond, not, ◌&&◌, ◌||◌, Option, Some, None, List, [], ◌∷◌, length, filter, refl, sym, ap, ◌∙◌, inl, inr, true≢false, if◌then◌else◌}
@@ -8,6 +9,7 @@ use Rattle.std.specs.List.{list_all}
 use Rattle.std.specs.Option.{option_map_or}
 use Rattle.std.specs.Str.{bytes_eq}
 use Rattle.std.proofs.lemmas.Bool.{cases_Bool, or_left}
+use Rattle.hx_model.specs.Cases.{same_name}
 use Rattle.hx_model.specs.First.{so, first}
 use Rattle.hx_model.specs.Forest.{Forest, is_in, names_of, is_there, is_live, is_excluded, parent_of, chain_of, in_chain, comes_back, own_halt_of, halt_of, tail_of, subtree_of, with_parent}
 use Rattle.hx_model.specs.Moves.{up_to, is_calm, is_open_above}
@@ -95,6 +97,33 @@ filter_inside t u v (x ∷ xs) same = elim (v x) as (λ b. v x ≡ b → filter 
 filter_none : (xs : List (List ℕ)) (t : List ℕ → Bool) → ((x : List ℕ) → t x ≡ false) → filter t xs ≡ []
 filter_none [] t out = refl
 filter_none (x ∷ xs) t out = ap (λ b. cond b (x ∷ filter t xs) (filter t xs)) (out x) ∙ filter_none xs t out
+
+-- below a parent that takes part, and where there is none, one does so exactly if it is calm
+open_child : (f : Forest) (m : List ℕ) → is_open_above f (parent_of f m) ≡ true → is_open f m ≡ is_calm f m
+open_child f m above = elim (cases_Bool (is_there f m)) [
+  | inr gone ↦
+      ap (λ b. b && (not (is_excluded f m) && is_none (halt_of f m))) (not_live f m gone)
+      ∙ sym (ap (λ b. b && not (is_excluded f m)) (not_live f m gone))
+  | inl there ↦ elim (cases_Bool (comes_back f m)) [
+    | inr apart ↦ open_top f m apart there ∙ ap (λ b. is_calm f m && b) above ∙ and_true (is_calm f m)
+    | inl back ↦ ring (parent_of f m) refl back above
+  ]
+]
+  where
+    ring : (o : Option (List ℕ)) → parent_of f m ≡ o → comes_back f m ≡ true → is_open_above f (parent_of f m) ≡ true → is_open f m ≡ is_calm f m
+    ring None is back above = absurd (true≢false (sym back ∙ ap (λ o. option_map_or (λ p. in_chain f p m) o false) is))
+    ring (Some p) is back above =
+        let has : in_chain f p m ≡ true = sym (ap (λ o. option_map_or (λ q. in_chain f q m) o false) is) ∙ back in
+        absurd (true≢false (sym above ∙ ap (is_open_above f) is ∙ cycle_shut f m p back has))
+
+same_name_exact : (a b : Option (List ℕ)) → same_name a b ≡ true → a ≡ b
+same_name_exact None None e = refl
+same_name_exact None (Some m) e = absurd (true≢false (sym e))
+same_name_exact (Some n) None e = absurd (true≢false (sym e))
+same_name_exact (Some n) (Some m) e = ap Some (is_same n m e)
+
+pub open_beside : (f : Forest) (m : List ℕ) (parent known : Option (List ℕ)) → parent ≡ parent_of f m → same_name parent known ≡ true → is_open_above f known ≡ true → is_calm f m ≡ is_open f m
+open_beside f m parent known is same takes = sym (open_child f m (ap (is_open_above f) (sym is ∙ same_name_exact parent known same) ∙ takes))
 
 -- below one that takes part: all that do whenever it does
 pub open_below_live : (f : Forest) (n : List ℕ) → is_open f n ≡ true → open_below f n ≡ live_below f n

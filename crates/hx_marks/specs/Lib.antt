@@ -3,3 +3,4 @@ pub mod Reports
 pub mod Law
 pub mod Before
 pub mod Halves
+pub mod Senders

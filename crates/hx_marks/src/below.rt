@@ -1,12 +1,13 @@
 // Which namespaces take part, and what lies below them.
-ghost use Rattle.std.specs.Prelude.{◌≡◌, ◌++◌, IfOk, OnOk, flat_map, option_copied};
+ghost use Rattle.std.specs.Prelude.{◌≡◌, ◌++◌, true, IfOk, OnOk, filter, flat_map, option_copied};
 ghost use Rattle.std.specs.List.{list_all};
 ghost use Rattle.hx_model.specs.Forest.{chain_of, subtree_of};
-ghost use Rattle.hx_model.specs.Moves.{up_to, chain_from, is_calm};
+ghost use Rattle.hx_model.specs.Moves.{up_to, chain_from, is_calm, is_open_above};
 ghost use Rattle.hx_model.specs.TreeLabels.{is_open};
 ghost use Rattle.hx_marks.specs.Law.{live_below, open_below};
 
 use hx_forest::{Ancestors, Forest};
+use hx_model::is_same_name;
 use hx_object::{NoMemory, Text};
 use std::alloc::Global;
 
@@ -14,10 +15,46 @@ use std::alloc::Global;
 pub(crate) fn open_below(alloc: Global, forest: &Forest, name: &Text) -> Result<Vec<Text>, NoMemory>
     ensures { IfOk result (λ names. names.items ≡ open_below forest.now.nodes name.now) }
 {
+    let mut names = Vec::new(alloc);
     if !forest.is_open(name) {
-        return Ok(Vec::new(alloc));
+        return Ok(names);
     }
-    live_below(forest, name)
+    let below = forest.below(name)?;
+    push_open(&mut names, forest, &below)?;
+    Ok(names)
+}
+
+/// Adds those of some namespaces that take part.
+fn push_open(list: &mut Vec<Text>, forest: &Forest, members: &[Text]) -> Result<(), NoMemory>
+    ensures { OnOk result (list.new.items ≡ list.old.items ++ filter (is_open forest.now.nodes) members.now) }
+{
+    let mut above = None;
+    let mut last = None;
+    for member in members {
+        if !is_open_beside(forest, above, last, member) {
+            continue;
+        }
+        list.push(member.clone()?)?;
+        above = forest.parent(member);
+        last = Some(member);
+    }
+    Ok(())
+}
+
+/// Whether a namespace takes part. Where its parent is one of two that do, nothing more is looked at above.
+fn is_open_beside(forest: &Forest, above: Option<&Text>, last: Option<&Text>, member: &Text) -> bool
+    requires above { is_open_above forest.now.nodes (option_copied above) ≡ true }
+    requires last { is_open_above forest.now.nodes (option_copied last) ≡ true }
+    ensures { result ≡ is_open forest.now.nodes member.now }
+{
+    let parent = forest.parent(member);
+    if is_same_name(parent, above) {
+        return forest.is_calm(member);
+    }
+    if is_same_name(parent, last) {
+        return forest.is_calm(member);
+    }
+    forest.is_open(member)
 }
 
 /// The namespaces of a subtree that take part whenever its top does.

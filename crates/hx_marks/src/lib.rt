@@ -12,6 +12,7 @@ mod moves;
 mod namespaces;
 mod objects;
 mod reports;
+mod senders;
 mod wants;
 mod writes;
 

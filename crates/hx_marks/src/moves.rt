@@ -4,11 +4,13 @@ ghost use Rattle.hx_model.specs.Cases.{same_name};
 ghost use Rattle.hx_model.specs.Forest.{chain_of, is_in};
 ghost use Rattle.hx_model.specs.Moves.{chain_from, is_open_above, up_to};
 ghost use Rattle.hx_model.specs.Tree.{forest_of};
+ghost use Rattle.hx_model.specs.TreeLabels.{is_open};
 ghost use Rattle.hx_marks.specs.Before.{comes_back_by, move_marks_to, opens_under, state_of};
 ghost use Rattle.hx_marks.specs.Law.{all_of, apart, in_one, moved_by, sent_marks};
 
 use crate::below::{chain_from, live_below, push_names};
-use crate::wants::{all_by_chains, all_of, all_sent, keys_for};
+use crate::senders::all_by_chains;
+use crate::wants::{all_of, all_sent, keys_for};
 use hx_forest::Forest;
 use hx_model::{Key, RunConfig, is_same_name};
 use hx_object::{NoMemory, Shared, Text};
@@ -73,6 +75,7 @@ fn closing_marks(
     keys: &mut Vec<Key>,
 ) -> Result<(), NoMemory>
     requires tree { forest.now.nodes ≡ forest_of (state_of store.now config.now) }
+    requires part { is_open forest.now.nodes name.now ≡ true }
     ensures { OnOk result (keys.new.items ≡ keys.old.items ++ moved_by (state_of store.now config.now) name.now (option_copied old.entry) (option_copied new.entry) true false) }
 {
     let members = live_below(forest, name)?;

@@ -9,7 +9,8 @@ ghost use Rattle.hx_marks.specs.Law.{all_of, below_created, created_marks, endin
 use crate::anchors::{asking_keys, push_purge, status_keys};
 use crate::below::{chain_from, open_below, push_below, push_names};
 use crate::reports::near_reports;
-use crate::wants::{all_by_chains, all_of};
+use crate::senders::all_by_chains;
+use crate::wants::all_of;
 use hx_forest::Forest;
 use hx_model::{Key, RunConfig};
 use hx_object::{NoMemory, Text};

@@ -1,5 +1,5 @@
 // What a namespace may want written.
-ghost use Rattle.std.specs.Prelude.{◌≡◌, ◌++◌, [], IfOk, OnOk, filter, flat_map, map, if◌then◌else◌};
+ghost use Rattle.std.specs.Prelude.{◌≡◌, ◌++◌, ◌∷◌, [], IfOk, OnOk, filter, flat_map, map, if◌then◌else◌};
 ghost use Rattle.hx_model.specs.Forest.{chain_of, tail_of};
 ghost use Rattle.hx_model.specs.Limits.{is_copy};
 ghost use Rattle.hx_model.specs.TreeLabels.{is_open};
@@ -63,63 +63,59 @@ pub(crate) fn all_of(
 ) -> Result<(), NoMemory>
     ensures { OnOk result (keys.new.items ≡ keys.old.items ++ all_of store.now.objects chain.now name.now) }
 {
+    all_under(store, tail_of(chain), name, keys)
+}
+
+/// The same, by what is above the namespace in its chain.
+pub(crate) fn all_under(
+    store: &Store,
+    above: &[Text],
+    name: &Text,
+    keys: &mut Vec<Key>,
+) -> Result<(), NoMemory>
+    ensures { OnOk result (keys.new.items ≡ keys.old.items ++ all_of store.now.objects (name.now ∷ above.now) name.now) }
+{
     keys.push(Key::Tree { ns: name.clone()? })?;
-    wants_of(store, chain, name, keys)?;
+    wants_of(store, above, name, keys)?;
     child_keys(store, name, keys)
 }
 
-/// Marks all that some namespaces may want, by their chains.
-pub(crate) fn all_by_chains(
-    store: &Store,
-    forest: &Forest,
-    members: &[Text],
-    keys: &mut Vec<Key>,
-) -> Result<(), NoMemory>
-    ensures { OnOk result (keys.new.items ≡ keys.old.items ++ flat_map (λ m. all_of store.now.objects (chain_of forest.now.nodes m) m) members.now) }
+/// Marks the copies that a namespace below these may want: of what is sent from above, and those that lie in it.
+fn wants_of(store: &Store, above: &[Text], name: &Text, keys: &mut Vec<Key>) -> Result<(), NoMemory>
+    ensures { OnOk result (keys.new.items ≡ keys.old.items ++ wants_of store.now.objects (name.now ∷ above.now) name.now) }
 {
-    for member in members {
-        let chain = forest.chain(member)?;
-        all_of(store, &chain, member, keys)?;
-    }
-    Ok(())
-}
-
-/// Marks the copies that a namespace of this chain may want: of what is sent from above, and those that lie in it.
-fn wants_of(store: &Store, chain: &[Text], name: &Text, keys: &mut Vec<Key>) -> Result<(), NoMemory>
-    ensures { OnOk result (keys.new.items ≡ keys.old.items ++ wants_of store.now.objects chain.now name.now) }
-{
-    wants_of_kinds(store, chain, name, &COPIED_KINDS, keys)
+    wants_of_kinds(store, above, name, &COPIED_KINDS, keys)
 }
 
 fn wants_of_kinds(
     store: &Store,
-    chain: &[Text],
+    above: &[Text],
     name: &Text,
     kinds: &[Kind],
     keys: &mut Vec<Key>,
 ) -> Result<(), NoMemory>
-    ensures { OnOk result (keys.new.items ≡ keys.old.items ++ flat_map (wants_of_kind store.now.objects chain.now name.now) kinds.now) }
+    ensures { OnOk result (keys.new.items ≡ keys.old.items ++ flat_map (wants_of_kind store.now.objects (name.now ∷ above.now) name.now) kinds.now) }
 {
     for kind in kinds {
-        wants_of_kind(store, chain, name, *kind, keys)?;
+        wants_of_kind(store, above, name, *kind, keys)?;
     }
     Ok(())
 }
 
 fn wants_of_kind(
     store: &Store,
-    chain: &[Text],
+    above: &[Text],
     name: &Text,
     kind: Kind,
     keys: &mut Vec<Key>,
 ) -> Result<(), NoMemory>
-    ensures { OnOk result (keys.new.items ≡ keys.old.items ++ wants_of_kind store.now.objects chain.now name.now kind) }
+    ensures { OnOk result (keys.new.items ≡ keys.old.items ++ wants_of_kind store.now.objects (name.now ∷ above.now) name.now kind) }
 {
     if is_ignored(mode_at(store, kind)) {
         return Ok(());
     }
     let mut objects = Vec::new(store.allocator());
-    sent_from(store, kind, tail_of(chain), &mut objects)?;
+    sent_from(store, kind, above, &mut objects)?;
     copies_in(store, kind, name, &mut objects)?;
     keys_for(name, &objects, keys)
 }

@@ -6,7 +6,11 @@ use Rattle.hx_model.specs.declared.key.Key.{Key}
 use Rattle.hx_model.specs.declared.key.Key.TheVariants as key
 use Rattle.hx_marks.specs.Law.{all_of, open_below, status_keys}
 use Rattle.hx_marks.proofs.Adding.{grown_on}
+use Rattle.hx_marks.proofs.Sending.{all_open}
 use Rattle.hx_marks.proofs.namespaces.ending_marks.Goals as goal
+
+pub all_by_chains-requires : goal.all_by_chains-requires
+all_by_chains-requires c = record { part = all_open c.args.forest.now.nodes c.args.name.now c.deref.result.now (c.deref.ensures.value ∙ c.in_ok-members.ensures) }
 
 pub returns : goal.returns
 returns c =

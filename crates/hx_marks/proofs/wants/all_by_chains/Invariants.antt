@@ -1,9 +1,0 @@
-use Rattle.std.proofs.Common.{◌≡◌, ◌++◌, drop}
-use Rattle.std.specs.Prelude.{flat_map}
-use Rattle.hx_model.specs.Forest.{chain_of}
-use Rattle.hx_marks.specs.Law.{all_of}
-use Rattle.hx_marks.proofs.wants.all_by_chains.Given as goal
-
--- the marks so far, and those of the rest
-abbrev pub invariant-loop-member : goal.invariant-loop-member
-invariant-loop-member l = l.keys.items ++ flat_map (λ m. all_of l.store.objects (chain_of l.forest.nodes m) m) (drop l.member-index l.members) ≡ l.initial.keys.items ++ flat_map (λ m. all_of l.store.objects (chain_of l.forest.nodes m) m) l.members
