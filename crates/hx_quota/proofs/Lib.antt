@@ -1,0 +1,15 @@
+pub mod Entries
+pub mod Sums
+pub mod Trees
+pub mod Fitting
+pub mod Deltas
+pub mod Examples
+pub mod Attaching
+pub mod Cutting
+pub mod Usage
+pub mod Moved
+pub mod Placed
+pub mod Adjusting
+pub mod Keeping
+pub mod Shifted
+pub mod Taken

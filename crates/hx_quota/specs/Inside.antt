@@ -1,0 +1,116 @@
+-- Places by the names of their namespaces, as they are kept.
+--     entries_from          the entries in order, of entries in any order
+--     entries_in, ordered   the entries of places, and those in order
+--     entries_of            those of a ledger
+--     place_at              the place of a name
+--     OwnFit                what a namespace has by itself fits
+--     MayShift              deltas may be made one after the other
+--     adjusted              a sum of which something is taken and to which something is added
+--     MayAdjust             it may be
+--     IsAdjusted            a place has sums that are adjusted, where a test holds
+--     HasShifted            the own sums of a place are shifted
+--     SameSums              a place was there with the same sums
+--     AreClosed             all parents are there
+--     IsFree                a namespace isn't in the chain of a parent
+--     is_plain_move         a move neither parts nor makes a cycle
+--     HasUsage              the sums of places are those of subtrees
+--     IsSummed, IsKept      the sums of places are those of their subtrees, unless that is lost
+use Rattle.std.specs.Prelude.{◌≡◌, ℕ, ◌+◌, ◌-◌, ◌<◌, ◌≤◌, ◌^◌, Bool, true, false, not, ◌&&◌, List, [], ◌∷◌, map, Option, Some, None, slice_index, slice_set, if◌then◌else◌}
+use Rattle.std.specs.Map.{lookup}
+use Rattle.std.specs.Option.{option_map_or}
+use Rattle.std.specs.Str.{bytes_eq}
+use Rattle.hx_model.specs.Forest.{Forest, is_there, parent_of, in_chain}
+use Rattle.hx_model.specs.declared.resource.Resource.{Resource}
+use Rattle.hx_quota.specs.declared.entry.Entry.{Entry}
+use Rattle.hx_quota.specs.declared.entry.Delta.{Delta}
+use Rattle.hx_quota.specs.declared.places.Place.{Place}
+use Rattle.hx_quota.specs.declared.places.Change.{Change}
+use Rattle.hx_quota.specs.declared.ledger.Ledger.{Ledger}
+use Rattle.hx_quota.specs.Counters.{Entries, tree_of, with_entry, place_of, used_in, shifted}
+
+-- the entries in order: of two with one name the first one counts
+abbrev pub entries_from : List (List ℕ × Entry) → Entries
+entries_from [] = []
+entries_from (e ∷ es) = with_entry e.0 e.1 (entries_from es)
+
+abbrev pub Places : Type 0
+Places = List (List ℕ × Place)
+
+-- the entries of places
+abbrev pub entries_in : Places → List (List ℕ × Entry)
+entries_in places = map (λ p. (p.0, p.1.entry)) places
+
+-- those in order
+abbrev pub ordered : Places → Entries
+ordered places = entries_from (entries_in places)
+
+-- those of a ledger
+abbrev pub entries_of : Ledger → Entries
+entries_of ledger = ordered ledger.places.entries
+
+-- the place of a name
+abbrev pub place_at : Places → List ℕ → Option Place
+place_at places n = lookup (bytes_eq n) places
+
+-- what a namespace has by itself fits
+abbrev pub OwnFit : List ℕ → Type 0
+OwnFit own = (r : Resource) → slice_index own (place_of r) < 2 ^ 128
+
+-- deltas may be made one after the other: each finds what it replaces, and leaves what fits
+abbrev pub MayShift : List Delta → List ℕ → Type 0
+MayShift [] own = Unit {0}
+MayShift (d ∷ deltas) own =
+    (d.old ≤ slice_index own (place_of d.resource))
+    × (slice_index own (place_of d.resource) - d.old + d.new < 2 ^ 128)
+    × MayShift deltas (slice_set own (place_of d.resource) (slice_index own (place_of d.resource) - d.old + d.new))
+
+-- ---- sums of subtrees
+
+-- a sum of which something is taken and to which something is added
+abbrev pub adjusted : List ℕ → List ℕ → List ℕ → ℕ → ℕ
+adjusted take give sums k = slice_index sums k - slice_index take k + slice_index give k
+
+-- there is what is taken, and room for what is added
+abbrev pub MayAdjust : List ℕ → List ℕ → List ℕ → Type 0
+MayAdjust take give sums = (k : ℕ) → k < 15 → (slice_index take k ≤ slice_index sums k) × (adjusted take give sums k < 2 ^ 128)
+
+-- a place has the same entry, and adjusted sums where the test holds
+abbrev pub IsAdjusted : List ℕ → List ℕ → Bool → Option Place → Option Place → Type 0
+IsAdjusted take give test None new = new ≡ None
+IsAdjusted take give test (Some p) new =
+    (q : Place) × (new ≡ Some q) × (q.entry ≡ p.entry) × ((k : ℕ) → k < 15 → slice_index q.sums k ≡ (if test then adjusted take give p.sums k else slice_index p.sums k))
+
+-- the own sums of the place of n are shifted, and the change says from what to what
+abbrev pub HasShifted : Places → Places → List ℕ → List Delta → Change → Type 0
+HasShifted old new n deltas change =
+    (p : Place) × (place_at old n ≡ Some p) × (change.take ≡ p.entry.own) × (change.give ≡ shifted deltas p.entry.own)
+    × ((q : List ℕ) → place_at new q ≡ (if bytes_eq n q then Some (record p { entry = record (p.entry) { own = change.give } }) else place_at old q))
+
+-- a place was there with the same sums
+abbrev pub SameSums : Option Place → Place → Type 0
+SameSums old p = (q : Place) × (old ≡ Some q) × (p.sums ≡ q.sums)
+
+-- all parents are there
+abbrev pub AreClosed : Entries → Type 0
+AreClosed es = (m q : List ℕ) → parent_of (tree_of es) m ≡ Some q → is_there (tree_of es) q ≡ true
+
+-- n isn't in the chain of a parent
+abbrev pub IsFree : Forest → List ℕ → Option (List ℕ) → Type 0
+IsFree f n parent = option_map_or (λ p. in_chain f p n) parent false ≡ false
+
+-- a namespace is in the chain neither of its parent nor of the one that it gets
+abbrev pub is_plain_move : Entries → List ℕ → Option (List ℕ) → Bool
+is_plain_move es n parent = not (option_map_or (λ p. in_chain (tree_of es) p n) (parent_of (tree_of es) n) false) && not (option_map_or (λ p. in_chain (tree_of es) p n) parent false)
+
+-- the sums of places are those of subtrees
+abbrev pub HasUsage : Places → Entries → Type 0
+HasUsage places es = (n : List ℕ) (p : Place) → place_at places n ≡ Some p → (r : Resource) → slice_index p.sums (place_of r) ≡ used_in es n r
+
+-- the sums of each place are those of its subtree, and all parents are there
+pub record IsSummed (at : List ℕ → Option Place) (es : Entries) : Type 0 where
+  pub sums : (n : List ℕ) (p : Place) → at n ≡ Some p → (r : Resource) → slice_index p.sums (place_of r) ≡ used_in es n r
+  pub closed : AreClosed es
+
+-- that, unless it is lost
+abbrev pub IsKept : Ledger → Type 0
+IsKept ledger = ledger.summed ≡ true → IsSummed (place_at ledger.places.entries) (entries_of ledger)

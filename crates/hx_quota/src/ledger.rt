@@ -1,0 +1,121 @@
+// Namespaces, what they have by themselves, and with all below them.
+ghost use Rattle.std.specs.Prelude.{◌≡◌, ◌+◌, ◌≤◌, true, None, is_some, [], ◌∷◌, OnOk};
+ghost use Rattle.indexmap.specs.IndexMap.{spare};
+ghost use Rattle.hx_model.specs.Forest.{subtree_of};
+ghost use Rattle.hx_model.specs.declared.resource.Resource.{Resource};
+ghost use Rattle.hx_quota.specs.Counters.{entry_of, tree_of, own_in, with_entry, new_entry, without_entry, with_parent, with_shifted, sums_of, IsChain, IsBehind, IsAbove, AreApart, HaveOld, AllFit};
+ghost use Rattle.hx_quota.specs.Inside.{entries_of, IsKept};
+
+use crate::entry::{Delta, Entry};
+use crate::places::{Place, PlaceMap, adjust_along, set_parent, shift_own, take_over};
+use hx_model::Resource;
+use hx_object::{NoMemory, Text};
+use indexmap::IndexMap;
+use std::alloc::Global;
+use std::hash::RandomState;
+
+/// Places by the names of their namespaces, in no order.
+#[derive(Drop)]
+pub(crate) struct Ledger {
+    pub(crate) places: PlaceMap,
+    /// The sums of the places are those of their subtrees. This is lost where a move makes or parts a cycle.
+    pub(crate) summed: bool,
+}
+
+impl Ledger {
+    /// No namespaces. It takes no memory.
+    pub(crate) fn new(alloc: Global, keys: RandomState) -> Ledger
+        ensures places { result.places.entries ≡ [] }
+        ensures kept { IsKept result }
+    {
+        Ledger {
+            places: IndexMap::with_hasher(alloc, keys),
+            summed: true,
+        }
+    }
+
+    /// Makes room for `more`. Where no memory is left, the room stays.
+    pub(crate) fn reserve(&mut self, more: usize) -> Result<(), NoMemory>
+        ensures entries { entries_of self.new ≡ entries_of self.old }
+        ensures room { OnOk result (more ≤ spare self.new.places) }
+        ensures stays { spare self.old.places ≤ spare self.new.places }
+        ensures kept { IsKept self.old → IsKept self.new }
+    {
+        Ok(self.places.reserve(more)?)
+    }
+
+    /// Adds a namespace without a parent that has nothing. It takes no memory.
+    pub(crate) fn add(&mut self, ns: Text)
+        requires room { 1 ≤ spare self.old.places }
+        requires absent { entry_of (entries_of self.old) ns ≡ None }
+        ensures entries { entries_of self.new ≡ with_entry ns new_entry (entries_of self.old) }
+        ensures room { spare self.old.places ≤ spare self.new.places + 1 }
+        ensures kept { IsKept self.old → IsKept self.new }
+    {
+        let place = Place {
+            entry: Entry::empty(),
+            sums: [0; 15],
+        };
+        let _none = self.places.insert(ns, place).unwrap();
+    }
+
+    /// Takes out a namespace that has nothing, and is in no other chain.
+    pub(crate) fn remove(&mut self, ns: &Text)
+        requires there { is_some (entry_of (entries_of self.old) ns.now) ≡ true }
+        requires nothing { (r : Resource) → own_in (entries_of self.old) ns.now r ≡ 0 }
+        requires alone { subtree_of (tree_of (entries_of self.old)) ns.now ≡ ns.now ∷ [] }
+        ensures entries { entries_of self.new ≡ without_entry ns.now (entries_of self.old) }
+        ensures room { spare self.old.places ≤ spare self.new.places }
+        ensures kept { IsKept self.old → IsKept self.new }
+    {
+        let _place = self.places.swap_remove(ns);
+    }
+
+    /// Shifts the own sums of the first of a chain, and with them the sums of all its members.
+    pub(crate) fn shift(&mut self, chain: &[Text], deltas: &[Delta])
+        requires chain { IsChain (entries_of self.old) chain.now }
+        requires apart { AreApart deltas.now }
+        requires old { HaveOld deltas.now (sums_of (entries_of self.old) chain.now) }
+        requires fits { AllFit (with_shifted chain.now deltas.now (entries_of self.old)) }
+        requires kept { IsKept self.old }
+        ensures entries { entries_of self.new ≡ with_shifted chain.now deltas.now (entries_of self.old) }
+        ensures room { spare self.old.places ≤ spare self.new.places }
+        ensures kept { IsKept self.new }
+    {
+        let Some(ns) = chain.first() else {
+            return;
+        };
+        let Some(change) = shift_own(&mut self.places, ns, deltas) else {
+            return;
+        };
+        if self.summed {
+            adjust_along(&mut self.places, chain, &change);
+        }
+    }
+
+    /// Gives a namespace another parent, or none, and takes what it has with all below it from the namespaces that were above it to those that are.
+    pub(crate) fn move_subtree(
+        &mut self,
+        moved: &Text,
+        parent: Option<Text>,
+        from: &[Text],
+        to: &[Text],
+    )
+        requires there { is_some (entry_of (entries_of self.old) moved.now) ≡ true }
+        requires from { IsBehind (entries_of self.old) moved.now from.now }
+        requires to { IsAbove (entries_of self.old) parent to.now }
+        requires fits { AllFit (entries_of self.old) }
+        requires kept { IsKept self.old }
+        ensures entries { entries_of self.new ≡ with_parent moved.now parent (entries_of self.old) }
+        ensures room { spare self.old.places ≤ spare self.new.places }
+        ensures kept { IsKept self.new }
+    {
+        if self.is_plain_move(moved, parent.as_ref()) {
+            take_over(&mut self.places, moved, parent.as_ref(), from, to);
+            set_parent(&mut self.places, moved, parent);
+        } else {
+            self.summed = false;
+            set_parent(&mut self.places, moved, parent);
+        }
+    }
+}

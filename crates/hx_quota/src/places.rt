@@ -1,0 +1,117 @@
+// Sums over subtrees, which are adjusted along chains.
+ghost use Rattle.std.specs.Prelude.{◌≡◌, ℕ, ◌<◌, ◌≤◌, true, false, Some, None, is_some, List, MatchOption, slice_index, option_copied};
+ghost use Rattle.std.specs.List.{IsDistinct};
+ghost use Rattle.std.specs.Str.{bytes_eq};
+ghost use Rattle.indexmap.specs.IndexMap.{spare};
+ghost use Rattle.hx_model.specs.Forest.{is_in, parent_of};
+ghost use Rattle.hx_quota.specs.Counters.{entry_of, tree_of, shifted, with_parent, IsBehind, IsAbove, AreApart, HaveOld, AllFit};
+ghost use Rattle.hx_quota.specs.Inside.{place_at, ordered, adjusted, OwnFit, MayAdjust, IsAdjusted, HasShifted, SameSums, HasUsage, IsFree, IsSummed};
+
+use crate::entry::{Delta, Entry};
+use crate::shifting::shift;
+use hx_object::Text;
+use indexmap::IndexMap;
+use std::hash::RandomState;
+
+/// An entry, and what its namespace has with all below it, in the order of the resources.
+#[derive(Drop)]
+pub(crate) struct Place {
+    pub(crate) entry: Entry,
+    pub(crate) sums: [u128; 15],
+}
+
+/// What is taken off sums, and what is added to them.
+#[derive(Clone, Copy)]
+pub(crate) struct Change {
+    pub(crate) take: [u128; 15],
+    pub(crate) give: [u128; 15],
+}
+
+/// Places by the names of their namespaces.
+pub(crate) type PlaceMap = IndexMap<Text, Place, RandomState>;
+
+/// Changes the sums of namespaces.
+pub(crate) fn adjust_along(places: &mut PlaceMap, names: &[Text], change: &Change)
+    requires distinct { IsDistinct bytes_eq names.now }
+    requires may { (q : List ℕ) (p : Place) → is_in q names.now ≡ true → place_at places.old.entries q ≡ Some p → MayAdjust change.now.take change.now.give p.sums }
+    ensures places { (q : List ℕ) → IsAdjusted change.now.take change.now.give (is_in q names.now) (place_at places.old.entries q) (place_at places.new.entries q) }
+    ensures room { spare places.old ≤ spare places.new }
+{
+    for name in names {
+        if let Some(place) = places.get_mut(name) {
+            adjust(&mut place.sums, change);
+        }
+    }
+}
+
+/// Changes sums.
+fn adjust(sums: &mut [u128; 15], change: &Change)
+    requires { MayAdjust change.now.take change.now.give sums.old }
+    ensures { (k : ℕ) → k < 15 → slice_index sums.new k ≡ adjusted change.now.take change.now.give sums.old k }
+{
+    for at in 0..15 {
+        sums[at] = sums[at] - change.take[at] + change.give[at];
+    }
+}
+
+/// Shifts own sums, and gives back what they were and what they are. None where the namespace isn't there.
+pub(crate) fn shift_own(places: &mut PlaceMap, ns: &Text, deltas: &[Delta]) -> Option<Change>
+    requires apart { AreApart deltas.now }
+    requires old { (p : Place) → place_at places.old.entries ns.now ≡ Some p → HaveOld deltas.now p.entry.own }
+    requires fits { (p : Place) → place_at places.old.entries ns.now ≡ Some p → OwnFit (shifted deltas.now p.entry.own) }
+    ensures absent { MatchOption result (place_at places.old.entries ns.now ≡ None) (λ change. HasShifted places.old.entries places.new.entries ns.now deltas.now change) }
+    ensures room { spare places.old ≤ spare places.new }
+{
+    let place = places.get_mut(ns)?;
+    let take = place.entry.own;
+    shift(&mut place.entry.own, deltas);
+    let give = place.entry.own;
+    Some(Change { take, give })
+}
+
+/// Gives a namespace another parent, or none.
+pub(crate) fn set_parent(places: &mut PlaceMap, ns: &Text, parent: Option<Text>)
+    requires { is_some (entry_of (ordered places.old.entries) ns.now) ≡ true }
+    ensures entries { ordered places.new.entries ≡ with_parent ns.now parent (ordered places.old.entries) }
+    ensures sums { (q : List ℕ) (p : Place) → place_at places.new.entries q ≡ Some p → SameSums (place_at places.old.entries q) p }
+    ensures room { spare places.old ≤ spare places.new }
+{
+    if let Some(place) = places.get_mut(ns) {
+        place.entry.parent = parent;
+    }
+}
+
+/// Takes the sums of a namespace that gets another parent from the namespaces above it to those above that one.
+pub(crate) fn take_over(
+    places: &mut PlaceMap,
+    moved: &Text,
+    parent: Option<&Text>,
+    from: &[Text],
+    to: &[Text],
+)
+    requires there { is_some (entry_of (ordered places.old.entries) moved.now) ≡ true }
+    requires from { IsBehind (ordered places.old.entries) moved.now from.now }
+    requires to { IsAbove (ordered places.old.entries) (option_copied parent) to.now }
+    requires apart { IsFree (tree_of (ordered places.old.entries)) moved.now (parent_of (tree_of (ordered places.old.entries)) moved.now) }
+    requires open { IsFree (tree_of (ordered places.old.entries)) moved.now (option_copied parent) }
+    requires fits { AllFit (ordered places.old.entries) }
+    requires summed { IsSummed (place_at places.old.entries) (ordered places.old.entries) }
+    ensures entries { ordered places.new.entries ≡ ordered places.old.entries }
+    ensures sums { HasUsage places.new.entries (with_parent moved.now (option_copied parent.entry) (ordered places.old.entries)) }
+    ensures room { spare places.old ≤ spare places.new }
+{
+    let Some(place) = places.get(moved) else {
+        return;
+    };
+    let sums = place.sums;
+    let off = Change {
+        take: sums,
+        give: [0; 15],
+    };
+    let on = Change {
+        take: [0; 15],
+        give: sums,
+    };
+    adjust_along(places, from, &off);
+    adjust_along(places, to, &on);
+}

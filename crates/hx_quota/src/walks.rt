@@ -1,0 +1,101 @@
+// Walks up the parents, and what namespaces have with all below them.
+ghost use Rattle.std.specs.Prelude.{◌≡◌, ◌&&◌, false, Some, length, option_copied};
+ghost use Rattle.std.specs.Option.{option_map_or};
+ghost use Rattle.hx_model.specs.Forest.{in_chain, parent_of};
+ghost use Rattle.hx_quota.specs.Counters.{tree_of, used_in, AllFit};
+ghost use Rattle.hx_quota.specs.Inside.{entries_of, IsKept, is_plain_move};
+
+use crate::entry::place_of;
+use crate::ledger::Ledger;
+use hx_model::Resource;
+use hx_object::Text;
+
+impl Ledger {
+    /// How many there are.
+    fn len(&self) -> usize
+        ensures { result ≡ length (tree_of (entries_of self.now)) }
+    {
+        self.places.len()
+    }
+
+    /// What a namespace has of a resource with all below it.
+    pub(crate) fn used(&self, ns: &Text, resource: Resource) -> u128
+        requires fits { AllFit (entries_of self.now) }
+        requires kept { IsKept self.now }
+        ensures { result ≡ used_in (entries_of self.now) ns.now resource }
+    {
+        if !self.summed {
+            return self.used_by_walks(ns, resource);
+        }
+        match self.places.get(ns) {
+            Some(place) => place.sums[place_of(resource)],
+            None => 0,
+        }
+    }
+
+    /// The same, by a walk up from each namespace.
+    fn used_by_walks(&self, ns: &Text, resource: Resource) -> u128
+        requires { AllFit (entries_of self.now) }
+        ensures { result ≡ used_in (entries_of self.now) ns.now resource }
+    {
+        let at = place_of(resource);
+        let mut sum = 0;
+        for (name, place) in self.places.iter() {
+            if self.in_chain(name, ns) {
+                sum += place.entry.own[at];
+            }
+        }
+        sum
+    }
+
+    /// Whether the sums of places are those of subtrees, and a move neither parts nor makes a cycle.
+    pub(crate) fn is_plain_move(&self, moved: &Text, parent: Option<&Text>) -> bool
+        ensures { result ≡ (self.now.summed && is_plain_move (entries_of self.now) moved.now (option_copied parent.entry)) }
+    {
+        let is_in_cycle = self.is_in_cycle(moved);
+        let makes_cycle = self.is_above(parent, moved);
+        self.summed && (!is_in_cycle && !makes_cycle)
+    }
+
+    /// Whether the parent of a namespace has it in its chain.
+    fn is_in_cycle(&self, ns: &Text) -> bool
+        ensures { result ≡ option_map_or (λ p. in_chain (tree_of (entries_of self.now)) p ns.now) (parent_of (tree_of (entries_of self.now)) ns.now) false }
+    {
+        match self.places.get(ns) {
+            Some(place) => self.is_above(place.entry.parent.as_ref(), ns),
+            None => false,
+        }
+    }
+
+    /// Whether a name that may be none has a namespace in its chain.
+    fn is_above(&self, name: Option<&Text>, above: &Text) -> bool
+        ensures { result ≡ option_map_or (λ p. in_chain (tree_of (entries_of self.now)) p above.now) (option_copied name.entry) false }
+    {
+        match name {
+            Some(name) => self.in_chain(name, above),
+            None => false,
+        }
+    }
+
+    /// Whether a namespace is in the chain of another, which begins with that one itself.
+    fn in_chain(&self, name: &Text, above: &Text) -> bool
+        ensures { result ≡ in_chain (tree_of (entries_of self.now)) name.now above.now }
+    {
+        let mut next = Some(name);
+        let mut left = self.len();
+        while left > 0 {
+            left -= 1;
+            let Some(member) = next else {
+                return false;
+            };
+            let Some(place) = self.places.get(member) else {
+                return false;
+            };
+            if member.as_str() == above.as_str() {
+                return true;
+            }
+            next = place.entry.parent.as_ref();
+        }
+        false
+    }
+}
