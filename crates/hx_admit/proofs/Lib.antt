@@ -18,3 +18,4 @@ pub mod Conflicting
 pub mod ConflictingModes
 pub mod Moved
 pub mod MovedCase
+pub mod Spending

@@ -1,7 +1,9 @@
 -- What stands against a POST, a PUT and a DELETE.
 --     grown                            the limits of growth, by the numbers
---     create_ruled, create_counted, create_rest      a POST whose place is free: a rule or a limit of names and objects refuses it, or what is left
---     replace_first, replace_rest      a PUT of another version or against a rule, and what is left
+--     create_ruled, create_first, create_over, create_rest      a POST: its place, a rule or a quota stands against it, or what is left
+--     create_counted, create_grown     a limit of names and objects does, or what is left
+--     replace_first, replace_over, replace_rest      a PUT of another version or against a rule, one against a quota, and what is left
+--     quotas_found                     its quotas, by the object that is there
 --     replace_two                      its version and its rules, by what was checked
 --     replace_unchanged, replace_grown     one that changes nothing, and one that does
 --     bytes_stay                       namespaces that begin to leave and objects that go add no bytes
@@ -14,9 +16,10 @@ use Rattle.std.proofs.lemmas.Bool.{ltb-true, lt-ltb}
 use Rattle.hx_object.specs.Sizes.{size_of, greatest_size}
 use Rattle.hx_object.specs.declared.object.Id.{Id}
 use Rattle.hx_object.specs.declared.object.Object.{Object}
-use Rattle.hx_model.specs.Answers.{refusal_of, place_refusal, version_refusal, rule_refusal, limit_refusals, other_version, brings_name, exceeds_bytes, replaced_by, same_object, replacing, writes_of, case_at, not_found, is_some_write, deleting, ending, ended, begins_to_leave, is_ended, owns_named}
+use Rattle.hx_model.specs.Answers.{refusal_of, place_refusal, version_refusal, rule_refusal, quota_refusal, limit_refusals, other_version, brings_name, exceeds_bytes, replaced_by, same_object, replacing, writes_of, case_at, not_found, is_some_write, deleting, ending, ended, begins_to_leave, is_ended, owns_named}
 use Rattle.hx_model.specs.First.{so, or_else, first}
 use Rattle.hx_model.specs.Limits.{part_of, counted_size, counts, is_copy, is_namespace, is_anchor, names_in, objects_in, bytes_in, most_names, most_objects, most_bytes, greatest_version}
+use Rattle.hx_model.specs.Quotas.{refused_by_quotas}
 use Rattle.hx_model.specs.Rules.{rules}
 use Rattle.hx_model.specs.Serving.{IsServed}
 use Rattle.hx_model.specs.State.{State, Objects, object_at, ascends, put, cut, with_version, after_writes}
@@ -44,11 +47,29 @@ use Rattle.hx_admit.proofs.Sameness.{same_object_is, differs}
 
 -- ---- the order of the refusals
 
+-- what is left where no rule stands against an ask
+abbrev last_refusal : State → Ask → Option Refusal
+last_refusal s ask = or_else (quota_refusal s ask) (first (limit_refusals s ask))
+
 -- where nothing stands before the rules
-unplaced : (s : State) (ask : Ask) → place_refusal s ask ≡ None → version_refusal s ask ≡ None → refusal_of s ask ≡ or_else (rule_refusal s ask) (first (limit_refusals s ask))
+unplaced : (s : State) (ask : Ask) → place_refusal s ask ≡ None → version_refusal s ask ≡ None → refusal_of s ask ≡ or_else (rule_refusal s ask) (last_refusal s ask)
 unplaced s ask place version =
-    ap (λ o. or_else o (or_else (version_refusal s ask) (or_else (rule_refusal s ask) (first (limit_refusals s ask))))) place
-    ∙ ap (λ o. or_else o (or_else (rule_refusal s ask) (first (limit_refusals s ask)))) version
+    ap (λ o. or_else o (or_else (version_refusal s ask) (or_else (rule_refusal s ask) (last_refusal s ask)))) place
+    ∙ ap (λ o. or_else o (or_else (rule_refusal s ask) (last_refusal s ask))) version
+
+none_of_two : {A : Type 0} (a b rest : Option A) → or_else a (or_else b None) ≡ None → or_else a (or_else b rest) ≡ rest
+none_of_two (Some a) b rest e = absurd (let h : Some a ≡ None = e in cc)
+none_of_two None (Some b) rest e = absurd (let h : Some b ≡ None = e in cc)
+none_of_two None None rest e = refl
+
+first_of_two : {A : Type 0} (a b rest : Option A) (found : A) → or_else a (or_else b None) ≡ Some found → or_else a (or_else b rest) ≡ Some found
+first_of_two (Some a) b rest found e = e
+first_of_two None (Some b) rest found e = e
+first_of_two None None rest found e = absurd (let h : None ≡ Some found = e in cc)
+
+alone : {A : Type 0} (o : Option A) → or_else o None ≡ o
+alone None = refl
+alone (Some a) = refl
 
 -- ---- growth
 
@@ -108,13 +129,27 @@ grown s tally id old new valid numbers there served =
 
 -- ---- POST
 
--- a rule is broken
-pub create_ruled : (s : State) (x : Object) (skip : Bool) (rule : Denial) → first (place_refusals s x.id) ≡ None → first (rules (case_at s x.id None (Some x) skip)) ≡ Some rule → refusal_of s (Create x skip) ≡ Some (refusal_by x.id rule)
-create_ruled s x skip rule place ruled = unplaced s (Create x skip) place refl ∙ ap (λ o. or_else (option_map (refusal_by x.id) o) (first (limit_refusals s (Create x skip)))) ruled
+-- its place is free: a rule may be broken
+pub create_ruled : (s : State) (x : Object) (skip : Bool) (rule : Option Denial) → first (place_refusals s x.id) ≡ None → first (rules (case_at s x.id None (Some x) skip)) ≡ rule
+    → first (place_refusal s (Create x skip) ∷ rule_refusal s (Create x skip) ∷ []) ≡ option_map (refusal_by x.id) rule
+create_ruled s x skip rule place ruled =
+    ap (λ o. or_else o (or_else (rule_refusal s (Create x skip)) None)) place ∙ alone (rule_refusal s (Create x skip)) ∙ ap (option_map (refusal_by x.id)) ruled
 
--- what is left where neither holds
-unruled : (s : State) (x : Object) (skip : Bool) → first (place_refusals s x.id) ≡ None → first (rules (case_at s x.id None (Some x) skip)) ≡ None → refusal_of s (Create x skip) ≡ first (limit_refusals s (Create x skip))
-unruled s x skip place ruled = unplaced s (Create x skip) place refl ∙ ap (λ o. or_else (option_map (refusal_by x.id) o) (first (limit_refusals s (Create x skip)))) ruled
+-- its place or a rule stands against it
+pub create_first : (s : State) (x : Object) (skip : Bool) (refusal : Refusal) → first (place_refusal s (Create x skip) ∷ rule_refusal s (Create x skip) ∷ []) ≡ Some refusal → refusal_of s (Create x skip) ≡ Some refusal
+create_first s x skip refusal refused = first_of_two (place_refusal s (Create x skip)) (rule_refusal s (Create x skip)) (last_refusal s (Create x skip)) refusal refused
+
+-- what is left where neither does
+unruled : (s : State) (x : Object) (skip : Bool) → first (place_refusal s (Create x skip) ∷ rule_refusal s (Create x skip) ∷ []) ≡ None → refusal_of s (Create x skip) ≡ last_refusal s (Create x skip)
+unruled s x skip passes = none_of_two (place_refusal s (Create x skip)) (rule_refusal s (Create x skip)) (last_refusal s (Create x skip)) passes
+
+-- a quota stands against it
+pub create_over : (s : State) (x : Object) (skip : Bool) (refusal : Refusal) → first (place_refusal s (Create x skip) ∷ rule_refusal s (Create x skip) ∷ []) ≡ None → quota_refusal s (Create x skip) ≡ Some refusal → refusal_of s (Create x skip) ≡ Some refusal
+create_over s x skip refusal passes over = unruled s x skip passes ∙ ap (λ o. or_else o (first (limit_refusals s (Create x skip)))) over
+
+-- what is left where none does
+pub create_rest : (s : State) (x : Object) (skip : Bool) → first (place_refusal s (Create x skip) ∷ rule_refusal s (Create x skip) ∷ []) ≡ None → quota_refusal s (Create x skip) ≡ None → refusal_of s (Create x skip) ≡ first (limit_refusals s (Create x skip))
+create_rest s x skip passes within = unruled s x skip passes ∙ ap (λ o. or_else o (first (limit_refusals s (Create x skip)))) within
 
 first_limits : (id : Id) (a b : Bool) (rest : List (Option Refusal)) (denial : Denial) → first (so a (Broken L1) ∷ so b (Broken L2) ∷ []) ≡ Some denial → first (so a (of.Broken L1) ∷ so b (of.Broken L2) ∷ rest) ≡ Some (refusal_by id denial)
 first_limits id true b rest denial e = let same : Broken L1 ≡ denial = cc in ap (λ h. Some (refusal_by id h)) same
@@ -135,36 +170,26 @@ module _ (s : State) (tally : LimitCounts) (numbers : tally ≡ counts_of s.obje
       (λ i. first (so (sym brings i && nat_le most_names (names i)) (of.Broken L1) ∷ so (counts x && nat_le most_objects (objects i)) (of.Broken L2) ∷ growth_refusals s (put (with_version x (s.last + 1)) s.objects)))
 
   -- a name or an object that it brings is refused
-  pub create_counted : (denial : Denial) → first (place_refusals s x.id) ≡ None → first (rules (case_at s x.id None (Some x) skip)) ≡ None → first (count_denials named (counts x) tally) ≡ Some denial → refusal_of s (Create x skip) ≡ Some (refusal_by x.id denial)
-  create_counted denial place ruled refused = unruled s x skip place ruled ∙ brought ∙ first_limits x.id _ _ (growth_refusals s (put (with_version x (s.last + 1)) s.objects)) denial refused
+  pub create_counted : (denial : Denial) → first (count_denials named (counts x) tally) ≡ Some denial → first (limit_refusals s (Create x skip)) ≡ Some (refusal_by x.id denial)
+  create_counted denial refused = brought ∙ first_limits x.id _ _ (growth_refusals s (put (with_version x (s.last + 1)) s.objects)) denial refused
 
   -- what is left where none is
-  pub create_rest : first (place_refusals s x.id) ≡ None → first (rules (case_at s x.id None (Some x) skip)) ≡ None → first (count_denials named (counts x) tally) ≡ None → refusal_of s (Create x skip) ≡ first (growth_refusals s (put (with_version x (s.last + 1)) s.objects))
-  create_rest place ruled passed = unruled s x skip place ruled ∙ brought ∙ last_limits _ _ (growth_refusals s (put (with_version x (s.last + 1)) s.objects)) passed
+  pub create_grown : first (count_denials named (counts x) tally) ≡ None → first (limit_refusals s (Create x skip)) ≡ first (growth_refusals s (put (with_version x (s.last + 1)) s.objects))
+  create_grown passed = brought ∙ last_limits _ _ (growth_refusals s (put (with_version x (s.last + 1)) s.objects)) passed
 
 -- ---- PUT
 
 -- an object is there
 replace_found : (s : State) (x old : Object) (expected : Option ℕ) (skip : Bool) → object_at s.objects x.id ≡ Some old
-    → refusal_of s (Replace x expected skip) ≡ or_else (version_refusal s (Replace x expected skip)) (or_else (rule_refusal s (Replace x expected skip)) (first (limit_refusals s (Replace x expected skip))))
+    → refusal_of s (Replace x expected skip) ≡ or_else (version_refusal s (Replace x expected skip)) (or_else (rule_refusal s (Replace x expected skip)) (last_refusal s (Replace x expected skip)))
 replace_found s x old expected skip there =
-    ap (λ o. or_else o (or_else (version_refusal s (Replace x expected skip)) (or_else (rule_refusal s (Replace x expected skip)) (first (limit_refusals s (Replace x expected skip)))))) (ap (λ (o : Option Object). so (is_none o) (not_found x.id)) there)
-
-none_of_two : {A : Type 0} (a b rest : Option A) → or_else a (or_else b None) ≡ None → or_else a (or_else b rest) ≡ rest
-none_of_two (Some a) b rest e = absurd (let h : Some a ≡ None = e in cc)
-none_of_two None (Some b) rest e = absurd (let h : Some b ≡ None = e in cc)
-none_of_two None None rest e = refl
-
-first_of_two : {A : Type 0} (a b rest : Option A) (found : A) → or_else a (or_else b None) ≡ Some found → or_else a (or_else b rest) ≡ Some found
-first_of_two (Some a) b rest found e = e
-first_of_two None (Some b) rest found e = e
-first_of_two None None rest found e = absurd (let h : None ≡ Some found = e in cc)
+    ap (λ o. or_else o (or_else (version_refusal s (Replace x expected skip)) (or_else (rule_refusal s (Replace x expected skip)) (last_refusal s (Replace x expected skip))))) (ap (λ (o : Option Object). so (is_none o) (not_found x.id)) there)
 
 -- it has another version, or a rule is broken
 pub replace_first : (s : State) (x old : Object) (expected : Option ℕ) (skip : Bool) (refusal : Refusal) → object_at s.objects x.id ≡ Some old → first (version_refusal s (Replace x expected skip) ∷ rule_refusal s (Replace x expected skip) ∷ []) ≡ Some refusal
     → refusal_of s (Replace x expected skip) ≡ Some refusal
 replace_first s x old expected skip refusal there refused =
-    replace_found s x old expected skip there ∙ first_of_two (version_refusal s (Replace x expected skip)) (rule_refusal s (Replace x expected skip)) (first (limit_refusals s (Replace x expected skip))) refusal refused
+    replace_found s x old expected skip there ∙ first_of_two (version_refusal s (Replace x expected skip)) (rule_refusal s (Replace x expected skip)) (last_refusal s (Replace x expected skip)) refusal refused
 
 -- the two, by the object that is there
 pub replace_two : (s : State) (x old : Object) (expected : Option ℕ) (skip : Bool) (version : Option Refusal) (rule : Option Denial) → object_at s.objects x.id ≡ Some old → version ≡ other_version expected (Some old)
@@ -177,10 +202,24 @@ replace_two s x old expected skip version rule there is ruled =
     λ i. first (others i ∷ rules_are i ∷ [])
 
 -- what is left where neither holds
+replace_last : (s : State) (x old : Object) (expected : Option ℕ) (skip : Bool) → object_at s.objects x.id ≡ Some old → first (version_refusal s (Replace x expected skip) ∷ rule_refusal s (Replace x expected skip) ∷ []) ≡ None
+    → refusal_of s (Replace x expected skip) ≡ last_refusal s (Replace x expected skip)
+replace_last s x old expected skip there passes =
+    replace_found s x old expected skip there ∙ none_of_two (version_refusal s (Replace x expected skip)) (rule_refusal s (Replace x expected skip)) (last_refusal s (Replace x expected skip)) passes
+
+-- the quotas, by the object that is there
+pub quotas_found : (s : State) (x old : Object) (expected : Option ℕ) (skip : Bool) (found : Option Refusal) → object_at s.objects x.id ≡ Some old → found ≡ refused_by_quotas s (Some old) x → quota_refusal s (Replace x expected skip) ≡ found
+quotas_found s x old expected skip found there is = ap (λ o. refused_by_quotas s o x) there ∙ sym is
+
+-- a quota stands against it
+pub replace_over : (s : State) (x old : Object) (expected : Option ℕ) (skip : Bool) (refusal : Refusal) → object_at s.objects x.id ≡ Some old → first (version_refusal s (Replace x expected skip) ∷ rule_refusal s (Replace x expected skip) ∷ []) ≡ None
+    → quota_refusal s (Replace x expected skip) ≡ Some refusal → refusal_of s (Replace x expected skip) ≡ Some refusal
+replace_over s x old expected skip refusal there passes over = replace_last s x old expected skip there passes ∙ ap (λ o. or_else o (first (limit_refusals s (Replace x expected skip)))) over
+
+-- what is left where none does
 replace_rest : (s : State) (x old : Object) (expected : Option ℕ) (skip : Bool) → object_at s.objects x.id ≡ Some old → first (version_refusal s (Replace x expected skip) ∷ rule_refusal s (Replace x expected skip) ∷ []) ≡ None
-    → refusal_of s (Replace x expected skip) ≡ first (limit_refusals s (Replace x expected skip))
-replace_rest s x old expected skip there passes =
-    replace_found s x old expected skip there ∙ none_of_two (version_refusal s (Replace x expected skip)) (rule_refusal s (Replace x expected skip)) (first (limit_refusals s (Replace x expected skip))) passes
+    → quota_refusal s (Replace x expected skip) ≡ None → refusal_of s (Replace x expected skip) ≡ first (limit_refusals s (Replace x expected skip))
+replace_rest s x old expected skip there passes within = replace_last s x old expected skip there passes ∙ ap (λ o. or_else o (first (limit_refusals s (Replace x expected skip)))) within
 
 not_less : (n : ℕ) → nat_lt n n ≡ false
 not_less n = le-ltb n n (omega arith)
@@ -193,7 +232,7 @@ module _ (s : State) (x old next : Object) (expected : Option ℕ) (skip : Bool)
       let alike : same_object (replaced_by old x) old ≡ true = same_object_is (replaced_by old x) old (sym r.gives ∙ same) in
       let writes : replacing (object_at s.objects x.id) x (s.last + 1) ≡ [] = rw (there, alike) refl in
       let limits : first (limit_refusals s (Replace x expected skip)) ≡ None = rw (writes, not_less (bytes_in s.objects)) refl in
-      (replace_rest s x old expected skip there r.passes ∙ limits, writes)
+      (replace_rest s x old expected skip there r.passes r.quotas ∙ limits, writes)
 
   -- one that changes an object
   replace_changed : (next ≡ old → ⊥) → refusal_of s (Replace x expected skip) ≡ first (growth_refusals s (put (with_version next (s.last + 1)) s.objects))
@@ -202,7 +241,7 @@ module _ (s : State) (x old next : Object) (expected : Option ℕ) (skip : Bool)
       let unlike : same_object (replaced_by old x) old ≡ false = differs (replaced_by old x) old (λ e. apart (r.gives ∙ e)) in
       let writes : replacing (object_at s.objects x.id) x (s.last + 1) ≡ Put (with_version (replaced_by old x) (s.last + 1)) ∷ [] = rw (there, unlike) refl in
       let limits : first (limit_refusals s (Replace x expected skip)) ≡ first (growth_refusals s (put (with_version (replaced_by old x) (s.last + 1)) s.objects)) = rw writes refl in
-      replace_rest s x old expected skip there r.passes ∙ limits ∙ ap (λ (y : Object). first (growth_refusals s (put (with_version y (s.last + 1)) s.objects))) (sym r.gives)
+      replace_rest s x old expected skip there r.passes r.quotas ∙ limits ∙ ap (λ (y : Object). first (growth_refusals s (put (with_version y (s.last + 1)) s.objects))) (sym r.gives)
 
   -- what is left of one that does, as it was checked
   pub replace_grown : {A : Type 0} (result : Result A Denial) (found : Option Denial) → (next ≡ old → ⊥) → option_map (refusal_by next.id) (fault_in result) ≡ first (growth_refusals s (put (with_version next (s.last + 1)) s.objects)) → fault_in result ≡ found
@@ -258,10 +297,6 @@ delete_found s id old skip valid there =
     ∙ ap (λ b. or_else (rule_refusal s (Delete id skip)) (first (so b (of.Broken L3) ∷ so (is_some_write (deleting s id skip) && nat_le greatest_version s.last) (of.Broken L4) ∷ [])))
     (unexceeded (bytes_in s.objects) (bytes_in (after_writes (deleting s id skip) s.objects)) (bytes_stay (deleting s id skip) s.objects (adds_nothing s id skip) valid.in_order))
     ∙ ap (or_else (rule_refusal s (Delete id skip))) (alone (so (is_some_write (deleting s id skip) && nat_le greatest_version s.last) (of.Broken L4)))
-  where
-    alone : {A : Type 0} (o : Option A) → or_else o None ≡ o
-    alone None = refl
-    alone (Some a) = refl
 
 -- a rule is broken
 pub delete_ruled : (s : State) (id : Id) (old : Object) (skip : Bool) (refusal : Refusal) → IsValid s → object_at s.objects id ≡ Some old → rule_refusal s (Delete id skip) ≡ Some refusal → refusal_of s (Delete id skip) ≡ Some refusal

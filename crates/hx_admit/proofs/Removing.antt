@@ -130,7 +130,6 @@ legal_ended x version is legal =
 served_ended : (x : Object) (version : ℕ) → is_namespace x.id.kind ≡ true → IsServed x → IsServed (ended version x)
 served_ended x version is served = record {
   legal = legal_ended x version is served.legal;
-  written = served.written;
   kept = record { labels = served.kept.labels; annotations = served.kept.annotations; payload = refl; typed = typed_ended x.id.kind };
 }
 

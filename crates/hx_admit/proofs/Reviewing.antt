@@ -106,7 +106,7 @@ kept_with_version x version kept = record { labels = kept.labels; annotations = 
 -- an object with the next version
 pub may_put : (s : State) (x : Object) → IsServed x → has_home s.objects x.id ≡ true → (is_namespace x.id.kind ≡ true → HasPlace (object_at s.objects x.id) x) → MayPut s (with_version x (s.last + 1))
 may_put s x served home later = record {
-  served = record { legal = legal_with_version x (s.last + 1) served.legal; written = served.written; kept = kept_with_version x (s.last + 1) served.kept };
+  served = record { legal = legal_with_version x (s.last + 1) served.legal; kept = kept_with_version x (s.last + 1) served.kept };
   next = refl;
   home = home;
   place = λ is. each (object_at s.objects x.id) (later is);
@@ -155,7 +155,7 @@ module _ (s : State) (x old next : Object) (expected : Option ℕ) (skip : Bool)
   served_before = All-found IsServed x.id old s.objects (valid_served s r.valid) r.there
 
   served_given : IsServed (replaced_by old x)
-  served_given = record { legal = legal_replaced old x r.served.legal; written = r.served.written; kept = kept_replaced old x served_before.kept r.served.kept }
+  served_given = record { legal = legal_replaced old x r.served.legal; kept = kept_replaced old x served_before.kept r.served.kept }
 
   pub served_replacement : IsServed next
   served_replacement = subst IsServed (sym r.gives) served_given

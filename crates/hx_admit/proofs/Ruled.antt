@@ -33,7 +33,7 @@ use Rattle.hx_model.specs.declared.node.Node.{Node}
 use Rattle.hx_model.specs.declared.denial.Denial.{Denial}
 use Rattle.hx_model.specs.declared.denial.Denial.TheVariants.{Broken}
 use Rattle.hx_object.specs.declared.kind.Kind.{Kind}
-use Rattle.hx_object.specs.declared.kind.Kind.TheVariants.{Namespace, HierarchyConfiguration, HncConfiguration, SubnamespaceAnchor}
+use Rattle.hx_object.specs.declared.kind.Kind.TheVariants.{Namespace, HierarchyConfiguration, HncConfiguration, SubnamespaceAnchor, HierarchicalResourceQuota}
 use Rattle.hx_object.proofs.KindTests.{namespace_kind}
 use Rattle.hx_model.specs.declared.rule.Rule.TheVariants.{X1, N4, O1, N1, N2, N3, A1, A2, A3, A4, H1, H2, H3, H4, H5, H6, H8, O2, O3}
 use Rattle.hx_model.proofs.Planting.{hierarchy_kind, node_of-objects, there-objects}
@@ -150,6 +150,7 @@ looked_at c conflict same = λ i. or_else (breaks X1 (c.skip && not c.config.all
     by HierarchyConfiguration e = moved c.skip refl (same.move (ap is_hierarchy e))
     by SubnamespaceAnchor e = refl
     by HncConfiguration e = ap (λ b. first (entry_rules (entries_of c.new) b)) (not_skipped c.skip refl (same.modes e))
+    by HierarchicalResourceQuota e = refl
     by _ e = sources
 
 -- they look at the family where a namespace is removed, and where an anchor is written or removed and they aren't skipped

@@ -8,7 +8,7 @@ use Rattle.std.specs.Str.{bytes_eq}
 use Rattle.std.proofs.Common.{◌≡◌, ◌≢◌, ℕ, Bool, true, false, not, Option, Some, None, List, refl, sym, ap, ◌∙◌, subst, true≢false}
 use Rattle.std.proofs.lemmas.Bool.{not-true}
 use Rattle.hx_object.specs.declared.kind.Kind.{Kind}
-use Rattle.hx_object.specs.declared.kind.Kind.TheVariants.{Namespace, HncConfiguration, HierarchyConfiguration, SubnamespaceAnchor}
+use Rattle.hx_object.specs.declared.kind.Kind.TheVariants.{Namespace, HncConfiguration, HierarchyConfiguration, SubnamespaceAnchor, HierarchicalResourceQuota}
 use Rattle.hx_object.specs.declared.object.Object.{Object}
 use Rattle.hx_model.specs.Cases.{Case, breaks, any_of, same_name}
 use Rattle.hx_model.specs.First.{so, or_else, first}
@@ -70,9 +70,10 @@ unbroken rule true e = absurd (let h = e in cc)
 unbroken rule false e = refl
 
 -- the rules on objects of kinds that have none of their own
-pub other_rules : (kind : Kind) (c : Case) → kind ≢ Namespace → kind ≢ HncConfiguration → kind ≢ HierarchyConfiguration → kind ≢ SubnamespaceAnchor → first (source_rules c) ≡ first (kind_rules kind c)
-other_rules Namespace c a b d e = absurd (a refl)
-other_rules HncConfiguration c a b d e = absurd (b refl)
-other_rules HierarchyConfiguration c a b d e = absurd (d refl)
-other_rules SubnamespaceAnchor c a b d e = absurd (e refl)
-other_rules _ c a b d e = refl
+pub other_rules : (kind : Kind) (c : Case) → kind ≢ Namespace → kind ≢ HncConfiguration → kind ≢ HierarchyConfiguration → kind ≢ SubnamespaceAnchor → kind ≢ HierarchicalResourceQuota → first (source_rules c) ≡ first (kind_rules kind c)
+other_rules Namespace c a b d e q = absurd (a refl)
+other_rules HncConfiguration c a b d e q = absurd (b refl)
+other_rules HierarchyConfiguration c a b d e q = absurd (d refl)
+other_rules SubnamespaceAnchor c a b d e q = absurd (e refl)
+other_rules HierarchicalResourceQuota c a b d e q = absurd (q refl)
+other_rules _ c a b d e q = refl

@@ -4,7 +4,7 @@
 --     IsConfigFor        the HNCConfiguration that is stored, where a copy is removed. The rules look at it nowhere else
 --     IsConflictFor      whether a write makes a conflict. The rules look at it where they aren't skipped, for a HierarchyConfiguration that closes no cycle, an HNCConfiguration, and an object that can be copied
 --     AreFindings        what is read of a write before the rules
---     IsReplacement      the object that a PUT gives, where neither its version nor a rule stands against it
+--     IsReplacement      the object that a PUT gives, where neither its version nor a rule nor a quota stands against it
 --     IsDeletion         what a DELETE writes of an object that is there, where no rule stands against it
 --     IsReviewed         the review of one write
 --     place_refusals     the refusals of a POST by its place
@@ -15,7 +15,7 @@ use Rattle.hx_object.specs.Kinds.{can_be_copied}
 use Rattle.hx_object.specs.declared.kind.Kind.TheVariants.{Namespace, HncConfiguration}
 use Rattle.hx_object.specs.declared.object.Id.{Id}
 use Rattle.hx_object.specs.declared.object.Object.{Object}
-use Rattle.hx_model.specs.Answers.{refusal_of, version_refusal, rule_refusal, replaced_by, deleting, exceeds_bytes, lacks_namespace, already_there}
+use Rattle.hx_model.specs.Answers.{refusal_of, version_refusal, rule_refusal, quota_refusal, replaced_by, deleting, exceeds_bytes, lacks_namespace, already_there}
 use Rattle.hx_model.specs.Cases.{Case, any_of}
 use Rattle.hx_model.specs.Conflicts.{makes_conflict, with_written}
 use Rattle.hx_model.specs.First.{so, first}
@@ -62,12 +62,13 @@ pub record AreFindings (c : Case) (found : Findings) : Type 0 where
   pub exceptions : found.is_invalid ≡ misuses_exceptions c
   pub conflict : IsConflictFor c found.conflict
 
--- the object that a PUT gives in the place of the one that is there, where neither its version nor a rule stands against it
+-- the object that a PUT gives in the place of the one that is there, where neither its version nor a rule nor a quota stands against it
 pub record IsReplacement (s : State) (x old : Object) (expected : Option ℕ) (skip : Bool) (next : Object) : Type 0 where
   pub valid : IsValid s
   pub served : IsServed x
   pub there : object_at s.objects x.id ≡ Some old
   pub passes : first (version_refusal s (Replace x expected skip) ∷ rule_refusal s (Replace x expected skip) ∷ []) ≡ None
+  pub quotas : quota_refusal s (Replace x expected skip) ≡ None
   pub gives : next ≡ replaced_by old x
 
 -- what a DELETE writes of an object that is there, where no rule stands against it

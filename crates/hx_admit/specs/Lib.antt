@@ -10,3 +10,4 @@ pub mod Moves
 pub mod Conflicting
 pub mod Families
 pub mod Removing
+pub mod Spending

@@ -1,6 +1,6 @@
 // The checks of a write.
-ghost use Rattle.std.specs.Prelude.{◌≡◌, ◌≢◌, ◌<◌, ◌&&◌, ◌∷◌, [], true, nat_le, Some, None, option_copied, option_map, IfSome, OnOk};
-ghost use Rattle.hx_model.specs.Answers.{refusal_of, version_refusal, rule_refusal, case_at, other_version, is_some_write};
+ghost use Rattle.std.specs.Prelude.{Bool, ◌≡◌, ◌≢◌, ◌<◌, ◌&&◌, ◌∷◌, [], true, nat_le, Some, None, option_copied, option_map, IfSome, OnOk};
+ghost use Rattle.hx_model.specs.Answers.{place_refusal, version_refusal, rule_refusal, limit_refusals, case_at, other_version, is_some_write};
 ghost use Rattle.hx_model.specs.Denials.{refusal_by};
 ghost use Rattle.hx_model.specs.First.{so, first};
 ghost use Rattle.hx_model.specs.Limits.{greatest_version};
@@ -25,30 +25,36 @@ use hx_object::{Id, Kind, Object};
 use hx_store::Change;
 
 impl IndexedState {
-    /// Finds what stands against a POST.
+    /// Finds what stands against a POST but for quotas and limits.
     pub(crate) fn check_create(
         &self,
         object: &Object,
         found: Findings,
-        brings_name: bool,
         skip: bool,
     ) -> Result<(), Denial>
-        requires served { IsServed object.now }
-        requires brings { brings_name ≡ is_new_name self.now.state.objects object.now.id }
         requires found { AreFindings (case_at self.now.state object.now.id (object_at self.now.state.objects object.now.id) (Some object.now) skip) found }
-        ensures refusal { option_map (refusal_by object.now.id) (fault_in result) ≡ refusal_of self.now.state (ask_of.Create object.now skip) }
+        ensures refusal { option_map (refusal_by object.now.id) (fault_in result) ≡ first (place_refusal self.now.state (ask_of.Create object.now skip) ∷ rule_refusal self.now.state (ask_of.Create object.now skip) ∷ []) }
         ensures free { OnOk result (object_at self.now.state.objects object.now.id ≡ None) }
         ensures home { OnOk result (has_home self.now.state.objects object.now.id ≡ true) }
-        ensures fits { OnOk result (self.now.state.last < greatest_version) }
     {
         let id = &object.id;
         self.check_place(id)?;
-        self.check_case(id, None, Some(object), found, skip)?;
-        check_counts(brings_name, counts(object), self.counts)?;
-        self.check_growth(id, None, Some(object))
+        self.check_case(id, None, Some(object), found, skip)
     }
 
-    /// Finds what stands against a PUT before its growth is known.
+    /// Finds the first limit that a POST passes, where its place is free.
+    pub(crate) fn check_limits(&self, object: &Object, brings_name: bool) -> Result<(), Denial>
+        requires served { IsServed object.now }
+        requires brings { brings_name ≡ is_new_name self.now.state.objects object.now.id }
+        requires free { object_at self.now.state.objects object.now.id ≡ None }
+        ensures refusal { (skip : Bool) → option_map (refusal_by object.now.id) (fault_in result) ≡ first (limit_refusals self.now.state (ask_of.Create object.now skip)) }
+        ensures fits { OnOk result (self.now.state.last < greatest_version) }
+    {
+        check_counts(brings_name, counts(object), self.counts)?;
+        self.check_growth(&object.id, None, Some(object))
+    }
+
+    /// Finds what stands against a PUT but for quotas and limits.
     pub(crate) fn check_replace(
         &self,
         old: &Object,

@@ -18,7 +18,7 @@ use std::marker::Model;
 /// The objects of a state, with their trees and their running numbers.
 ///
 /// Writes are staged first, which makes room for all that they change. They are made later without taking memory, or given up.
-/// Reviews are in review.rt, what stands against a write in checks.rt, what writes change beside the objects in plan.rt, which names come and go in names.rt, and what is taken in at a start in load.rt.
+/// Reviews are in review.rt, what stands against a write in checks.rt, what quotas refuse in quotas.rt, what writes change beside the objects in plan.rt, which names come and go in names.rt, and what is taken in at a start in load.rt.
 #[derive(Drop)]
 pub struct IndexedState {
     pub(crate) store: Store,

@@ -14,6 +14,7 @@ mod load;
 mod moves;
 mod names;
 mod plan;
+mod quotas;
 mod removal;
 mod review;
 mod reviewed;

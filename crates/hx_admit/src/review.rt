@@ -81,7 +81,13 @@ impl IndexedState {
     {
         let found = self.findings(&object.id, self.object(&object.id), Some(&object), skip)?;
         let brings_name = self.brings_name(&object.id)?;
-        if let Err(denial) = self.check_create(&object, found, brings_name, skip) {
+        if let Err(denial) = self.check_create(&object, found, skip) {
+            return Err(denial.refusal(&object.id));
+        }
+        if let Some(refusal) = self.quota_refusal(None, &object)? {
+            return Err(refusal);
+        }
+        if let Err(denial) = self.check_limits(&object, brings_name) {
             return Err(denial.refusal(&object.id));
         }
         Ok(self.put(object, true)?)
@@ -131,6 +137,9 @@ impl IndexedState {
         let found = self.findings(&object.id, Some(old), Some(&object), skip)?;
         if let Err(denial) = self.check_replace(old, &object, expected, found, skip) {
             return Err(denial.refusal(&object.id));
+        }
+        if let Some(refusal) = self.quota_refusal(Some(old), &object)? {
+            return Err(refusal);
         }
         Ok(replaced_by(old, object)?)
     }

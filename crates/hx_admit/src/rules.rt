@@ -13,6 +13,7 @@ mod config;
 mod copies;
 mod hierarchy;
 mod namespace;
+mod quota;
 
 use crate::case::Case;
 use copies::touches_copy;
@@ -20,6 +21,7 @@ pub(crate) use copies::{has_invalid_exceptions, is_any_copy};
 pub(crate) use hierarchy::{closes_cycle, parent_after};
 use hx_model::{Denial, Rule};
 use hx_object::Kind;
+pub(crate) use quota::hard_of;
 
 /// Finds the first rule of admission that a write or a removal breaks.
 pub fn check_rules(case: &Case) -> Result<(), Denial>
@@ -56,6 +58,7 @@ fn check_kind(case: &Case) -> Result<(), Denial>
         Kind::HierarchyConfiguration => hierarchy::check_rules(case),
         Kind::HncConfiguration => config::check_rules(case),
         Kind::SubnamespaceAnchor => anchor::check_rules(case),
+        Kind::HierarchicalResourceQuota => quota::check_rules(case),
         _ => copies::check_source(case),
     }
 }

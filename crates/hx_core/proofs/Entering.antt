@@ -12,7 +12,7 @@ use Rattle.hx_object.specs.declared.kind.Kind.{Kind}
 use Rattle.hx_object.specs.declared.kind.Kind.TheVariants as of
 use Rattle.hx_object.specs.declared.object.Id.{Id}
 use Rattle.hx_object.specs.declared.object.Object.{Object}
-use Rattle.hx_model.specs.Answers.{begins_to_leave, case_at, ended, ending, is_ended, limit_refusals, owns_named, place_refusal, refusal_of, replaced_by, replacing, rule_refusal, same_object, version_refusal, writes_of}
+use Rattle.hx_model.specs.Answers.{begins_to_leave, case_at, ended, ending, is_ended, limit_refusals, owns_named, place_refusal, quota_refusal, refusal_of, replaced_by, replacing, rule_refusal, same_object, version_refusal, writes_of}
 use Rattle.hx_model.specs.Cases.{Case, breaks, is_leaving, subject_of}
 use Rattle.hx_model.specs.Denials.{refusal_by}
 use Rattle.hx_model.specs.First.{first, or_else, so}
@@ -28,6 +28,7 @@ use Rattle.hx_model.specs.Valid.{IsStored, IsValid}
 use Rattle.hx_model.specs.declared.ask.Ask.{Ask}
 use Rattle.hx_model.specs.declared.ask.Ask.TheVariants.{Get, List as ListOf, Create, Replace, Delete}
 use Rattle.hx_model.specs.declared.denial.Denial.{Denial}
+use Rattle.hx_model.specs.declared.refusal.Refusal.{Refusal}
 use Rattle.hx_model.specs.declared.denial.Denial.TheVariants.{Broken}
 use Rattle.hx_model.specs.declared.key.Write.TheVariants.{Put, Cut}
 use Rattle.hx_model.specs.declared.node.Node.{Node}
@@ -89,7 +90,8 @@ never_enters c passes =
 
 passes_rules : (s : State) (ask : Ask) → refusal_of s ask ≡ None → rule_refusal s ask ≡ None
 passes_rules s ask passes =
-    (none_else (rule_refusal s ask) (first (limit_refusals s ask)) (none_else (version_refusal s ask) (or_else (rule_refusal s ask) (first (limit_refusals s ask))) (none_else (place_refusal s ask) (or_else (version_refusal s ask) (or_else (rule_refusal s ask) (first (limit_refusals s ask)))) passes).1).1).0
+    let last : Option Refusal = or_else (quota_refusal s ask) (first (limit_refusals s ask)) in
+    (none_else (rule_refusal s ask) last (none_else (version_refusal s ask) (or_else (rule_refusal s ask) last) (none_else (place_refusal s ask) (or_else (version_refusal s ask) (or_else (rule_refusal s ask) last)) passes).1).1).0
 
 created_out : (s : State) (x : Object) (skip : Bool) → IsValid s → refusal_of s (Create x skip) ≡ None → IsOutOrThere s x.id
 created_out s x skip valid passes home inside at ends =

@@ -333,7 +333,7 @@ write_now : (was s : State) (write : Write) → ((x : Object) → write ≡ Put 
 write_now was s (Put x) served stays may =
     let here : IsServed x = served x refl in
     record {
-      served = record { legal = legal_with_version x (s.last + 1) here.legal; written = here.written; kept = kept_with x (s.last + 1) here.kept };
+      served = record { legal = legal_with_version x (s.last + 1) here.legal; kept = kept_with x (s.last + 1) here.kept };
       next = refl;
       home = stays.home ∙ may.home;
       place = λ is. subst (λ o. HasPlace o (with_version x (s.last + 1))) (sym stays.place) (each (object_at was.objects x.id) (may.place is));

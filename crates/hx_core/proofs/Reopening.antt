@@ -17,14 +17,12 @@ use Rattle.hx_object.specs.Json.{object_text}
 use Rattle.hx_object.specs.Kinds.{is_in_cluster}
 use Rattle.hx_object.specs.Texts.{bytes_cmp}
 use Rattle.hx_object.specs.declared.kind.Kind.{Kind}
-use Rattle.hx_object.specs.declared.kind.Kind.TheVariants.{HierarchicalResourceQuota}
 use Rattle.hx_object.specs.declared.object.Id.{Id}
 use Rattle.hx_object.specs.declared.object.Object.{Object}
 use Rattle.hx_ports.specs.Keeping.{Kept, Rows, greatest_version}
 use Rattle.hx_ports.specs.Rows.{Entry}
 use Rattle.hx_ports.proofs.Placed.{entries-from_entries}
-use Rattle.hx_json.proofs.Telling.{text_told}
-use Rattle.hx_model.specs.Serving.{is_written}
+use Rattle.hx_json.proofs.Telling.{served_told}
 use Rattle.hx_model.specs.State.{State, Objects, object_at, same_id, namespace_id, has_home}
 use Rattle.hx_model.specs.Texts.{key_text, stored_entry, rows_of}
 use Rattle.hx_model.specs.Valid.{IsValid, IsStored}
@@ -123,14 +121,11 @@ look_up id (y ∷ objects) keyed all =
       | false ↦ λ apart. ap (λ b. cond b (Some (told y)) (find bytes_cmp (key_text id) (map stored_entry objects))) (key_apart id y.id keyed all.0 apart) ∙ look_up id objects keyed all.1
     ] refl
 
-no_quota : (kind : Kind) → is_written kind ≡ true → kind ≢ HierarchicalResourceQuota
-no_quota kind written is = true≢false (sym written ∙ ap is_written is)
-
 -- two objects that are stored under one text are one
 same_told : (last : ℕ) (x y : Object) → last ≤ greatest_version → IsStored last x → IsStored last y → told x ≡ told y → x ≡ y
 same_told last x y fits a b same =
-    text_told x y a.served.legal b.served.legal (no_quota x.id.kind a.served.written) a.served.kept.labels a.served.kept.annotations (let h : x.version < 2 ^ 64 = omega (arith, a.known, fits) in h)
-    b.served.kept.labels b.served.kept.annotations (let h : y.version < 2 ^ 64 = omega (arith, b.known, fits) in h) (ap (λ (p : ℕ × List ℕ). p.1) same)
+    served_told x y a.served b.served (let h : x.version < 2 ^ 64 = omega (arith, a.known, fits) in h)
+    (let h : y.version < 2 ^ 64 = omega (arith, b.known, fits) in h) (ap (λ (p : ℕ × List ℕ). p.1) same)
 
 module _ (s t : State) (a : IsValid s) (b : IsValid t) (last : s.last ≡ t.last) (rows : rows_of s ≡ rows_of t) where
   same_look_up : (q : Id) → HasNoSlash q.ns → option_map told (object_at s.objects q) ≡ option_map told (object_at t.objects q)

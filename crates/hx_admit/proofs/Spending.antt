@@ -1,0 +1,94 @@
+-- What quotas refuse, as code finds it.
+--     unrefused       no quota refuses a write that raises no charge and brings no Pod that asks for something else
+--     used_listed     what is used is the sum over the objects of one kind
+--     over_sides      a sum passes a limit where it did before, or where the rest is too small for the rise
+use Rattle.std.proofs.Common.{◌≡◌, ◌≤◌, ◌+◌, ◌-◌, ℕ, Bool, true, false, ◌&&◌, ◌||◌, nat_lt, List, [], ◌∷◌, None, Some, Option, refl, ap, ◌∙◌, inl, inr, ◌⊎◌, filter, cond, sum_by, arith, true≢false}
+use Rattle.std.specs.Prelude.{if◌then◌else◌}
+use Rattle.std.specs.Cmp.{both_ways}
+use Rattle.std.proofs.lemmas.List.Sums.{sum_by-cons}
+use Rattle.std.proofs.lemmas.Bool.{ltb-true, ltb-false, lt-ltb, le-ltb}
+use Rattle.hx_object.specs.declared.object.Limit.{Limit}
+use Rattle.hx_object.specs.declared.object.Object.{Object}
+use Rattle.hx_model.specs.Charges.{hard_of, resource_named, charge_of, kind_for}
+use Rattle.hx_model.specs.First.{so, or_else, first_of}
+use Rattle.hx_model.specs.Forest.{Forest, in_chain}
+use Rattle.hx_model.specs.Quotas.{quotas_for, charge_below, used, charge_before, rise_of, asks_anew, is_lacking, over_limit, over_quota, first_over, refused_by_quotas}
+use Rattle.hx_model.specs.State.{State, Objects, is_listed}
+use Rattle.hx_model.specs.Tree.{forest_of}
+use Rattle.hx_model.specs.declared.refusal.Refusal.TheVariants.{Broken}
+use Rattle.hx_model.specs.declared.resource.Resource.{Resource}
+use Rattle.hx_model.specs.declared.rule.Rule.TheVariants.{Q2}
+use Rattle.hx_model.proofs.Charging.{charged_elsewhere, uncharged}
+use Rattle.hx_admit.specs.Spending.{raises, may_refuse}
+
+-- ---- writes that no quota refuses
+
+left : (a b : Bool) → (a || b) ≡ false → a ≡ false
+left false b e = refl
+left true b e = e
+
+right : (a b : Bool) → (a || b) ≡ false → b ≡ false
+right false b e = e
+right true b e = absurd (true≢false e)
+
+first_of_none : {A B : Type 0} (f : A → Option B) → ((x : A) → f x ≡ None) → (xs : List A) → first_of f xs ≡ None
+first_of_none f none [] = refl
+first_of_none f none (x ∷ xs) = ap (λ o. or_else o (first_of f xs)) (none x) ∙ first_of_none f none xs
+
+-- no charge rises, for no resource
+still : (old : Option Object) (x : Object) (r : Resource) → raises old x ≡ false → nat_lt 0 (rise_of old x r) ≡ false
+still old x r none = by (uncharged (λ q. nat_lt 0 (rise_of old x q)) x r none)
+  where
+    by : (nat_lt 0 (rise_of old x r) ≡ false) ⊎ (charge_of x r ≡ 0) → nat_lt 0 (rise_of old x r) ≡ false
+    by (inl e) = e
+    by (inr e) = ap (λ n. nat_lt 0 (n - charge_before old r)) e ∙ below (charge_before old r)
+      where
+        below : (n : ℕ) → nat_lt 0 (0 - n) ≡ false
+        below n = le-ltb 0 (0 - n) (omega arith)
+
+within : (s : State) (old : Option Object) (x q : Object) → raises old x ≡ false → (limit : Limit) → over_limit s old x q limit ≡ None
+within s old x q none limit = by (resource_named limit.resource) refl
+  where
+    by : (o : Option Resource) → resource_named limit.resource ≡ o → over_limit s old x q limit ≡ None
+    by None e = rw e refl
+    by (Some r) e = rw (e, still old x r none) refl
+
+pub unrefused : (s : State) (old : Option Object) (x : Object) → may_refuse old x ≡ false → refused_by_quotas s old x ≡ None
+unrefused s old x quiet =
+    let calm : asks_anew old x ≡ false = left (asks_anew old x) (raises old x) quiet in
+    let none : raises old x ≡ false = right (asks_anew old x) (raises old x) quiet in
+    ap (λ b. or_else (so (b && is_lacking x (quotas_for s x.id.ns)) (Broken Q2)) (first_over s old x (quotas_for s x.id.ns))) calm
+    ∙ first_of_none (over_quota s old x) (λ q. first_of_none (over_limit s old x q) (within s old x q none) (hard_of q.payload)) (quotas_for s x.id.ns)
+
+-- ---- what is used
+
+sum_kept : (f : Object → ℕ) (p : Object → Bool) → ((x : Object) → p x ≡ false → f x ≡ 0) → (xs : Objects) → sum_by f (filter p xs) ≡ sum_by f xs
+sum_kept f p nothing [] = refl
+sum_kept f p nothing (x ∷ xs) =
+    elim (p x) as (λ b. p x ≡ b → sum_by f (cond b (x ∷ filter p xs) (filter p xs)) ≡ sum_by f (x ∷ xs)) [
+      | true ↦ λ _. omega (arith, sum_by-cons f x (filter p xs), sum_by-cons f x xs, sum_kept f p nothing xs)
+      | false ↦ λ e. omega (arith, sum_by-cons f x xs, sum_kept f p nothing xs, nothing x e)
+    ] refl
+
+uncharged_below : (f : Forest) (a : List ℕ) (r : Resource) (x : Object) → is_listed (kind_for r) None x ≡ false → charge_below f a r x ≡ 0
+uncharged_below f a r x other = by (in_chain f x.id.ns a)
+  where
+    by : (b : Bool) → (if b then charge_of x r else 0) ≡ 0
+    by true = charged_elsewhere r x other
+    by false = refl
+
+pub used_listed : (s : State) (a : List ℕ) (r : Resource) → sum_by (charge_below (forest_of s) a r) (filter (is_listed (kind_for r) None) s.objects) ≡ used s a r
+unfolding used
+used_listed s a r = sum_kept (charge_below (forest_of s) a r) (is_listed (kind_for r) None) (uncharged_below (forest_of s) a r) s.objects
+
+-- ---- what passes a limit
+
+-- it did before
+pub over_before : (limit sum rise : ℕ) → nat_lt limit sum ≡ true → nat_lt limit (sum + rise) ≡ true
+over_before limit sum rise e = lt-ltb limit (sum + rise) (omega (arith, ltb-true limit sum e))
+
+-- or the rest is too small
+pub over_rest : (limit sum rise : ℕ) → nat_lt limit sum ≡ false → nat_lt (limit - sum) rise ≡ nat_lt limit (sum + rise)
+over_rest limit sum rise e =
+    let fits : sum ≤ limit = ltb-false limit sum e in
+    both_ways (nat_lt (limit - sum) rise) (nat_lt limit (sum + rise)) (λ h. lt-ltb limit (sum + rise) (omega (arith, fits, ltb-true (limit - sum) rise h))) (λ h. lt-ltb (limit - sum) rise (omega (arith, fits, ltb-true limit (sum + rise) h)))
