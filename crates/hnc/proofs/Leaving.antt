@@ -21,6 +21,7 @@ use Rattle.hx_script.specs.declared.script.RunEnd.TheVariants.{Done as Ended, No
 use Rattle.hx_script.specs.Lines.{Line, script_lines}
 use Rattle.hx_script.specs.Exchanges.{entries_of}
 use Rattle.hx_script.specs.Running.{Ran, Does, Cuts, OfScript, most_bytes}
+use Rattle.hx_model.proofs.Overrunning.{holds_throughout}
 use Rattle.hnc.proofs.Quiet.{quiet_settled}
 use Rattle.hnc.specs.Headline.{Leaves, LeavesWhole, LeavesFront, OfRun}
 
@@ -98,6 +99,7 @@ leaves words script rest lacking sink sink' keeper keeper' a b starts valid is r
       history = there.history;
       ends = there.ends;
       settled = quiet_settled (opening_world keeper.broken a.state) entries there.history;
+      limits = holds_throughout keeper.broken a.state entries starts.valid.in_order;
       says = ran.says;
       lacks = ran.lacks;
       wrote = ran.wrote;

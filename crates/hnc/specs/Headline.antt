@@ -14,6 +14,7 @@ use Rattle.hx_ports.specs.Causes.{Rose}
 use Rattle.hx_ports.specs.Views.{KeeperView, SinkView, SourceView}
 use Rattle.hx_words.specs.declared.RunWords.{RunWords}
 use Rattle.hx_model.specs.State.{State}
+use Rattle.hx_model.specs.Overruns.{KeepsLimits}
 use Rattle.hx_model.specs.Machine.{History, Checked, opening_world, IsHistory, replay, loses_to_fault}
 use Rattle.hx_model.specs.Settled.{IsSettled}
 use Rattle.hx_model.specs.Valid.{IsValid}
@@ -34,6 +35,7 @@ EndsQuiet (e ∷ next ∷ entries) = EndsQuiet (next ∷ entries)
 -- There is a first state, which is valid and under the configuration of the words: the one whose rows the keeper had, where it told them. There is one history of the machine from it, to a valid state. Its entries are those of the script's lines in order, each once, up to the rest.
 -- What is written are their answers, but for what is lacking of the last one. What the keeper holds is what the history leaves, and it is broken where the history says so; its count rose where a loss to a fault stands in the history, and stayed where none does.
 -- Where the history ends quiet, its last state is settled: each namespace that takes part holds exactly the copies and the tree labels that its place prescribes.
+-- At each entry where a subtree comes to use more of what quotas limit, and takes in no object, the limits of its quotas hold afterwards: what is admitted passes none.
 -- The keeper was undamaged. It is at the path of the words now, and it tells what it holds if it told before.
 pub record Leaves (run : RunWords) (script : List ℕ) (rest : List Line) (lacking : List ℕ) (sink sink' : SinkView) (keeper keeper' : KeeperView) : Type 0 where
   pub exchanges : List Exchange
@@ -48,6 +50,7 @@ pub record Leaves (run : RunWords) (script : List ℕ) (rest : List Line) (lacki
   pub history : IsHistory (opening_world keeper.broken first) (entries_of exchanges)
   pub ends : IsValid (replay (opening_world keeper.broken first) (entries_of exchanges)).state
   pub settled : EndsQuiet (entries_of exchanges) → IsSettled (replay (opening_world keeper.broken first) (entries_of exchanges)).state
+  pub limits : KeepsLimits (opening_world keeper.broken first) (entries_of exchanges)
   pub says : answer_lines exchanges ≡ text ++ lacking
   pub lacks : LacksLast exchanges lacking
   pub wrote : Appends sink.written sink'.written text
