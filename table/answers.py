@@ -13,228 +13,53 @@ The rule that a row on the tree breaks is written beside it too, and held agains
 import json
 import sys
 
+from quotas import quota_members, quotas
 from rules import Tree
-
-# ---- values and texts
-
-CORE = "v1"
-HNC = "hnc.x-k8s.io/v1alpha2"
-RBAC = "rbac.authorization.k8s.io/v1"
-NETWORKING = "networking.k8s.io/v1"
-
-VERSIONS = {
-    "Namespace": CORE,
-    "HNCConfiguration": HNC,
-    "HierarchyConfiguration": HNC,
-    "SubnamespaceAnchor": HNC,
-    "HierarchicalResourceQuota": HNC,
-    "Role": RBAC,
-    "RoleBinding": RBAC,
-    "ConfigMap": CORE,
-    "Secret": CORE,
-    "NetworkPolicy": NETWORKING,
-    "LimitRange": CORE,
-    "Pod": CORE,
-    "Service": CORE,
-    "PersistentVolumeClaim": CORE,
-}
-
-NAMESPACES = "/api/v1/namespaces"
-CONFIGS = "/apis/hnc.x-k8s.io/v1alpha2/hncconfigurations"
-HIERARCHIES_IN = "/apis/hnc.x-k8s.io/v1alpha2/namespaces/{}/hierarchyconfigurations"
-HIERARCHIES = HIERARCHIES_IN.format("acme")
-ALL_HIERARCHIES = "/apis/hnc.x-k8s.io/v1alpha2/hierarchyconfigurations"
-CONFIGMAPS = "/api/v1/namespaces/acme/configmaps"
-SECRETS = "/api/v1/namespaces/acme/secrets"
-ROLES = "/apis/rbac.authorization.k8s.io/v1/namespaces/acme/roles"
-SERVICES = "/api/v1/namespaces/acme/services"
-
-ACTIVE = {"phase": "Active"}
-
-
-def text(value):
-    """The compact JSON text, members in the order of their names."""
-    return json.dumps(value, sort_keys=True, separators=(",", ":"), ensure_ascii=False)
-
-
-def thing(kind, name, ns=None, labels=None, annotations=None, **members):
-    """An object without a version. What isn't given is left out."""
-    metadata = {"name": name, "namespace": ns, "labels": labels, "annotations": annotations}
-    metadata = {key: value for key, value in metadata.items() if value is not None}
-    return {"apiVersion": VERSIONS[kind], "kind": kind, "metadata": metadata, **members}
-
-
-def with_version(thing, version):
-    return {**thing, "metadata": {**thing["metadata"], "resourceVersion": str(version)}}
-
-
-def configmap(name, **members):
-    return thing("ConfigMap", name, "acme", **members)
-
-
-def namespace(name, **members):
-    return thing("Namespace", name, status=ACTIVE, **members)
-
-
-def get(target):
-    return f"GET {target}"
-
-
-def delete(target):
-    return f"DELETE {target}"
-
-
-def post(target, body):
-    return f"POST {target} {body if isinstance(body, str) else text(body)}"
-
-
-def put(target, body):
-    return f"PUT {target} {body if isinstance(body, str) else text(body)}"
-
-
-# ---- refusals: the status, the reason and the message, and of a rule its name
-
-NOT_JSON = (400, "BadRequest", "body is not JSON")
-NOT_WHOLE = (400, "BadRequest", "body has a number that is not whole")
-OTHER_PLACE = (400, "BadRequest", "body names another place")
-BAD_PATH = (400, "BadRequest", "bad path")
-BAD_LINE = (400, "BadRequest", "line in no form of the script")
-NO_PATH = (404, "NotFound", "path not served")
-NO_METHOD = (405, "MethodNotAllowed", "method not served here")
-TOO_LONG = (413, "RequestEntityTooLarge", "more than 131072 bytes")
-BAD_NAME = (422, "Invalid", "name is not allowed")
-BAD_LABEL = (422, "Invalid", "label or annotation is not allowed")
-TOO_MANY_LABELS = (422, "Invalid", "more than 256 labels")
-TOO_LARGE = (422, "Invalid", "object is larger than 65536 bytes")
-NOT_SERVED = (501, "NotImplemented", "not served")
-
-
-def not_kind(kind):
-    return (400, "BadRequest", f"body is not {kind}")
-
-
-def bad_query(parameter):
-    return (400, "BadRequest", f"bad query {parameter}")
-
-
-def missing(member):
-    return (422, "Invalid", f"{member} is missing")
-
-
-def wrong_type(member):
-    return (422, "Invalid", f"{member} has the wrong type")
-
-
-def not_found(resource, name):
-    return (404, "NotFound", f'{resource} "{name}" not found')
-
-
-def exists(resource, name):
-    return (409, "AlreadyExists", f'{resource} "{name}" already exists')
-
-
-def has_version(resource, name, version):
-    return (409, "Conflict", f'{resource} "{name}" has version {version}')
-
-
-# What a refusal says of a rule of admission.
-RULES = {
-    "N4": "the namespace is terminating",
-    "H7": "the name must be hierarchy",
-    "C1": "the name must be config",
-    "O1": "propagated copies cannot be made or changed",
-    "N3": "the subnamespace annotation cannot be changed",
-    "H1": "the new parent does not exist",
-    "H2": "the new parent is in the subtree of the namespace",
-    "H4": "the tree is halted",
-    "H6": "the namespace is excluded",
-    "H8": "the tree would be deeper than 64",
-    "C2": "the resource is unknown",
-    "C3": "the resource is named twice",
-    "C4": "the mode of this resource is fixed",
-    "C6": "the resource cannot be propagated",
-    "A2": "the namespace is excluded",
-    "A1": "the namespace exists elsewhere",
-    "A4": "the tree would be deeper than 64",
-    "A3": "the subnamespace has children",
-    "N1": "delete the anchor instead",
-    "N2": "cascading deletion is not allowed",
-    "H5": "a source would be overwritten", "C5": "a source would be overwritten", "O2": "a source would overwrite or be overwritten",
-    "O3": "the exception is not valid",
-}
-
-
-def broken(rule):
-    return (403, "Forbidden", RULES[rule], rule)
-
-
-class Table:
-    """The lines of a script, what they answer, and the last version that was given."""
-
-    def __init__(self):
-        self.lines = []
-        self.answers = []
-        self.version = 0
-        self.parts = []
-
-    def part(self, title):
-        self.parts.append([title, 0])
-        self.lines.append(f"# {title}".encode())
-
-    def silent(self, line):
-        """A line that answers nothing."""
-        self.parts[-1][1] += 1
-        self.lines.append(line if isinstance(line, bytes) else line.encode())
-
-    def answers_with(self, line, status, body):
-        self.silent(line)
-        self.answers.append(f"{status} {text(body)}")
-
-    def says(self, line, *answers):
-        """What a line of reconcilers answers, which may be several lines."""
-        self.silent(line)
-        self.answers += answers
-
-    def refuses(self, line, refusal):
-        status, reason, message, *rules = refusal
-        body = {"apiVersion": "v1", "code": status, "kind": "Status", "message": message, "metadata": {}, "reason": reason, "status": "Failure"}
-        for rule in rules:
-            body["details"] = {"rule": rule}
-        self.answers_with(line, status, body)
-
-    def shows(self, line, stored):
-        """The object as it is stored."""
-        self.answers_with(line, 200, stored)
-
-    def creates(self, line, made):
-        self.version += 1
-        stored = with_version(made, self.version)
-        self.answers_with(line, 201, stored)
-        return stored
-
-    def changes(self, line, made):
-        self.version += 1
-        stored = with_version(made, self.version)
-        self.answers_with(line, 200, stored)
-        return stored
-
-    def removes(self, line):
-        self.version += 1
-        self.answers_with(line, 200, {"apiVersion": "v1", "kind": "Status", "metadata": {"resourceVersion": str(self.version)}, "status": "Success"})
-
-    def lists(self, line, kind, items):
-        self.answers_with(line, 200, {"apiVersion": VERSIONS[kind], "items": items, "kind": f"{kind}List", "metadata": {"resourceVersion": str(self.version)}})
-
-    def tries(self, collection, rows):
-        """POSTs of bodies. What is created is removed by the next line; namespaces stay."""
-        for body, wanted in rows:
-            if isinstance(wanted, tuple):
-                self.refuses(post(collection, body), wanted)
-                continue
-            self.creates(post(collection, body), wanted)
-            if collection != NAMESPACES:
-                self.removes(delete(f"{collection}/{wanted['metadata']['name']}"))
-
+from script import (
+    ACTIVE,
+    ALL_HIERARCHIES,
+    BAD_LABEL,
+    BAD_LINE,
+    BAD_NAME,
+    BAD_PATH,
+    CONFIGMAPS,
+    CONFIGS,
+    HIERARCHIES,
+    HIERARCHIES_IN,
+    HNC,
+    NAMESPACES,
+    NOT_JSON,
+    NOT_SERVED,
+    NOT_WHOLE,
+    NO_METHOD,
+    NO_PATH,
+    OTHER_PLACE,
+    ROLES,
+    RULES,
+    SECRETS,
+    SERVICES,
+    TOO_LARGE,
+    TOO_LONG,
+    TOO_MANY_LABELS,
+    Table,
+    bad_query,
+    broken,
+    configmap,
+    delete,
+    exists,
+    get,
+    has_version,
+    missing,
+    namespace,
+    not_found,
+    not_kind,
+    post,
+    put,
+    text,
+    thing,
+    with_version,
+    wrong_type,
+)
 
 # ---- worked examples
 
@@ -272,17 +97,27 @@ STORED = [
         {"spec": None}, {"spec": None},
     ),
     (
+        "Pod", "pods", "/api/v1/namespaces/{}/pods", "web-0",
+        {"spec": {"containers": [{"name": "web", "image": "nginx", "resources": {"limits": {"cpu": 2}}}]}, "status": {"phase": "Running"}},
+        {"spec": {"containers": [{"image": "nginx", "name": "web", "resources": {"limits": {"cpu": 2}}}]}, "status": {"phase": "Running"}},
+        {"status": {"phase": "Failed"}}, {"status": {"phase": "Failed"}},
+    ),
+    (
+        "PersistentVolumeClaim", "persistentvolumeclaims", "/api/v1/namespaces/{}/persistentvolumeclaims", "data",
+        {"spec": {"resources": {"requests": {"storage": "5Gi"}}, "accessModes": []}}, {"spec": {"accessModes": [], "resources": {"requests": {"storage": "5Gi"}}}},
+        {"spec": {"resources": None}}, {"spec": {"resources": None}},
+    ),
+    (
+        "HierarchicalResourceQuota", "hierarchicalresourcequotas.hnc.x-k8s.io", "/apis/hnc.x-k8s.io/v1alpha2/namespaces/{}/hierarchicalresourcequotas", "few",
+        {"spec": {"hard": {"pods": 10, "limits.cpu": "1.5", "count/roles.rbac.authorization.k8s.io": "1k"}, "x": 1}, "status": {"used": {"pods": "7"}}},
+        {"spec": {"hard": {"count/roles.rbac.authorization.k8s.io": "1k", "limits.cpu": "1.5", "pods": "10"}}},
+        {"spec": {"hard": {}}}, {"spec": {"hard": {}}},
+    ),
+    (
         "Service", "services", "/api/v1/namespaces/{}/services", "web",
         {"spec": {"ports": [{"port": 80, "targetPort": -1}]}, "status": {"loadBalancer": {}}}, {"spec": {"ports": [{"port": 80, "targetPort": -1}]}, "status": {"loadBalancer": {}}},
         {"spec": []}, {"spec": []},
     ),
-]
-
-# The kinds that aren't stored yet: the resource, the paths in a namespace and in all, and the kind.
-UNWRITTEN = [
-    ("hierarchicalresourcequotas.hnc.x-k8s.io", "/apis/hnc.x-k8s.io/v1alpha2/{}hierarchicalresourcequotas", "HierarchicalResourceQuota"),
-    ("pods", "/api/v1/{}pods", "Pod"),
-    ("persistentvolumeclaims", "/api/v1/{}persistentvolumeclaims", "PersistentVolumeClaim"),
 ]
 
 
@@ -426,18 +261,6 @@ def order_of_lists(t):
     again = t.creates(post(path.format("beta"), thing("Role", "a")), thing("Role", "a", "beta"))
     t.lists(get("/apis/rbac.authorization.k8s.io/v1/roles"), "Role", [again])
     t.removes(delete(f"{path.format('beta')}/a"))
-
-
-def unwritten_kinds(t):
-    t.part("worked examples: kinds that aren't stored yet")
-    for resource, path, kind in UNWRITTEN:
-        here = path.format("namespaces/acme/")
-        t.refuses(post(here, thing(kind, "x")), NOT_SERVED)
-        t.refuses(put(f"{here}/x", thing(kind, "x")), NOT_SERVED)
-        t.refuses(get(f"{here}/x"), not_found(resource, "x"))
-        t.refuses(delete(f"{here}/x"), not_found(resource, "x"))
-        t.lists(get(here), kind, [])
-        t.lists(get(path.format("")), kind, [])
 
 
 USERS_METADATA = {"creationTimestamp": None, "generation": 3, "managedFields": [{"manager": "kubectl"}], "selfLink": "", "uid": "0-1", "ownerReferences": [], "finalizers": ["x"]}
@@ -1105,7 +928,7 @@ ORDERS = [
     ("GET /api/v1/namespaces/n/pod?labelSelector=,", NO_PATH),
     ("PUT /api/v1/pods?labelSelector=, {", NO_METHOD),
     ("GET /api/v1/namespaces/%ff/pods?labelSelector=,", BAD_PATH),
-    ("POST /api/v1/namespaces/n/pods?labelSelector=, {", NOT_SERVED),
+    ("POST /api/v1/namespaces/n/pods?labelSelector=, {", NOT_JSON),
     ("POST /api/v1/namespaces/n/configmaps?labelSelector=,&dryRun=All {", bad_query("dryRun")),
     ("DELETE /api/v1/namespaces/n?labelSelector=,", not_found("namespaces", "n")),
     ("POST /api/v1/namespaces/%ff/pods {", BAD_PATH),
@@ -1115,10 +938,10 @@ ORDERS = [
     ("DELETE /api/v1/namespaces/acme?dryRun=All", bad_query("dryRun")),
     ("POST /api/v1/namespaces/n/pods?dryRun=All {", bad_query("dryRun")),
     ("PUT /api/v1/namespaces/n/configmaps/a?admission=no {", bad_query("admission")),
-    ("POST /api/v1/namespaces/n/pods {", NOT_SERVED),
-    ("PUT /api/v1/namespaces/n/persistentvolumeclaims/A {", NOT_SERVED),
+    ("POST /api/v1/namespaces/n/pods {", NOT_JSON),
+    ("PUT /api/v1/namespaces/n/persistentvolumeclaims/A {", NOT_JSON),
     ("POST /apis/hnc.x-k8s.io/v1alpha2/namespaces/N/subnamespaceanchors", NOT_JSON),
-    ("PUT /apis/hnc.x-k8s.io/v1alpha2/namespaces/n/hierarchicalresourcequotas/a", NOT_SERVED),
+    ("PUT /apis/hnc.x-k8s.io/v1alpha2/namespaces/n/hierarchicalresourcequotas/a", NOT_JSON),
     ("DELETE /api/v1/namespaces/N", not_found("namespaces", "N")),
     ("POST /api/v1/namespaces/none/configmaps {", NOT_JSON),
 ]
@@ -2032,7 +1855,7 @@ def copies(t):
         t.refuses(post(here, thing(kind, name, labels=COPIED, **said)), exists(resource, name))
         t.refuses(put(one, with_version(thing(kind, name, labels=COPIED, **said), t.version - 1)), has_version(resource, name, t.version))
         t.refuses(put(one, thing(kind, name, labels=COPIED, **said)), broken("O1"))
-        t.refuses(put(f"{one}?admission=skip", thing(kind, name, labels=COPIED)), broken("O1"))
+        t.refuses(put(f"{one}?admission=skip", thing(kind, name, labels=COPIED, **said)), broken("O1"))
         t.shows(get(one), stored)
         t.removes(delete(one))
     acme = f"{NAMESPACES}/acme"
@@ -2076,7 +1899,7 @@ def exceptions(t):
     for kind, _, path, name, said, kept, _, _ in STORED:
         here = path.format("acme")
         one = f"{here}/{name}"
-        if kind == "Service":
+        if kind in ("HierarchicalResourceQuota", "Pod", "Service", "PersistentVolumeClaim"):
             # exceptions of what isn't copied say nothing
             t.tries(here, [(thing(kind, name, annotations=wrong, **said), thing(kind, name, "acme", annotations=wrong, **kept))])
             continue
@@ -2478,10 +2301,10 @@ PARTS = [
     hierarchies,
     stored_kinds,
     order_of_lists,
-    unwritten_kinds,
     users_members,
     bodies,
     own_members,
+    quota_members,
     replacements,
     names,
     labels,
@@ -2502,6 +2325,7 @@ PARTS = [
     conflicts,
     anchors,
     deletion,
+    quotas,
     silent_lines,
     line_ends,
     line_forms,

@@ -8,6 +8,8 @@ mod bodies;
 #[cfg(test)]
 mod charges;
 #[cfg(test)]
+mod counters;
+#[cfg(test)]
 mod forests;
 #[cfg(test)]
 mod graphs;

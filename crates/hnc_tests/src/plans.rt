@@ -1,7 +1,7 @@
 // A plan of each kind of key that has facts, made with ample memory from a brief made by hand.
 use crate::stores::object;
 use hx_model::{Key, Write};
-use hx_object::{Id, Kind, List, Mode, NoMemory, Object, Pairs, Payload, Shared, Text};
+use hx_object::{Condition, Id, Kind, List, Mode, NoMemory, Object, Pairs, Payload, Shared, Text};
 use hx_rules::{Brief, Facts, Plan, SharedBrief, plan};
 use std::alloc::Global;
 use std::test::Fail;
@@ -88,6 +88,25 @@ fn brief_of_child(alloc: Global) -> Result<Brief, NoMemory> {
     })
 }
 
+/// The brief of what is told of team, which has a child and a parent that isn't there.
+fn brief_of_report(alloc: Global) -> Result<Brief, NoMemory> {
+    let children = Vec::from_array(alloc, [Text::of(alloc, "app")?])?;
+    let conditions = Vec::from_array(alloc, [Condition::ParentMissing])?;
+    Ok(Brief {
+        key: Key::Report {
+            ns: Text::of(alloc, "team")?,
+        },
+        seen: 3,
+        guards: List::of(Vec::new(alloc)),
+        facts: Facts::Report {
+            is_calm: true,
+            hierarchy: None,
+            children: List::of(children),
+            conditions: List::of(conditions),
+        },
+    })
+}
+
 /// The brief of the removal of acme, in which nothing lies any more.
 fn brief_of_purge(alloc: Global) -> Result<Brief, NoMemory> {
     Ok(Brief {
@@ -141,6 +160,32 @@ fn makes_subnamespace(alloc: Global) -> Result<bool, NoMemory> {
     })
 }
 
+/// Whether a payload tells one child and one condition.
+fn tells(payload: &Payload) -> bool {
+    match payload {
+        Payload::Hierarchy {
+            children,
+            conditions,
+            ..
+        } => {
+            children.as_slice().len() == 1
+                && conditions.as_slice().first() == Some(&Condition::ParentMissing)
+        }
+        _ => false,
+    }
+}
+
+fn tells_of_namespace(alloc: Global) -> Result<bool, NoMemory> {
+    let planned = plan(alloc, SharedBrief::new(alloc, brief_of_report(alloc)?)?);
+    let Ok(plan) = &planned else {
+        return Ok(false);
+    };
+    Ok(match plan.write() {
+        Some(Write::Put(object)) => tells(&object.payload),
+        _ => false,
+    })
+}
+
 fn removes_namespace(alloc: Global) -> Result<bool, NoMemory> {
     let planned = plan(alloc, SharedBrief::new(alloc, brief_of_purge(alloc)?)?);
     let Ok(plan) = &planned else {
@@ -157,6 +202,7 @@ fn plans(rt: HostRuntime) -> Result<(), Fail> {
     assert!(rt; puts_copy(rt.alloc())?);
     assert!(rt; puts_tree_labels(rt.alloc())?);
     assert!(rt; makes_subnamespace(rt.alloc())?);
+    assert!(rt; tells_of_namespace(rt.alloc())?);
     assert!(rt; removes_namespace(rt.alloc())?);
     Ok(())
 }

@@ -1,8 +1,8 @@
 // Quantities, by the grammar that the Kubernetes documentation gives them (`resource.Quantity`), without signs and exponents.
 ghost use Rattle.std.specs.Prelude.{◌<◌};
 
-use hx_object::NoMemory;
-use hx_quantity::{QuantityFault, print, read};
+use hx_object::{NoMemory, QuantityFault};
+use hx_quantity::{print, read};
 use std::alloc::Global;
 use std::test::Fail;
 

@@ -50,7 +50,8 @@ fn requests(rt: HostRuntime) -> Result<(), Fail> {
         (Method::Get, "/api/v1/namespaces/%ff", Err(400)),
         (Method::Get, "/api/v1/services?watch=1", Err(400)),
         (Method::Delete, "/api/v1/namespaces/a", Ok("delete")),
-        (Method::Post, "/api/v1/namespaces/a/pods", Err(501)),
+        (Method::Post, "/api/v1/namespaces/a/pods", Err(400)),
+        (Method::Get, "/hnc/v1/events?since=0", Err(501)),
     ] {
         let found = reading(&mut reader, method, target);
         assert!(rt; found == wanted, "{target}");

@@ -1,0 +1,76 @@
+#!/usr/bin/env python3
+"""Processor time per request of `hnc run` where quotas limit Pods.
+
+Usage: bench/quotas.py PROGRAM
+PROGRAM is the built program, which bin/hnc leaves as crates/hnc/out/hnc.
+Prints one line per comparison: the time per request at each size, and their ratio. A tree is a root and columns of namespaces, each the parent
+of the next one. A Pod is made in a leaf and removed again, and both requests count: under a quota in each namespace of its chain, in 1,025
+namespaces of depth 8 and of depth 64; under a quota in the root and one in the leaf's column, beside Pods in all namespaces, at 4,096 namespaces
+and 60,960 Pods against a sixteenth of both; and there without quotas. They come in shuffled order and in parts of 62 requests, in turns at the
+small and the large size. The least of 16 parts counts. Everything runs on one processor.
+"""
+import os
+import sys
+
+from program import Kind, compare, remove
+from trees import Columns
+
+POD = Kind("v1", "Pod", "pods")
+QUOTA = Kind("hnc.x-k8s.io/v1alpha2", "HierarchicalResourceQuota", "hierarchicalresourcequotas")
+CONTAINERS = {"containers": [{"name": "main", "resources": {"requests": {"cpu": "250m", "memory": "64Mi"}}}]}
+LIMITS = {"pods": "1M", "requests.cpu": "1M", "requests.memory": "1Pi"}
+DEPTHS = (8, 64)
+DEPTH = 8
+SIZES = (256, 4_096)
+# In so many namespaces of each tree.
+FILLED = (254, 4_064)
+PODS = 15
+
+
+def pod(ns, name):
+    return f"POST {POD.path(ns)} {POD.body(name, spec=CONTAINERS)}\n"
+
+
+def quota(ns):
+    return f"POST {QUOTA.path(ns)} {QUOTA.body('limits', spec={'hard': LIMITS})}\n"
+
+
+def comes_and_goes(tree):
+    """Pods that are made and removed, by turns, in the leaves."""
+    for column, turn in tree.shuffled():
+        ns, name = tree.at(column, tree.depth), f"p{turn}"
+        yield pod(ns, name)
+        yield remove(ns, name, POD)
+
+
+def along_chains(program):
+    trees = [Columns(program, 1_024 // depth, depth) for depth in DEPTHS]
+    for tree in trees:
+        tree.ask([quota(f"n{i}") for i in range(1_025)])
+    compare("POST and DELETE of a Pod under a quota at each level", [f"depth {depth}" for depth in DEPTHS], trees, comes_and_goes, 62, 16)
+    for tree in trees:
+        tree.close()
+
+
+def in_large_trees(program):
+    trees = [Columns(program, (namespaces - 1) // DEPTH, DEPTH, namespaces) for namespaces in SIZES]
+    names = [f"{namespaces:,} namespaces" for namespaces in SIZES]
+    for tree, filled in zip(trees, FILLED):
+        tree.ask([pod(f"n{i}", f"q{at}") for i in range(filled) for at in range(PODS)])
+    compare("POST and DELETE of a Pod without quotas", names, trees, comes_and_goes, 62, 16)
+    for tree in trees:
+        tree.ask([quota("n0")] + [quota(f"n{i * DEPTH + 1}") for i in tree.columns])
+    compare("POST and DELETE of a Pod under two quotas", names, trees, comes_and_goes, 62, 16)
+    for tree in trees:
+        tree.close()
+
+
+def main():
+    program = sys.argv[1]
+    os.sched_setaffinity(0, {max(os.sched_getaffinity(0))})
+    along_chains(program)
+    in_large_trees(program)
+
+
+if __name__ == "__main__":
+    main()
