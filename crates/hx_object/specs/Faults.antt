@@ -1,14 +1,14 @@
 -- What makes an object illegal.
 --     object_fault     the first fault of an object
 --     IsLegal          an object without fault, whose payload is one of its kind
-use Rattle.std.specs.Prelude.{◌≡◌, ◌≤◌, ℕ, Bool, true, not, ◌&&◌, ◌||◌, nat_lt, List, [], codes, length, map, Option, Some, None, Ok, if◌then◌else◌}
+use Rattle.std.specs.Prelude.{◌≡◌, ◌≤◌, ◌<◌, ◌^◌, ℕ, Bool, true, not, ◌&&◌, ◌||◌, nat_lt, List, [], codes, length, map, Option, Some, None, Ok, if◌then◌else◌}
 use Rattle.std.specs.List.{AllByRecursion, list_all}
 use Rattle.serde_json.specs.Data.{object, Members, depth}
 use Rattle.serde_json.specs.Find.{get_member}
 use Rattle.serde_json.specs.Read.{max_depth}
 use Rattle.serde_json.specs.Written.{compact_text}
 use Rattle.hx_object.specs.Canonical.{IsCanonical}
-use Rattle.hx_object.specs.Json.{limit_pair}
+use Rattle.hx_object.specs.Json.{hard_pair, limit_pair}
 use Rattle.hx_object.specs.Kinds.{is_in_cluster, is_plain}
 use Rattle.hx_object.specs.Names.{is_dns_label, is_name_of, is_label_key, is_label_value, is_annotation_key}
 use Rattle.hx_object.specs.Needs.{need_of}
@@ -21,6 +21,7 @@ use Rattle.hx_object.specs.declared.object.Id.{Id}
 use Rattle.hx_object.specs.declared.object.Object.{Object}
 use Rattle.hx_object.specs.declared.object.Limit.{Limit}
 use Rattle.hx_object.specs.declared.object.Need.{Need}
+use Rattle.hx_object.specs.declared.object.Usage.{Usage}
 use Rattle.hx_object.specs.declared.object.ObjectFault.{ObjectFault}
 use Rattle.hx_object.specs.declared.object.ObjectFault.TheVariants.{BadName, BadLabel, TooManyLabels, TooLarge}
 use Rattle.hx_object.specs.declared.object.Payload.{Payload}
@@ -74,13 +75,18 @@ pub record IsPlain (kind : Kind) (members : List ℕ) (need : Need) : Type 0 whe
 abbrev pub IsLimit : Limit → Type 0
 IsLimit limit = quantity_of limit.written ≡ Ok limit.amount
 
--- the payload is one of the kind
+-- a usage's amounts are ones that are counted
+abbrev pub IsUsage : Usage → Type 0
+IsUsage usage = (usage.hard < 2 ^ 64) × (usage.used < 2 ^ 128)
+
+-- the payload is one of the kind. Limits and usages stand in order of their names
 abbrev pub IsPayloadOf : Kind → Payload → Type 0
 IsPayloadOf kind (NamespaceOf terminating) = kind ≡ Namespace
 IsPayloadOf kind (Config entries) = kind ≡ HncConfiguration
 IsPayloadOf kind (Hierarchy parent cascade children conditions) = (kind ≡ HierarchyConfiguration) × ((parent ≡ Some []) → ⊥)
 IsPayloadOf kind (Anchor status) = kind ≡ SubnamespaceAnchor
-IsPayloadOf kind (Quota hard status) = (kind ≡ HierarchicalResourceQuota) × (has_ascending_keys (map limit_pair hard) ≡ true) × AllByRecursion IsLimit hard
+IsPayloadOf kind (Quota hard status) =
+    (kind ≡ HierarchicalResourceQuota) × (has_ascending_keys (map limit_pair hard) ≡ true) × AllByRecursion IsLimit hard × (has_ascending_keys (map hard_pair status) ≡ true) × AllByRecursion IsUsage status
 IsPayloadOf kind (Plain members need) = (is_plain kind ≡ true) × IsPlain kind members need
 
 -- an object without fault, whose payload is one of its kind, and that lies in a namespace exactly where its kind asks for one

@@ -9,11 +9,13 @@ use Rattle.serde_json.specs.Data.{Data, boolean, string, array, object, Items, n
 use Rattle.serde_json.specs.Read.{read}
 use Rattle.serde_json.specs.Written.{compact_text}
 use Rattle.hx_object.specs.Kinds.{name_of, api_version_of}
+use Rattle.hx_object.specs.Quantities.{quantity_text}
 use Rattle.hx_object.specs.declared.object.Object.{Object}
 use Rattle.hx_object.specs.declared.object.Payload.{Payload}
 use Rattle.hx_object.specs.declared.object.Payload.TheVariants.{Namespace, Config, Hierarchy, Anchor, Quota, Plain}
 use Rattle.hx_object.specs.declared.object.ModeEntry.{ModeEntry}
 use Rattle.hx_object.specs.declared.object.Limit.{Limit}
+use Rattle.hx_object.specs.declared.object.Usage.{Usage}
 use Rattle.hx_object.specs.declared.object.Mode.{Mode}
 use Rattle.hx_object.specs.declared.object.Mode.TheVariants.{Propagate, AllowPropagate, Remove, Ignore}
 use Rattle.hx_object.specs.declared.object.Condition.{Condition}
@@ -125,6 +127,18 @@ limit_pair limit = (limit.resource, limit.written)
 abbrev pub limits_members : List Limit → Members
 limits_members limits = pairs_members (map limit_pair limits)
 
+-- a resource and its limit, as it is reported
+abbrev pub hard_pair : Usage → List ℕ × List ℕ
+hard_pair usage = (usage.resource, quantity_text usage.hard)
+
+-- a resource and what is used of it
+abbrev pub used_pair : Usage → List ℕ × List ℕ
+used_pair usage = (usage.resource, quantity_text usage.used)
+
+-- what is reported of a quota
+abbrev pub quota_status : List Usage → Members
+quota_status usages = unless_empty (codes "hard") (pairs_members (map hard_pair usages)) (unless_empty (codes "used") (pairs_members (map used_pair usages)) no_members)
+
 -- what is specified of a HierarchyConfiguration
 abbrev pub hierarchy_spec : Option (List ℕ) → Bool → Members
 hierarchy_spec parent cascade = if_true (codes "allowCascadingDeletion") cascade (if_there (codes "parent") parent no_members)
@@ -147,7 +161,7 @@ specified_members (Anchor status) = no_members
 specified_members (Quota hard status) = member (codes "spec") (object (member (codes "hard") (object (limits_members hard)) no_members)) no_members
 specified_members (Plain members need) = members_in (read members)
 
--- the members beside `apiVersion`, `kind` and `metadata`. A quota's status is written once usage is reported
+-- the members beside `apiVersion`, `kind` and `metadata`
 abbrev pub own_members : Payload → Members
 own_members (Namespace terminating) = member (codes "status") (object (member (codes "phase") (string (phase_of terminating)) no_members)) no_members
 own_members (Config entries) = specified_members (Config entries)
@@ -155,7 +169,8 @@ own_members (Hierarchy parent cascade children conditions) =
     member (codes "spec") (object (hierarchy_spec parent cascade)) (unless_empty (codes "status") (hierarchy_status children conditions) no_members)
 own_members (Anchor None) = no_members
 own_members (Anchor (Some status)) = member (codes "status") (object (member (codes "status") (string (anchor_text status)) no_members)) no_members
-own_members (Quota hard status) = specified_members (Quota hard status)
+own_members (Quota hard status) =
+    member (codes "spec") (object (member (codes "hard") (object (limits_members hard)) no_members)) (unless_empty (codes "status") (quota_status status) no_members)
 own_members (Plain members need) = specified_members (Plain members need)
 
 -- an object

@@ -4,7 +4,7 @@
 --     resource_of    the plural, and behind a point the group where it isn't the core group
 --     api_version_of the version, behind the group and a slash where it isn't the core group
 --     kind_of_plural the kind of a plural
---     is_namespace, is_hierarchy, is_anchor      the kinds that the rules single out
+--     is_namespace, is_hierarchy, is_anchor, is_quota      the kinds that the rules single out
 --     can_be_copied, is_plain        groups of kinds
 use Rattle.std.specs.Prelude.{ℕ, Bool, true, false, List, [], ◌∷◌, ◌++◌, codes, find, Option}
 use Rattle.std.specs.Str.{bytes_eq}
@@ -116,6 +116,10 @@ is_hierarchy _ = false
 abbrev pub is_anchor : Kind → Bool
 is_anchor SubnamespaceAnchor = true
 is_anchor _ = false
+
+abbrev pub is_quota : Kind → Bool
+is_quota HierarchicalResourceQuota = true
+is_quota _ = false
 
 -- objects of these kinds are copied down a tree
 abbrev pub can_be_copied : Kind → Bool

@@ -1,11 +1,12 @@
 -- Quantities, as the Kubernetes API writes them, without signs and exponents. An amount is a number of thousandths.
 --     quantity_of text        the amount that a text is, or the first fault of the text
+--     quantity_text amount    the text of an amount
 -- The grammar:
 --     quantity = number [suffix]
 --     number   = digits | digits "." | "." digits | digits "." digits
 -- and `factors` has the suffixes.
 use Prim.Native.String.{String}
-use Rattle.std.specs.Prelude.{ℕ, ◌-◌, ◌*◌, ◌^◌, Bool, ◌&&◌, ◌==◌, nat_eq, nat_le, List, [], ◌∷◌, ◌++◌, length, take, drop, codes, slice_index, Option, Some, None, Result, Ok, Err, if◌then◌else◌}
+use Rattle.std.specs.Prelude.{ℕ, ◌-◌, ◌*◌, ◌^◌, ◌/◌, ◌%◌, Bool, ◌&&◌, ◌==◌, nat_eq, nat_le, List, [], ◌∷◌, ◌++◌, length, take, drop, codes, decimal, slice_index, Option, Some, None, Result, Ok, Err, if◌then◌else◌}
 use Rattle.std.specs.Int.{div_ceil}
 use Rattle.std.specs.List.{prefix_len}
 use Rattle.std.specs.Map.{lookup}
@@ -102,3 +103,9 @@ quantity_by written (Some factor) =
 -- the amount that a text is, or its first fault
 unfoldable pub quantity_of : List ℕ → Result ℕ QuantityFault
 quantity_of text = quantity_by (written_of text) (factor_of (written_of text).suffix)
+
+-- ---- what is printed
+
+-- an amount's text: in whole units where 1,000 divides it, else in thousandths
+unfoldable pub quantity_text : ℕ → List ℕ
+quantity_text amount = if amount % 1000 == 0 then decimal (amount / 1000) else decimal amount ++ codes "m"

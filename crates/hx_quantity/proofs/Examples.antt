@@ -4,8 +4,7 @@ use Rattle.std.specs.Prelude.{replicate}
 use Rattle.std.specs.Fmt.{digits}
 use Rattle.hx_object.specs.declared.quantity.QuantityFault.{QuantityFault}
 use Rattle.hx_object.specs.declared.quantity.QuantityFault.TheVariants.{Syntax, TooLong, TooLarge}
-use Rattle.hx_object.specs.Quantities.{factor_of, quantity_of}
-use Rattle.hx_quantity.specs.Quantities.{quantity_text}
+use Rattle.hx_object.specs.Quantities.{factor_of, quantity_of, quantity_text}
 
 -- a text has an amount
 abbrev amounts : List ℕ → ℕ → Type 0

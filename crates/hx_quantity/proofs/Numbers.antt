@@ -50,15 +50,16 @@ pub record Grows (ds : List ℕ) (i : ℕ) : Type 0 where
   pub digit : IsDigit (get_or ds i 0)
   pub few : digits_value 10 (take i ds) * 10 + (get_or ds i 0 - 48) < 10 ^ 18
 
+pub one-more : (ds : List ℕ) (i : ℕ) → list_all is_digit ds ≡ true → i < length ds → digits_value 10 (take (i + 1) ds) ≡ digits_value 10 (take i ds) * 10 + (get_or ds i 0 - 48)
+one-more ds i e h = digits_value_more 10 ds i h ∙ ap (λ d. digits_value 10 (take i ds) * 10 + d) (value_of_digit (get_or ds i 0) (digits_at ds i e h))
+
 pub grows : (ds : List ℕ) (i : ℕ) → list_all is_digit ds ≡ true → length ds ≤ 18 → i < length ds → Grows ds i
 grows ds i e few h =
-    let is = digits_at ds i e h in
-    let value : digits_value 10 (take (i + 1) ds) ≡ digits_value 10 (take i ds) * 10 + (get_or ds i 0 - 48) =
-    digits_value_more 10 ds i h ∙ ap (λ d. digits_value 10 (take i ds) * 10 + d) (value_of_digit (get_or ds i 0) is) in
+    let value = one-more ds i e h in
     let below = digits_value-lt 10 (take (i + 1) ds) (first_digits (i + 1) ds e) in
     let len : length (take (i + 1) ds) ≤ 18 = omega (arith, length-take (i + 1) ds) in
     let room : 10 ^ length (take (i + 1) ds) ≤ 10 ^ 18 = pow-le-pow_right {n = 10} (omega arith) len in
-    record { value = value; digit = is; few = omega (arith, below, room, value) }
+    record { value = value; digit = digits_at ds i e h; few = omega (arith, below, room, value) }
 
 -- digits stand for less than the next power of ten
 pub below : (ds : List ℕ) → list_all is_digit ds ≡ true → digits_value 10 ds < 10 ^ length ds

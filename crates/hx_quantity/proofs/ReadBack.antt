@@ -14,10 +14,9 @@ use Rattle.std.proofs.lemmas.Nat.{div-add-mod'}
 use Rattle.std.proofs.lemmas.Str.Parse.{IsNumeralModel, numerals_by_value}
 use Rattle.hx_object.specs.Names.{is_digit, point}
 use Rattle.hx_object.specs.declared.quantity.QuantityFault.TheVariants.{TooLong}
-use Rattle.hx_object.specs.Quantities.{Factor, Written, amount_of, digits_len, factor_of, quantity_by, quantity_of, scaled, written_of}
-use Rattle.hx_quantity.specs.Quantities.{quantity_text}
+use Rattle.hx_object.specs.Quantities.{Factor, Written, amount_of, digits_len, factor_of, quantity_by, quantity_of, scaled, written_of, quantity_text}
 
-digits-then : (ds rest : List ℕ) → list_all is_digit ds ≡ true → digits_len rest ≡ 0 → digits_len (ds ++ rest) ≡ length ds
+pub digits-then : (ds rest : List ℕ) → list_all is_digit ds ≡ true → digits_len rest ≡ 0 → digits_len (ds ++ rest) ≡ length ds
 digits-then [] rest all none = none
 digits-then (d ∷ ds) rest all none = by (is_digit d) all (digits-then ds rest)
   where
@@ -51,7 +50,7 @@ reads ds rest factor amount all some short none other stands is small =
 exact : (n k : ℕ) → 0 < k → div_ceil (n * k) k ≡ n
 exact n k some = rw (mul-div_left n some, mul-mod_left n k) (omega arith)
 
-own : IsNumeralModel (λ ds. list_all is_digit ds ≡ true) (digits_value 10)
+pub own : IsNumeralModel (λ ds. list_all is_digit ds ≡ true) (digits_value 10)
 own = numerals_by_value _ (search rules)
 
 -- the digits of a number

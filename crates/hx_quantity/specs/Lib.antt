@@ -1,2 +1,2 @@
-pub mod Quantities
 pub mod Inside
+pub mod Printed

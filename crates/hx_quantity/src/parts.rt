@@ -37,7 +37,7 @@ pub(crate) fn parts_of(text: &[u8]) -> Parts<'_>
 }
 
 /// The digits that a text begins with, and what follows them.
-fn cut_digits(text: &[u8]) -> (&[u8], &[u8])
+pub(crate) fn cut_digits(text: &[u8]) -> (&[u8], &[u8])
     ensures first { result.0.now ≡ take (digits_len text.now) text.now }
     ensures behind { result.1.now ≡ drop (digits_len text.now) text.now }
     ensures digits { list_all is_digit result.0.now ≡ true }

@@ -1,17 +1,15 @@
 // Quantities.
-ghost use Rattle.std.specs.Prelude.{◌≡◌, ◌<◌, ◌≤◌, ◌*◌, ◌^◌, true, IfOk, decimal, length};
+ghost use Rattle.std.specs.Prelude.{◌≡◌, ◌<◌, ◌≤◌, ◌*◌, ◌^◌, true, length};
 ghost use Rattle.std.specs.Int.{div_ceil};
 ghost use Rattle.std.specs.List.{list_all};
 ghost use Rattle.std.specs.Str.Parse.{digits_value};
 ghost use Rattle.hx_object.specs.Names.{is_digit};
 ghost use Rattle.hx_quantity.specs.Inside.{times, written};
 ghost use Rattle.hx_object.specs.Quantities.{amount_of, number_of, quantity_of, scaled};
-ghost use Rattle.hx_quantity.specs.Quantities.{quantity_text};
 
 use crate::factor::{Factor, factor_of};
 use crate::parts::{Parts, parts_of};
-use hx_object::{NoMemory, QuantityFault, Text};
-use std::alloc::Global;
+use hx_object::QuantityFault;
 
 /// How many digits may stand before the point.
 const MOST_WHOLE: usize = 18;
@@ -91,17 +89,4 @@ fn divisor(places: u32, factor: Factor) -> u128
     ensures few { result ≤ 2 ^ 62 }
 {
     factor.over as u128 * 10u128.pow(places)
-}
-
-/// The canonical text of an amount in thousandths: in whole units where it is whole, else in thousandths.
-#[tactic(auto, unfolding(crate::specs::Quantities::quantity_text))]
-pub fn print(alloc: Global, amount: u128) -> Result<Text, NoMemory>
-    ensures { IfOk result (λ text. text ≡ quantity_text amount) }
-{
-    if amount.is_multiple_of(1_000) {
-        return Ok(Text::of_string((amount / 1_000).to_string(alloc)?));
-    }
-    let mut text = amount.to_string(alloc)?;
-    text.push_str("m")?;
-    Ok(Text::of_string(text))
 }
