@@ -1,7 +1,8 @@
 // What an object is charged.
-ghost use Rattle.std.specs.Prelude.{◌≡◌};
+ghost use Rattle.std.specs.Prelude.{◌≡◌, option_copied};
 ghost use Rattle.hx_object.specs.Kinds.{is_plain};
 ghost use Rattle.hx_model.specs.Charges.{charge_of, charge_by, is_charged, is_running, is_unstated, is_pod, asked_of, one_of, kind_for, resources_for};
+ghost use Rattle.hx_model.specs.Quotas.{charge_before};
 
 use crate::asks::{ask_of, asked_by, lacks};
 use crate::payload::{containers_in, is_finished, storage_in};
@@ -28,6 +29,16 @@ pub fn charge(object: &Object, resource: Resource) -> u128
         charge_by(object.id.kind, &object.payload, resource)
     } else {
         0
+    }
+}
+
+/// The same of what is found in a place: 0, where nothing is.
+pub fn charge_before(old: Option<&Object>, resource: Resource) -> u128
+    ensures { result ≡ charge_before (option_copied old.entry) resource }
+{
+    match old {
+        Some(object) => charge(object, resource),
+        None => 0,
     }
 }
 

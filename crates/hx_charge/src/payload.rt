@@ -1,8 +1,18 @@
-// What was read from the members of an object.
+// What payloads hold that quotas look at.
 ghost use Rattle.std.specs.Prelude.{◌≡◌};
-ghost use Rattle.hx_model.specs.Charges.{is_finished, storage_in, containers_in};
+ghost use Rattle.hx_model.specs.Charges.{hard_of, is_finished, storage_in, containers_in};
 
-use hx_object::{Container, Payload};
+use hx_object::{Container, Limit, Payload};
+
+/// The limits of a quota, in order of their names.
+pub fn hard_of(payload: &Payload) -> &[Limit]
+    ensures { result.now ≡ hard_of payload.now }
+{
+    match payload {
+        Payload::Quota { hard, .. } => hard.as_slice(),
+        _ => &[],
+    }
+}
 
 /// Whether a Pod has ended.
 pub(crate) fn is_finished(payload: &Payload) -> bool

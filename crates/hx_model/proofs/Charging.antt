@@ -1,16 +1,20 @@
 -- Which objects are charged for a resource.
 --     charged_elsewhere     objects of another kind than the resource's are charged nothing
+--     sum_listed            so what objects of a subtree are charged is the sum over those of one kind
 --     uncharged             what holds for no resource of a kind holds for none that its objects are charged for
-use Rattle.std.proofs.Common.{◌≡◌, ℕ, Bool, true, false, ◌||◌, List, [], ◌∷◌, None, refl, ap, sym, ◌∙◌, inl, inr, ◌⊎◌, true≢false}
+use Rattle.std.proofs.Common.{◌≡◌, ℕ, Bool, true, false, cond, ◌||◌, List, [], ◌∷◌, filter, sum_by, None, refl, ap, sym, ◌∙◌, inl, inr, ◌⊎◌, arith, true≢false}
 use Rattle.std.specs.Prelude.{if◌then◌else◌, ◌==◌, ◌&&◌}
 use Rattle.std.specs.List.{list_any}
+use Rattle.std.proofs.lemmas.List.Sums.{sum_by-cons}
 use Rattle.hx_object.specs.Kinds.{number_of}
 use Rattle.hx_object.specs.declared.kind.Kind.{Kind}
 use Rattle.hx_object.specs.declared.kind.Kind.TheVariants as of
 use Rattle.hx_object.specs.declared.object.Object.{Object}
 use Rattle.hx_object.specs.declared.object.Payload.{Payload}
 use Rattle.hx_model.specs.Charges.{charge_of, charge_by, is_charged, kind_for, resources_for}
-use Rattle.hx_model.specs.State.{is_listed}
+use Rattle.hx_model.specs.Forest.{Forest, in_chain}
+use Rattle.hx_model.specs.Quotas.{charge_below}
+use Rattle.hx_model.specs.State.{Objects, is_listed}
 use Rattle.hx_model.specs.declared.resource.Resource.{Resource}
 use Rattle.hx_model.specs.declared.resource.Resource.TheVariants.{Pods, RequestsCpu, RequestsMemory, LimitsCpu, LimitsMemory, RequestsStorage, CountRoles, CountRoleBindings, CountConfigMaps, CountSecrets, CountNetworkPolicies, CountLimitRanges, CountPods, CountServices, CountClaims}
 
@@ -50,6 +54,26 @@ and_true false = refl
 pub charged_elsewhere : (r : Resource) (x : Object) → is_listed (kind_for r) None x ≡ false → charge_of x r ≡ 0
 unfolding charge_of
 charged_elsewhere r x other = nothing (is_charged x) (charge_by x.id.kind x.payload r) (by_kind r x.id.kind x.payload (sym (and_true (number_of (kind_for r) == number_of x.id.kind)) ∙ other))
+
+-- ---- sums
+
+sum_kept : (f : Object → ℕ) (p : Object → Bool) → ((x : Object) → p x ≡ false → f x ≡ 0) → (xs : Objects) → sum_by f (filter p xs) ≡ sum_by f xs
+sum_kept f p free [] = refl
+sum_kept f p free (x ∷ xs) =
+    elim (p x) as (λ b. p x ≡ b → sum_by f (cond b (x ∷ filter p xs) (filter p xs)) ≡ sum_by f (x ∷ xs)) [
+      | true ↦ λ _. omega (arith, sum_by-cons f x (filter p xs), sum_by-cons f x xs, sum_kept f p free xs)
+      | false ↦ λ e. omega (arith, sum_by-cons f x xs, sum_kept f p free xs, free x e)
+    ] refl
+
+uncharged_below : (f : Forest) (a : List ℕ) (r : Resource) (x : Object) → is_listed (kind_for r) None x ≡ false → charge_below f a r x ≡ 0
+uncharged_below f a r x other = by (in_chain f x.id.ns a)
+  where
+    by : (b : Bool) → (if b then charge_of x r else 0) ≡ 0
+    by true = charged_elsewhere r x other
+    by false = refl
+
+pub sum_listed : (f : Forest) (a : List ℕ) (r : Resource) (objects : Objects) → sum_by (charge_below f a r) (filter (is_listed (kind_for r) None) objects) ≡ sum_by (charge_below f a r) objects
+sum_listed f a r objects = sum_kept (charge_below f a r) (is_listed (kind_for r) None) (uncharged_below f a r) objects
 
 -- ---- resources of other kinds
 

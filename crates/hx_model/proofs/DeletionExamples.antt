@@ -11,6 +11,7 @@ use Rattle.std.specs.Prelude.{codes}
 use Rattle.std.proofs.Common.{◌≡◌, ℕ, zero, suc, ◌+◌, ◌-◌, Bool, true, false, true≢false, sym, List, [], ◌∷◌, ◌++◌, Option, None, Some, refl, ap, ◌∙◌, subst, arith}
 use Rattle.std.specs.List.{AllByRecursion}
 use Rattle.std.specs.Fmt.{digits}
+use Rattle.hx_object.specs.Kinds.{is_quota}
 use Rattle.hx_object.specs.Sizes.{is_tree_key, is_reconciled_key, is_counted, size_of}
 use Rattle.hx_object.specs.WellKnown.{subnamespace_of}
 use Rattle.hx_object.specs.declared.kind.Kind.TheVariants.{Role, RoleBinding, ConfigMap, Secret, NetworkPolicy, LimitRange}
@@ -34,12 +35,12 @@ use Rattle.hx_model.specs.Keys.{same_key}
 use Rattle.hx_model.specs.Limits.{is_copy, is_anchor, is_namespace, counts}
 use Rattle.hx_model.specs.Machine.{History, Request, Took, Finished, opening_world, IsHistory, replay}
 use Rattle.hx_model.specs.Propagation.{id_in}
-use Rattle.hx_model.specs.Settled.{IsSettled, IsSettledIn, HasCopies, HasChild, HasReport, HasStatus}
+use Rattle.hx_model.specs.Settled.{IsSettled, IsSettledIn, HasCopies, HasChild, HasReport, HasStatus, HasUsages}
 use Rattle.hx_model.specs.State.{State, Objects, ascends, least_in, namespace_id, opening_state, with_version}
 use Rattle.hx_model.specs.Subnamespaces.{anchor_id, is_reached}
 use Rattle.hx_model.specs.Texts.{new_namespace, two_digits}
 use Rattle.hx_model.specs.Tree.{hierarchy_id, is_terminating}
-use Rattle.hx_model.specs.Wanted.{wanted_write}
+use Rattle.hx_model.specs.Wanted.{quota_id, wanted_write}
 use Rattle.hx_model.proofs.Objects.{found_id}
 use Rattle.hx_model.proofs.Storing.{All-found}
 
@@ -593,6 +594,16 @@ reports_of_done = (
   ),
 )
 
+-- there is no quota
+abbrev SaysUsages : Object → Type 0
+SaysUsages x = (n m : List ℕ) → x.id ≡ quota_id n m → HasUsages done n x
+
+no_usages : (x : Object) → is_quota x.id.kind ≡ false → SaysUsages x
+no_usages x other n m same = absurd (true≢false (sym (sym other ∙ ap (λ (id : Id). is_quota id.kind) same)))
+
+usages_of_done : AllByRecursion SaysUsages done.objects
+usages_of_done = (no_usages acme_row refl, (no_usages team_row refl, (no_usages report_row refl, (no_usages anchor_row refl, tt))))
+
 pub done_is_settled : IsSettled done
 done_is_settled = record {
   none_leaving = λ n x at. All-found (λ (y : Object). is_terminating y.payload ≡ false) (namespace_id n) x done.objects (refl, (refl, (refl, (refl, tt)))) at;
@@ -600,4 +611,5 @@ done_is_settled = record {
   children = λ n m x at. (All-found SaysAnchor (anchor_id n m) x done.objects anchors_of_done at n m (sym (found_id done.objects (anchor_id n m) x at))).0;
   statuses = λ n m x at. (All-found SaysAnchor (anchor_id n m) x done.objects anchors_of_done at n m (sym (found_id done.objects (anchor_id n m) x at))).1;
   reports = λ n x at. All-found SaysReport (namespace_id n) x done.objects reports_of_done at n (sym (found_id done.objects (namespace_id n) x at));
+  usages = λ n m x at. All-found SaysUsages (quota_id n m) x done.objects usages_of_done at n m (sym (found_id done.objects (quota_id n m) x at));
 }

@@ -34,7 +34,7 @@ use Rattle.hx_model.specs.State.{State, Objects, object_at, namespace_id, with_v
 use Rattle.hx_model.specs.Subnamespaces.{anchor_id}
 use Rattle.hx_model.specs.Tree.{forest_of, hierarchy_id, namespaces_in}
 use Rattle.hx_model.specs.TreeLabels.{is_open}
-use Rattle.hx_model.specs.Wanted.{anchor_status, placed, without_copy, copied, copied_in, copy_write, labelled, tree_write, subnamespace, with_status_of, anchor_write, wanted_write}
+use Rattle.hx_model.specs.Wanted.{anchor_status, placed, without_copy, copied, copied_in, copy_write, labelled, tree_write, subnamespace, with_status_of, anchor_write, quota_id, sums_of, with_sums, used_write, wanted_write}
 use Rattle.hx_model.specs.declared.key.Key.{Key}
 use Rattle.hx_model.specs.declared.key.Key.TheVariants as key
 use Rattle.hx_model.specs.declared.key.Write.{Write}
@@ -151,6 +151,10 @@ report_free : (takes : Bool) (found : Option Object) (children : List (List ℕ)
 report_free takes None children conditions n kind = if_so _ (Put (bare_report n children conditions)) (free_elsewhere (bare_report n children conditions) refl)
 report_free takes (Some x) children conditions n kind = if_so _ (Put (with_report children conditions x)) (free_elsewhere (with_report children conditions x) (kind x refl))
 
+used_free : (live : Bool) (sums : List ℕ) (found : Option Object) → ((x : Object) → found ≡ Some x → is_plain x.id.kind ≡ false) → WantsFree (used_write live sums found)
+used_free live sums None kind = tt
+used_free live sums (Some x) kind = if_acts live _ (placed_free (with_sums sums x) (Some x) (free_elsewhere (with_sums sums x) (kind x refl)))
+
 -- the kind of what is found
 found_kind : (objects : Objects) (id : Id) → is_plain id.kind ≡ false → (x : Object) → object_at objects id ≡ Some x → is_plain x.id.kind ≡ false
 found_kind objects id other x found = sym (ap (λ (q : Id). is_plain q.kind) (found_id objects id x found)) ∙ other
@@ -161,8 +165,8 @@ wanted_free s (key.Tree n) = tree_free (is_open (forest_of s) n) (chain_of (fore
 wanted_free s (key.Report n) = report_free (is_calm (forest_of s) n) (object_at s.objects (hierarchy_id n)) (children_of (forest_of s) n) (conditions_of s n) n (found_kind s.objects (hierarchy_id n) refl)
 wanted_free s (key.Child n name) = if_so _ (Put (subnamespace n name)) (free_elsewhere (subnamespace n name) refl)
 wanted_free s (key.Anchor n name) = anchor_free (is_live (forest_of s) n) (anchor_status s n name) (object_at s.objects (anchor_id n name)) (found_kind s.objects (anchor_id n name) refl)
+wanted_free s (key.Used n name) = used_free (is_live (forest_of s) n) (sums_of s n (object_at s.objects (quota_id n name))) (object_at s.objects (quota_id n name)) (found_kind s.objects (quota_id n name) refl)
 wanted_free s (key.Purge n) = if_so _ (Cut _) tt
-wanted_free s (key.Used n name) = tt
 
 written_free : (t : State) (wanted : Option Write) (r : Resource) → WantsFree wanted → RaiseNothing t (writes_for t wanted) r
 written_free t None r free = tt

@@ -1,15 +1,18 @@
 -- Objects stay legal where their versions and their status change.
 --     keyed_legal        the namespace of a legal object has no slash
 --     legal_with_version      with another version
---     legal_replaced     with the status of another object of its kind
+--     HasLegalStatus, status_legal   what a payload tells of a quota is legal;  as it is in a legal object
+--     legal_replaced     with such a status of another object
 --     given_with_version, given_replaced      the same of what requests give
-use Rattle.std.proofs.Common.{◌≡◌, ℕ, Bool, true, false, not, ◌&&◌, ◌||◌, List, [], ◌∷◌, None, Some, Option, refl, sym, ap, ◌∙◌, subst, true≢false, eqb-true, ◌==◌}
+use Rattle.std.proofs.Common.{◌≡◌, ℕ, Bool, true, false, not, ◌&&◌, ◌||◌, List, [], ◌∷◌, map, None, Some, Option, refl, sym, ap, ◌∙◌, subst, true≢false, eqb-true, ◌==◌}
 use Rattle.std.specs.Prelude.{if◌then◌else◌}
-use Rattle.std.specs.List.{list_all}
+use Rattle.std.specs.List.{AllByRecursion, list_all}
 use Rattle.std.proofs.lemmas.Bool.{and_parts}
-use Rattle.hx_object.specs.Faults.{IsLegal, object_fault, has_legal_names, has_legal_labels, has_legal_namespace, IsPayloadOf}
+use Rattle.hx_object.specs.Faults.{IsLegal, object_fault, has_legal_names, has_legal_labels, has_legal_namespace, IsPayloadOf, IsUsage}
+use Rattle.hx_object.specs.Json.{hard_pair}
 use Rattle.hx_object.specs.Kinds.{is_in_cluster}
 use Rattle.hx_object.specs.Names.{is_dns_label, is_dns_byte, is_dns_end, is_name_of, has_length, has_ends}
+use Rattle.hx_object.specs.Pairs.{has_ascending_keys}
 use Rattle.hx_object.specs.Sizes.{size_of, specified_size, hierarchy_size, quota_size}
 use Rattle.hx_object.specs.declared.kind.Kind.{Kind}
 use Rattle.hx_object.specs.declared.kind.Kind.TheVariants.{Secret}
@@ -70,19 +73,32 @@ same_specified : (old x : Payload) → specified_size (with_status old x) ≡ sp
 unfolding hierarchy_size quota_size
 same_specified = by_status (λ x y. specified_size y ≡ specified_size x) (λ t u. refl) (λ p c a b d e. refl) (λ s t. refl) (λ h s t. refl) (λ x. refl)
 
-still_of_kind : (kind : Kind) (old x : Payload) → IsPayloadOf kind x → IsPayloadOf kind (with_status old x)
-still_of_kind kind = by_status (λ x y. IsPayloadOf kind x → IsPayloadOf kind y) (λ t u is. is) (λ p c a b d e is. is) (λ s t is. is) (λ h s t is. is) (λ x is. is)
+-- the names of what is told ascend, and its amounts are ones that are counted
+abbrev pub HasLegalStatus : Payload → Type 0
+HasLegalStatus (Quota hard status) = (has_ascending_keys (map hard_pair status) ≡ true) × AllByRecursion IsUsage status
+HasLegalStatus payload = Unit {0}
+
+pub status_legal : (kind : Kind) (p : Payload) → IsPayloadOf kind p → HasLegalStatus p
+status_legal kind (Quota hard status) is = (is.3, is.4)
+status_legal kind payload is = tt
+
+still_of_kind : (kind : Kind) (old x : Payload) → HasLegalStatus old → IsPayloadOf kind x → IsPayloadOf kind (with_status old x)
+still_of_kind kind (NamespaceOf t) (NamespaceOf u) told is = is
+still_of_kind kind (Hierarchy a b c d) (Hierarchy e f g h) told is = is
+still_of_kind kind (Anchor s) (Anchor t) told is = is
+still_of_kind kind (Quota h s) (Quota k t) told is = (is.0, is.1, is.2, told.0, told.1)
+still_of_kind kind old x told is = is
 
 -- the faults of an object depend on its payload by what is specified of it alone
 fault_by_size : (x y : Object) → y.id ≡ x.id → y.labels ≡ x.labels → y.annotations ≡ x.annotations → specified_size y.payload ≡ specified_size x.payload → object_fault y ≡ object_fault x
 unfolding object_fault has_legal_labels size_of
 fault_by_size x y id labels annotations size = rw (id, labels, annotations, size) refl
 
-pub legal_replaced : (old x : Object) → IsLegal x → IsLegal (replaced_by old x)
-legal_replaced old x legal = record {
+pub legal_replaced : (old x : Object) → HasLegalStatus old.payload → IsLegal x → IsLegal (replaced_by old x)
+legal_replaced old x told legal = record {
   sound = fault_by_size x (replaced_by old x) refl refl refl (same_specified old.payload x.payload) ∙ legal.sound;
   home = legal.home;
-  payload = still_of_kind x.id.kind old.payload x.payload legal.payload;
+  payload = still_of_kind x.id.kind old.payload x.payload told legal.payload;
 }
 
 pub same_size : (old x : Object) → size_of (replaced_by old x) ≡ size_of x

@@ -1,6 +1,8 @@
--- What quotas refuse, computed. Each expected value is worked out by hand.
+-- What quotas refuse and what they tell, computed. Each expected value is worked out by hand.
 --     acme        the namespace above team and ops
 --     quotas      a state of these three, with some quotas and other objects
+--     ring        acme over team, and team over acme, with some objects
+--     told        the write by which the quota q in team tells what is used
 use Rattle.std.specs.Prelude.{codes}
 use Rattle.std.proofs.Common.{◌≡◌, ℕ, Bool, true, false, List, [], ◌∷◌, Option, None, Some, refl}
 use Rattle.std.specs.Fmt.{digits}
@@ -12,9 +14,10 @@ use Rattle.hx_object.specs.declared.object.Container.{Container}
 use Rattle.hx_object.specs.declared.object.Limit.{Limit}
 use Rattle.hx_object.specs.declared.object.Object.{Object}
 use Rattle.hx_object.specs.declared.object.Payload.{Payload}
-use Rattle.hx_object.specs.declared.object.Payload.TheVariants.{Hierarchy, Quota, Plain}
-use Rattle.hx_quantity.specs.Quantities.{quantity_text}
-use Rattle.hx_model.specs.Answers.{refusal_of, quota_refusal}
+use Rattle.hx_object.specs.declared.object.Payload.TheVariants.{Namespace as NamespaceOf, Hierarchy, Quota, Plain}
+use Rattle.hx_object.specs.declared.object.Usage.{Usage}
+use Rattle.hx_object.specs.Quantities.{quantity_text}
+use Rattle.hx_model.specs.Answers.{refusal_of, quota_refusal, same_object}
 use Rattle.hx_model.specs.Charges.{resource_named, charge_of, is_unstated}
 use Rattle.hx_model.specs.Limits.{is_copy}
 use Rattle.hx_model.specs.Quotas.{used, same_need}
@@ -22,7 +25,11 @@ use Rattle.hx_model.specs.Replies.{quota_message, message_of, status_text}
 use Rattle.hx_model.specs.State.{State, Objects, ascends, with_version}
 use Rattle.hx_model.specs.Texts.{new_namespace}
 use Rattle.hx_model.specs.Tree.{hierarchy_id}
+use Rattle.hx_model.specs.Wanted.{wanted_write}
 use Rattle.hx_model.specs.declared.ask.Ask.TheVariants.{Create, Replace}
+use Rattle.hx_model.specs.declared.key.Key.TheVariants as key
+use Rattle.hx_model.specs.declared.key.Write.{Write}
+use Rattle.hx_model.specs.declared.key.Write.TheVariants.{Put}
 use Rattle.hx_model.specs.declared.refusal.Refusal.{Refusal}
 use Rattle.hx_model.specs.declared.refusal.Refusal.TheVariants.{Broken, OverQuota}
 use Rattle.hx_model.specs.declared.resource.Resource.TheVariants.{CountConfigMaps}
@@ -276,6 +283,86 @@ copies_first = refl
 before_versions : refusal_of (record (quotas (quota team (codes "q") (limit configs 0 ∷ []) ∷ [])) { last = 9223372036854775807 }) (Create (config team (codes "b")) false) ≡ Some (OverQuota team (codes "q") configs 0 1000 0)
 unfolding resource_named charge_of is_copy used
 before_versions = refl
+
+-- ---- what quotas tell
+
+abbrev pods : List ℕ
+pods = codes "pods"
+
+abbrev usage : List ℕ → ℕ → ℕ → Usage
+usage resource hard sum = record { resource = resource; hard = hard; used = sum }
+
+-- the quota q in team
+abbrev quota_in_team : List Limit → List Usage → Object
+quota_in_team hard status = holds HierarchicalResourceQuota team (codes "q") (Quota hard status)
+
+-- what its key wants
+abbrev told_in : State → Option Write
+told_in s = wanted_write s (key.Used team (codes "q"))
+
+-- that it tells this
+abbrev told : List Limit → List Usage → Option Write
+told hard status = Some (Put (record (quota_in_team hard status) { version = 0 }))
+
+-- acme's parent is team, and team's is acme
+abbrev ring : Objects → State
+ring objects = record (quotas []) { objects = stored acme ∷ stored team ∷ record (under acme) { payload = Hierarchy (Some team) false [] [] } ∷ under team ∷ objects }
+
+abbrev nine_pods : List Limit
+nine_pods = limit pods 9000 ∷ []
+
+-- each namespace of a ring lies below the other
+both_in_ring : told_in (ring (quota_in_team nine_pods [] ∷ pod acme false (Some 250) ∷ pod team false (Some 250) ∷ [])) ≡ told nine_pods (usage pods 9000 2000 ∷ [])
+unfolding resource_named charge_of is_copy used same_object
+both_in_ring = refl
+
+-- acme has no parent
+team_alone : told_in (quotas (quota_in_team nine_pods [] ∷ pod acme false (Some 250) ∷ pod team false (Some 250) ∷ [])) ≡ told nine_pods (usage pods 9000 1000 ∷ [])
+unfolding resource_named charge_of is_copy used same_object
+team_alone = refl
+
+-- in the place of what was told before
+told_anew : told_in (quotas (quota_in_team nine_pods (usage pods 9000 2000 ∷ []) ∷ pod acme false (Some 250) ∷ pod team false (Some 250) ∷ [])) ≡ told nine_pods (usage pods 9000 1000 ∷ [])
+unfolding resource_named charge_of is_copy used same_object
+told_anew = refl
+
+-- it tells this already
+told_already : told_in (quotas (quota_in_team nine_pods (usage pods 9000 1000 ∷ []) ∷ pod acme false (Some 250) ∷ pod team false (Some 250) ∷ [])) ≡ None
+unfolding resource_named charge_of is_copy used same_object
+told_already = refl
+
+-- a quota that limits nothing has nothing to tell
+nothing_limited : told_in (quotas (quota_in_team [] [] ∷ pod team false (Some 250) ∷ [])) ≡ None
+unfolding resource_named charge_of is_copy used same_object
+nothing_limited = refl
+
+-- and there may be none
+no_quota_there : told_in (quotas (pod team false (Some 250) ∷ [])) ≡ None
+unfolding resource_named charge_of is_copy used same_object
+no_quota_there = refl
+
+-- team is on its way out
+team_leaves : told_in (record (quotas []) { objects = stored acme ∷ record (stored team) { payload = NamespaceOf true } ∷ under team ∷ quota_in_team nine_pods [] ∷ pod team false (Some 250) ∷ [] }) ≡ None
+unfolding resource_named charge_of is_copy used same_object
+team_leaves = refl
+
+-- two containers ask for 750 together, and an init container for more
+abbrev starting : Object
+starting = record (pod team false None) { payload = Plain (codes "{}") (record { finished = false; token = false; storage = 0; containers = record (container (Some 1000)) { init = true } ∷ container (Some 250) ∷ container (Some 500) ∷ [] }) }
+
+most_at_start : told_in (quotas (quota_in_team (limit cpu 2000 ∷ []) [] ∷ starting ∷ [])) ≡ told (limit cpu 2000 ∷ []) (usage cpu 2000 1000 ∷ [])
+unfolding resource_named charge_of is_copy used same_object
+most_at_start = refl
+
+-- two limits that count Pods, one of them those that have finished too
+both_limits : told_in (quotas (quota_in_team (limit (codes "count/pods") 4000 ∷ limit pods 9000 ∷ []) [] ∷ pod team true (Some 250) ∷ [])) ≡ told (limit (codes "count/pods") 4000 ∷ limit pods 9000 ∷ []) (usage (codes "count/pods") 4000 1000 ∷ usage pods 9000 0 ∷ [])
+unfolding resource_named charge_of is_copy used same_object
+both_limits = refl
+
+-- a copy isn't counted
+copy_untold : told_in (quotas (quota_in_team (limit configs 2000 ∷ []) [] ∷ copy (config team (codes "a")) ∷ config team (codes "b") ∷ [])) ≡ told (limit configs 2000 ∷ []) (usage configs 2000 1000 ∷ [])
+unfolding resource_named charge_of is_copy used same_object
+copy_untold = refl
 
 -- ---- texts
 

@@ -1,6 +1,7 @@
 -- What the objects of a subtree use, before a commit and after it.
 --     sum_less                 rows in order that have no more at each place have no more together
 --     no_more_after            writes that each have no more than what is in their place leave no more at any place
+--     sum_same, used_same      rows that have as much at each place have as much together;  and where it lies in the same subtrees, as much is used
 --     rises_by_charges_alone   what a subtree uses rises only where it takes in an object or a write there raises a charge
 use Rattle.std.proofs.Common.{◌≡◌, ◌≤◌, ◌-◌, ℕ, Bool, true, false, cond, Option, Some, None, List, [], ◌∷◌, sum_by, refl, sym, ap, ◌∙◌, subst, arith}
 use Rattle.std.specs.Prelude.{if◌then◌else◌}
@@ -124,3 +125,19 @@ rises_by_charges_alone s (w ∷ ws) a r up out raises =
     let t = state_after s (w ∷ ws) in
     sum_less (now s t a r out) (before s t a r out) t.objects s.objects (ascends_after (w ∷ ws) s.objects up) up
     (no_more_after (now s t a r out) (before s t a r out) s.objects (w ∷ ws) s.objects (all_fit s t a r out (w ∷ ws) raises) (same_rows_fit s t a r out))
+
+-- ---- what stays
+
+-- rows in order that have as much at each place have as much together
+pub sum_same : (f g : Object → ℕ) (xs ys : Objects) → ascends xs ≡ true → ascends ys ≡ true → ((q : Id) → part_of f (object_at xs q) ≡ part_of g (object_at ys q)) → sum_by f xs ≡ sum_by g ys
+sum_same f g xs ys up high same =
+    let no_more : sum_by f xs ≤ sum_by g ys = sum_less f g xs ys up high (λ q. let e : part_of f (object_at xs q) ≡ part_of g (object_at ys q) = same q in omega (arith, e)) in
+    let no_less : sum_by g ys ≤ sum_by f xs = sum_less g f ys xs high up (λ q. let e : part_of f (object_at xs q) ≡ part_of g (object_at ys q) = same q in omega (arith, e)) in
+    omega (arith, no_more, no_less)
+
+-- where each place has the same charge in the subtree of a, the same is used
+pub used_same : (s t : State) (a : List ℕ) (r : Resource) → ascends s.objects ≡ true → ascends t.objects ≡ true
+    → ((q : Id) → part_of (charge_below (forest_of s) a r) (object_at s.objects q) ≡ part_of (charge_below (forest_of t) a r) (object_at t.objects q))
+    → used s a r ≡ used t a r
+unfolding used
+used_same s t a r up high same = sum_same (charge_below (forest_of s) a r) (charge_below (forest_of t) a r) s.objects t.objects up high same

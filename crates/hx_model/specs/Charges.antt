@@ -1,6 +1,7 @@
 -- What quotas limit, and what objects are charged for it, in thousandths.
 --     hard_of            the limits of a quota, in order of names
 --     resource_named     the resource that a name in `spec.hard` stands for
+--     all_resources      all of them
 --     charge_of x r      what an object is charged for a resource
 --     kind_for r, resources_for k    the kind whose objects are charged for a resource;  the resources that objects of a kind are charged for
 --     is_unstated x r    a Pod has a container that doesn't state what it asks of the resource
@@ -49,6 +50,13 @@ resource_names =
 -- the resource of a name; any other name has none
 unfoldable pub resource_named : List ℕ → Option Resource
 resource_named name = lookup (bytes_eq name) resource_names
+
+-- all resources
+abbrev pub all_resources : List Resource
+all_resources =
+    Pods ∷ RequestsCpu ∷ RequestsMemory ∷ LimitsCpu ∷ LimitsMemory ∷ RequestsStorage
+    ∷ CountRoles ∷ CountRoleBindings ∷ CountConfigMaps ∷ CountSecrets ∷ CountNetworkPolicies ∷ CountLimitRanges ∷ CountPods ∷ CountServices ∷ CountClaims
+    ∷ []
 
 -- the limits of a quota
 abbrev pub hard_of : Payload → List Limit

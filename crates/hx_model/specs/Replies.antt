@@ -12,7 +12,7 @@ use Rattle.serde_json.specs.Data.{Data, string, object, number, unsigned, Member
 use Rattle.serde_json.specs.Written.{compact_text}
 use Rattle.hx_object.specs.Json.{unless_empty}
 use Rattle.hx_object.specs.Kinds.{name_of, resource_of}
-use Rattle.hx_quantity.specs.Quantities.{quantity_text}
+use Rattle.hx_object.specs.Quantities.{quantity_text}
 use Rattle.hx_object.specs.declared.kind.Kind.{Kind}
 use Rattle.hx_model.specs.declared.reason.Reason.{Reason}
 use Rattle.hx_model.specs.declared.reason.Reason.TheVariants as of

@@ -1,6 +1,6 @@
 -- What is served so far.
 --     is_given         a payload that requests give: no namespace that is on its way out, and nothing that reconcilers report
---     is_kept          a payload that may be stored: what is reported of quotas isn't yet
+--     is_kept          a payload that may be stored
 --     is_text_or_none  a text, or none
 --     has_type         the type of a Secret is a text, where it has one
 --     is_typed         the same of what is kept of it
@@ -46,15 +46,10 @@ is_given (Quota hard []) = true
 is_given (Quota hard status) = false
 is_given (Plain members need) = true
 
--- A payload that may be stored: modes that bodies may name. What reconcilers report of quotas comes with them
+-- A payload that may be stored: modes that bodies may name
 abbrev pub is_kept : Payload → Bool
-is_kept (NamespaceOf terminating) = true
 is_kept (Config entries) = list_all (λ (e : ModeEntry). is_given_mode e.mode) entries
-is_kept (Hierarchy parent cascade children conditions) = true
-is_kept (Anchor status) = true
-is_kept (Quota hard []) = true
-is_kept (Quota hard status) = false
-is_kept (Plain members need) = true
+is_kept payload = true
 
 -- a text, or none: null counts as none
 abbrev pub is_text_or_none : Option Data → Bool

@@ -2,27 +2,35 @@
 --     wanted_copy, wanted_tree     the write of a place of copies;  of a namespace's tree labels
 --     wanted_child, wanted_anchor  of the subnamespace that an anchor asks for;  of an anchor's status
 --     wanted_report                of the HierarchyConfiguration that tells of a namespace
+--     wanted_used                  of a quota's status
 --     wanted_purge                 of a namespace that is on its way out: its objects go one by one, and then the namespace
---     wanted_write s key           the write of a key. The keys of quotas want nothing yet
+--     wanted_write s key           the write of a key
 --     guards_of s key              the identities that the write rests on, each with its version or absent
 -- Objects are compared without their versions, and a write that would change nothing is none. What is put has no version yet.
-use Rattle.std.specs.Prelude.{ℕ, Bool, false, not, ◌&&◌, ◌||◌, is_some, List, [], ◌∷◌, Option, Some, None, option_map, if◌then◌else◌}
+use Rattle.std.specs.Option.{option_map_or}
+use Rattle.std.specs.Prelude.{ℕ, Bool, false, not, ◌&&◌, ◌||◌, is_some, List, [], ◌∷◌, Option, Some, None, map, option_map, if◌then◌else◌}
 use Rattle.hx_object.specs.WellKnown.{subnamespace_of}
 use Rattle.hx_object.specs.declared.kind.Kind.{Kind}
+use Rattle.hx_object.specs.declared.kind.Kind.TheVariants.{HierarchicalResourceQuota}
 use Rattle.hx_object.specs.declared.object.AnchorStatus.{AnchorStatus}
 use Rattle.hx_object.specs.declared.object.AnchorStatus.TheVariants.{Missing, Ok, Conflict, Forbidden}
 use Rattle.hx_object.specs.declared.object.Id.{Id}
+use Rattle.hx_object.specs.declared.object.Limit.{Limit}
 use Rattle.hx_object.specs.declared.object.Mode.{Mode}
 use Rattle.hx_object.specs.declared.object.Mode.TheVariants.{Propagate, AllowPropagate, Remove, Ignore}
 use Rattle.hx_object.specs.declared.object.Object.{Object}
-use Rattle.hx_object.specs.declared.object.Payload.TheVariants.{Namespace as NamespaceOf, Anchor}
+use Rattle.hx_object.specs.declared.object.Payload.{Payload}
+use Rattle.hx_object.specs.declared.object.Payload.TheVariants.{Namespace as NamespaceOf, Anchor, Quota}
+use Rattle.hx_object.specs.declared.object.Usage.{Usage}
 use Rattle.hx_model.specs.Answers.{same_object}
+use Rattle.hx_model.specs.Charges.{hard_of, resource_named}
 use Rattle.hx_model.specs.First.{so}
 use Rattle.hx_model.specs.Forest.{chain_of, children_of, is_in, is_live}
 use Rattle.hx_model.specs.Limits.{is_copy}
 use Rattle.hx_model.specs.Modes.{mode_of}
 use Rattle.hx_model.specs.Moves.{is_calm}
 use Rattle.hx_model.specs.Propagation.{copy_of, id_in, sources_above, top_of}
+use Rattle.hx_model.specs.Quotas.{used}
 use Rattle.hx_model.specs.Reports.{conditions_of, report_write}
 use Rattle.hx_model.specs.State.{State, object_at, namespace_id, with_version, least_in}
 use Rattle.hx_model.specs.Subnamespaces.{anchor_id, is_owned_by}
@@ -126,6 +134,42 @@ wanted_anchor s n m = anchor_write (is_live (forest_of s) n) (anchor_status s n 
 abbrev pub wanted_report : State → List ℕ → Option Write
 wanted_report s n = report_write (is_calm (forest_of s) n) (object_at s.objects (hierarchy_id n)) (children_of (forest_of s) n) (conditions_of s n) n
 
+-- ---- usage
+
+-- a quota in n
+abbrev pub quota_id : List ℕ → List ℕ → Id
+quota_id n name = id_in HierarchicalResourceQuota name n
+
+-- what is used in the subtree of n of what a limit is of. A name that stands for no resource counts nothing
+abbrev pub used_of : State → List ℕ → Limit → ℕ
+used_of s n limit = option_map_or (used s n) (resource_named limit.resource) 0
+
+-- what is used of each limit of a quota
+abbrev pub sums_of : State → List ℕ → Option Object → List ℕ
+sums_of s n None = []
+sums_of s n (Some x) = map (used_of s n) (hard_of x.payload)
+
+-- limits beside what is used of each
+abbrev pub usages : List Limit → List ℕ → List Usage
+usages (limit ∷ hard) (sum ∷ sums) = record { resource = limit.resource; hard = limit.amount; used = sum } ∷ usages hard sums
+usages _ _ = []
+
+-- a quota tells them
+abbrev pub with_usages : List ℕ → Payload → Payload
+with_usages sums (Quota hard status) = Quota hard (usages hard sums)
+with_usages sums payload = payload
+
+abbrev pub with_sums : List ℕ → Object → Object
+with_sums sums x = record x { payload = with_usages sums x.payload; version = 0 }
+
+-- where its namespace isn't on its way out
+abbrev pub used_write : Bool → List ℕ → Option Object → Option Write
+used_write live sums None = None
+used_write live sums (Some x) = if live then placed (with_sums sums x) (Some x) else None
+
+abbrev pub wanted_used : State → List ℕ → List ℕ → Option Write
+wanted_used s n name = used_write (is_live (forest_of s) n) (sums_of s n (object_at s.objects (quota_id n name))) (object_at s.objects (quota_id n name))
+
 -- ---- removals
 
 -- the first object that lies in the namespace or, where none does, the namespace itself
@@ -151,8 +195,8 @@ wanted_write s (key.Tree n) = wanted_tree s n
 wanted_write s (key.Report n) = wanted_report s n
 wanted_write s (key.Child n name) = wanted_child s n name
 wanted_write s (key.Anchor n name) = wanted_anchor s n name
+wanted_write s (key.Used n name) = wanted_used s n name
 wanted_write s (key.Purge n) = wanted_purge s n
-wanted_write s _ = None
 
 -- an identity, with the version of its object or none where it isn't there
 abbrev pub guard_at : State → Id → Guard
@@ -169,5 +213,5 @@ guards_of s (key.Tree n) = guard_at s (namespace_id n) ∷ []
 guards_of s (key.Report n) = guard_at s (hierarchy_id n) ∷ guard_at s (namespace_id n) ∷ []
 guards_of s (key.Child n name) = guard_at s (anchor_id n name) ∷ guard_at s (namespace_id n) ∷ guard_at s (namespace_id name) ∷ []
 guards_of s (key.Anchor n name) = guard_at s (anchor_id n name) ∷ guard_at s (namespace_id n) ∷ []
+guards_of s (key.Used n name) = guard_at s (quota_id n name) ∷ guard_at s (namespace_id n) ∷ []
 guards_of s (key.Purge n) = purge_guards s (least_id s n) n
-guards_of s _ = []

@@ -11,11 +11,13 @@ use Rattle.hx_object.specs.declared.object.AnchorStatus.{AnchorStatus}
 use Rattle.hx_object.specs.declared.object.AnchorStatus.TheVariants.{Missing, Ok as Fine, Conflict, Forbidden}
 use Rattle.hx_object.specs.declared.object.Condition.{Condition}
 use Rattle.hx_object.specs.declared.object.Condition.TheVariants as told
+use Rattle.hx_object.specs.declared.object.Limit.{Limit}
 use Rattle.hx_object.specs.declared.object.Mode.{Mode}
 use Rattle.hx_object.specs.declared.object.Mode.TheVariants.{Propagate, Remove, Ignore}
 use Rattle.hx_object.specs.declared.object.Need.{Need}
 use Rattle.hx_object.specs.declared.object.Object.{Object}
-use Rattle.hx_object.specs.declared.object.Payload.TheVariants.{Anchor, Hierarchy, Namespace as NamespaceOf, Plain}
+use Rattle.hx_object.specs.declared.object.Payload.TheVariants.{Anchor, Hierarchy, Namespace as NamespaceOf, Plain, Quota}
+use Rattle.hx_object.specs.declared.object.Usage.{Usage}
 use Rattle.hx_select.specs.Selectors.{selector_of}
 use Rattle.hx_select.specs.TreeSelects.{tree_select_of}
 use Rattle.hx_model.specs.Answers.{same_object}
@@ -25,6 +27,7 @@ use Rattle.hx_model.specs.State.{State, namespace_id, with_version}
 use Rattle.hx_model.specs.Subnamespaces.{anchor_id}
 use Rattle.hx_model.specs.Texts.{new_namespace}
 use Rattle.hx_model.specs.Tree.{hierarchy_id}
+use Rattle.hx_model.specs.Wanted.{quota_id}
 use Rattle.hx_model.specs.declared.config.RunConfig.{RunConfig}
 use Rattle.hx_model.specs.declared.key.Key.TheVariants as key
 use Rattle.hx_model.specs.declared.key.Write.{Write}
@@ -339,12 +342,44 @@ right_report : report_in (anchors (Some Fine) [] (with_version (team_of acme) 2 
 unfolding same_object
 right_report = refl
 
--- ---- other keys
+-- ---- usage
 
--- nothing of a state counts, and nothing is planned
-other_keys : planned (key.Used app team) (facts_of (tree []) (key.Used app team)) ≡ None
-other_keys = refl
+abbrev pods : Limit
+pods = record { resource = codes "pods"; written = codes "9"; amount = 9000 }
+
+-- a quota in acme of at most nine Pods
+abbrev nine : List Usage → Object
+nine status = record { id = quota_id acme (codes "q"); labels = pair (codes "tier") (codes "web"); annotations = []; payload = Quota (pods ∷ []) status; version = 7 }
+
+abbrev two_used : List Usage
+two_used = record { resource = codes "pods"; hard = 9000; used = 2000 } ∷ []
+
+-- what is planned for it, where so much is used
+abbrev used_in_acme : Bool → List ℕ → Option Object → Option Write
+used_in_acme live sums quota = planned (key.Used acme (codes "q")) (facts.Used live quota sums)
+
+tells_sum : used_in_acme true (2000 ∷ []) (Some (nine [])) ≡ Some (Put (record (nine two_used) { version = 0 }))
+unfolding same_object
+tells_sum = refl
+
+-- it tells another sum
+other_sum : used_in_acme true (2000 ∷ []) (Some (nine (record { resource = codes "pods"; hard = 9000; used = 1000 } ∷ []))) ≡ Some (Put (record (nine two_used) { version = 0 }))
+unfolding same_object
+other_sum = refl
+
+right_sum : used_in_acme true (2000 ∷ []) (Some (nine two_used)) ≡ None
+unfolding same_object
+right_sum = refl
+
+-- acme is on its way out
+leaving_quota : used_in_acme false (2000 ∷ []) (Some (nine [])) ≡ None
+leaving_quota = refl
+
+no_quota : used_in_acme true [] None ≡ None
+no_quota = refl
+
+-- ---- other facts
 
 -- facts that aren't of the key plan nothing
-other_facts : planned (key.Tree app) facts.Unserved ≡ None
+other_facts : planned (key.Tree app) (facts.Used true (Some (nine [])) (2000 ∷ [])) ≡ None
 other_facts = refl

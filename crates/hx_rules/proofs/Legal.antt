@@ -4,35 +4,40 @@
 --     labelled_served      a namespace that may be stored, with the labels that a short chain of such names prescribes
 --     subnamespace_served  a subnamespace, where its name and its parent's are legal
 --     status_served        an anchor that may be stored, with another status
+--     sums_served          a quota that may be stored, with other usages that fit
 --     report_served, bare_report_served   a HierarchyConfiguration that may be stored, with another report;  one that only reports
-use Rattle.std.proofs.Common.{◌≡◌, ℕ, suc, ◌+◌, ◌<◌, ◌≤◌, ◌^◌, Bool, true, false, not, ◌||◌, List, [], ◌∷◌, length, sum_by, codes, Option, None, Some, decimal, nat_lt, refl, sym, ap, ◌∙◌, true≢false, arith, if◌then◌else◌}
+use Rattle.std.proofs.Common.{◌≡◌, ℕ, suc, ◌+◌, ◌-◌, ◌<◌, ◌≤◌, ◌^◌, Bool, true, false, not, ◌||◌, List, [], ◌∷◌, length, map, sum_by, codes, Option, None, Some, Ok, Err, decimal, nat_lt, nat_le, refl, sym, ap, ◌∙◌, true≢false, arith, if◌then◌else◌}
 use Rattle.std.specs.List.{list_all, AllByRecursion}
 use Rattle.std.proofs.lemmas.Bool.{and_parts, and_from, leb-true, le-leb}
 use Rattle.json.specs.Print.{escape_byte}
-use Rattle.hx_object.specs.Faults.{IsLegal, IsPayloadOf, object_fault, has_legal_names, has_legal_labels, has_legal_namespace, is_legal_label, is_legal_annotation, most_labels}
+use Rattle.hx_object.specs.Faults.{IsLegal, IsLimit, IsPayloadOf, IsUsage, object_fault, has_legal_names, has_legal_labels, has_legal_namespace, is_legal_label, is_legal_annotation, most_labels}
+use Rattle.hx_object.specs.Json.{hard_pair, limit_pair}
 use Rattle.hx_object.specs.Kinds.{can_be_copied, is_in_cluster, is_plain}
 use Rattle.hx_object.specs.Names.{is_dns_label, is_name_of, is_key, is_subdomain, is_dns_part, is_qualified_part}
 use Rattle.hx_object.specs.Pairs.{has_ascending_keys, with_pair}
+use Rattle.hx_object.specs.Quantities.{Factor, amount_of, factor_of, is_bare, is_short, quantity_by, quantity_of, written_of}
 use Rattle.hx_object.specs.Sizes.{counted, greatest_size, hierarchy_size, is_counted, is_tree_key, is_reconciled_key, pair_size, size_of, specified_size}
 use Rattle.hx_object.specs.WellKnown.{inherited_from, included_namespace, subnamespace_of}
 use Rattle.hx_object.specs.declared.kind.Kind.{Kind}
 use Rattle.hx_object.specs.declared.kind.Kind.TheVariants.{Namespace, HncConfiguration, HierarchyConfiguration, SubnamespaceAnchor, HierarchicalResourceQuota, Role, RoleBinding, ConfigMap, Secret, NetworkPolicy, LimitRange, Pod, Service, PersistentVolumeClaim}
 use Rattle.hx_object.specs.declared.object.AnchorStatus.{AnchorStatus}
 use Rattle.hx_object.specs.declared.object.Condition.{Condition}
+use Rattle.hx_object.specs.declared.object.Limit.{Limit}
 use Rattle.hx_object.specs.declared.object.Object.{Object}
 use Rattle.hx_object.specs.declared.object.ObjectFault.{ObjectFault}
 use Rattle.hx_object.specs.declared.object.ObjectFault.TheVariants.{BadName, BadLabel, TooManyLabels, TooLarge}
 use Rattle.hx_object.specs.declared.object.Payload.{Payload}
 use Rattle.hx_object.specs.declared.object.Payload.TheVariants.{Namespace as NamespaceOf, Config, Hierarchy, Anchor, Quota, Plain}
+use Rattle.hx_object.specs.declared.quantity.QuantityFault.TheVariants.{Syntax, TooLong, TooLarge as TooMuch}
 use Rattle.hx_object.proofs.Putting.{ascending-with_pair, ascending-filter}
 use Rattle.hx_model.specs.Propagation.{copy_of, is_hnc_key}
 use Rattle.hx_model.specs.Reports.{bare_report, with_report}
-use Rattle.hx_model.specs.Serving.{IsServed, is_typed}
+use Rattle.hx_model.specs.Serving.{IsServed, is_kept, is_typed}
 use Rattle.hx_model.specs.State.{namespace_id}
 use Rattle.hx_model.specs.Subnamespaces.{allows_cascade}
 use Rattle.hx_model.specs.Tree.{hierarchy_id, spec_parent}
 use Rattle.hx_model.specs.TreeLabels.{own_labels, tree_key, tree_labels_from, with_pairs}
-use Rattle.hx_model.specs.Wanted.{labelled, subnamespace, with_status_of}
+use Rattle.hx_model.specs.Wanted.{labelled, subnamespace, usages, with_status_of, with_sums, with_usages}
 use Rattle.hx_rules.proofs.LabelNames.{label_length, label_value, tree_key_legal, tree_key_of_tree, depth_legal}
 use Rattle.hx_rules.proofs.Labels.{all-with_pair, all-filter, same-with_pair, tree_uncounted, counted-own, sum-filter}
 
@@ -280,6 +285,76 @@ status_served status x served kind =
         payload = kind;
       };
       kept = record { labels = served.kept.labels; annotations = served.kept.annotations; payload = refl; typed = ap (λ k. is_typed k (Anchor (Some status))) kind };
+    }
+
+-- ---- usages
+
+-- what is told counts for nothing in the size
+size_told : (sums : List ℕ) (p : Payload) → specified_size (with_usages sums p) ≡ specified_size p
+size_told sums (Quota hard status) = refl
+size_told sums payload = refl
+
+-- an amount that a text says is at most 2^63 - 1
+amount_fits : (text : List ℕ) (amount : ℕ) → quantity_of text ≡ Ok amount → amount < 2 ^ 64
+unfolding quantity_of
+amount_fits text amount e = said (factor_of (written_of text).suffix) e
+  where
+    small : (n : ℕ) (b : Bool) → nat_le n (2 ^ 63 - 1) ≡ b → (if b then Ok n else Err TooMuch) ≡ Ok amount → amount < 2 ^ 64
+    small n true fits is = let same : n ≡ amount = (let h : Ok n ≡ Ok amount = is in cc) in omega (arith, leb-true n (2 ^ 63 - 1) fits, same)
+    small n false fits is = absurd (let h : Err TooMuch ≡ Ok amount = is in cc)
+
+    whole : (bare short : Bool) (n : ℕ) → (if bare then Err Syntax else (if short then amount_of n else Err TooLong)) ≡ Ok amount → amount < 2 ^ 64
+    whole true short n is = absurd (let h : Err Syntax ≡ Ok amount = is in cc)
+    whole false true n is = small n (nat_le n (2 ^ 63 - 1)) refl is
+    whole false false n is = absurd (let h : Err TooLong ≡ Ok amount = is in cc)
+
+    said : (factor : Option Factor) → quantity_by (written_of text) factor ≡ Ok amount → amount < 2 ^ 64
+    said None is = absurd (let h : Err Syntax ≡ Ok amount = is in cc)
+    said (Some factor) is = whole (is_bare (written_of text)) (is_short (written_of text)) _ is
+
+usages_ascend : (hard : List Limit) (sums : List ℕ) → has_ascending_keys (map limit_pair hard) ≡ true → has_ascending_keys (map hard_pair (usages hard sums)) ≡ true
+usages_ascend [] sums e = refl
+usages_ascend (limit ∷ hard) [] e = refl
+usages_ascend (limit ∷ []) (sum ∷ sums) e = refl
+usages_ascend (limit ∷ next ∷ hard) (sum ∷ []) e = refl
+usages_ascend (limit ∷ next ∷ hard) (sum ∷ more ∷ sums) e =
+    let parts = and_parts _ _ e in
+    and_from _ _ parts.0 (usages_ascend (next ∷ hard) (more ∷ sums) parts.1)
+
+usages_fit : (hard : List Limit) (sums : List ℕ) → AllByRecursion IsLimit hard → AllByRecursion (λ sum. sum < 2 ^ 128) sums → AllByRecursion IsUsage (usages hard sums)
+usages_fit [] sums limits fit = tt
+usages_fit (limit ∷ hard) [] limits fit = tt
+usages_fit (limit ∷ hard) (sum ∷ sums) limits fit = ((amount_fits limit.written limit.amount limits.0, fit.0), usages_fit hard sums limits.1 fit.1)
+
+told_of_kind : (sums : List ℕ) (kind : Kind) (p : Payload) → AllByRecursion (λ sum. sum < 2 ^ 128) sums → IsPayloadOf kind p → IsPayloadOf kind (with_usages sums p)
+told_of_kind sums kind (Quota hard status) fit is = (is.0, is.1, is.2, usages_ascend hard sums is.1, usages_fit hard sums is.2 fit)
+told_of_kind sums kind (NamespaceOf terminating) fit is = is
+told_of_kind sums kind (Config entries) fit is = is
+told_of_kind sums kind (Hierarchy parent cascade children conditions) fit is = is
+told_of_kind sums kind (Anchor status) fit is = is
+told_of_kind sums kind (Plain members need) fit is = is
+
+told_kept : (sums : List ℕ) (p : Payload) → is_kept (with_usages sums p) ≡ is_kept p
+told_kept sums (Quota hard status) = refl
+told_kept sums payload = refl
+
+told_typed : (sums : List ℕ) (kind : Kind) (p : Payload) → is_typed kind (with_usages sums p) ≡ is_typed kind p
+told_typed sums Secret (Quota hard status) = refl
+told_typed sums kind (Quota hard status) = refl
+told_typed sums kind payload = refl
+
+pub sums_served : (sums : List ℕ) (x : Object) → IsServed x → AllByRecursion (λ sum. sum < 2 ^ 128) sums → IsServed (with_sums sums x)
+sums_served sums x served fit =
+    let none = no_fault x served.legal.sound in
+    let legal = label_parts x none.labels in
+    let y = with_sums sums x in
+    record {
+      legal = record {
+        sound = no_new_fault x y (record { counted_same = refl; annotations = omega arith; specified = size_told sums x.payload }) none.names (labels_from y legal.0 legal.1) served.legal.sound;
+        home = served.legal.home;
+        payload = told_of_kind sums x.id.kind x.payload fit served.legal.payload;
+      };
+      kept = record { labels = served.kept.labels; annotations = served.kept.annotations; payload = told_kept sums x.payload ∙ served.kept.payload; typed = told_typed sums x.id.kind x.payload ∙ served.kept.typed };
     }
 
 -- ---- reports

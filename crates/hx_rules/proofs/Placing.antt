@@ -4,19 +4,24 @@
 --     labels_stand, labels_differ  a namespace that has the prescribed labels isn't written;  one that hasn't is
 --     status_stands, status_differs  the same of an anchor and its status
 --     report_stands, report_differs  and of a HierarchyConfiguration and what it reports
---     same_condition-Decides         the test of two conditions says whether they are one
-use Rattle.std.proofs.Common.{◌≡◌, ℕ, Bool, true, false, not, List, Option, Some, None, refl, sym, ap, ◌∙◌, subst, true≢false}
+--     usages_stand, usages_differ, usages_elsewhere  and of a quota and what it tells;  nothing else tells it
+--     same_condition-Decides, same_usage-Decides     the test of two conditions says whether they are one;  and that of two usages
+use Rattle.std.proofs.Common.{◌≡◌, ℕ, Bool, true, false, not, List, [], Option, Some, None, refl, sym, ap, ◌∙◌, subst, true≢false}
 use Rattle.std.specs.Bool.{Decides}
 use Rattle.std.specs.Cmp.{both_ways}
-use Rattle.hx_object.proofs.Sameness.{exact_condition, same_object_from}
+use Rattle.std.proofs.lemmas.Bool.{and_from, eq-eqb}
+use Rattle.hx_object.proofs.Sameness.{exact_condition, exact_usage, same_object_from}
 use Rattle.hx_object.specs.contracts.object.ConditionPartialEq.TheImpl as condition_eq
+use Rattle.hx_object.specs.contracts.object.UsagePartialEq.TheImpl as usage_eq
 use Rattle.hx_object.specs.declared.object.AnchorStatus.{AnchorStatus}
 use Rattle.hx_object.specs.declared.object.Condition.{Condition}
 use Rattle.hx_object.specs.declared.object.Condition.TheVariants.{InCycle, ParentMissing, IllegalParent, Ancestor, AnchorMissing}
 use Rattle.hx_object.specs.declared.object.Id.{Id}
+use Rattle.hx_object.specs.declared.object.Limit.{Limit}
 use Rattle.hx_object.specs.declared.object.Object.{Object}
 use Rattle.hx_object.specs.declared.object.Payload.{Payload}
-use Rattle.hx_object.specs.declared.object.Payload.TheVariants.{Anchor, Hierarchy}
+use Rattle.hx_object.specs.declared.object.Payload.TheVariants.{Namespace as NamespaceOf, Config, Anchor, Hierarchy, Quota, Plain}
+use Rattle.hx_object.specs.declared.object.Usage.{Usage}
 use Rattle.hx_model.specs.Answers.{same_object}
 use Rattle.hx_model.specs.First.{so}
 use Rattle.hx_model.specs.Propagation.{copy_of}
@@ -25,8 +30,9 @@ use Rattle.hx_model.specs.State.{with_version}
 use Rattle.hx_model.specs.Subnamespaces.{allows_cascade}
 use Rattle.hx_model.specs.Tree.{spec_parent}
 use Rattle.hx_model.specs.TreeLabels.{prescribed_labels}
-use Rattle.hx_model.specs.Wanted.{labelled, placed, with_status_of}
+use Rattle.hx_model.specs.Wanted.{labelled, placed, usages, with_status_of, with_sums, with_usages}
 use Rattle.hx_model.specs.declared.key.Write.TheVariants.{Put}
+use Rattle.hx_model.proofs.Climbing.{same_itself}
 use Rattle.hx_rules.specs.Briefs.{is_placed}
 
 same_object-Decides : (a b : Object) → Decides (same_object a b) (a ≡ b)
@@ -106,6 +112,35 @@ report_differs children told conditions known parent cascade x n id labels annot
     (λ i. Some (Put (made (p i) (q i) (r i) (Hierarchy (u i) (c i) (t i) (k i)))))
     ∙ put_where_new (with_report children conditions x) (Some x) (differ (with_version x 0) (with_report children conditions x) (λ e. apart (ap (λ (o : Object). o.payload) e)))
 
+-- what a quota tells
+abbrev told_by : Payload → List Usage
+told_by (Quota hard status) = status
+told_by _ = []
+
+pub usages_stand : (sums : List ℕ) (x : Object) (hard : List Limit) (status : List Usage) → x.payload ≡ Quota hard status → status ≡ usages hard sums → None ≡ placed (with_sums sums x) (Some x)
+usages_stand sums x hard status is same =
+    let still : x.payload ≡ with_usages sums x.payload = is ∙ ap (λ us. Quota hard us) same ∙ sym (ap (with_usages sums) is) in
+    kept_where_placed (with_sums sums x) (Some x) ((same_object-Decides (with_version x 0) (with_sums sums x)).1 (λ i. made x.id x.labels x.annotations (still i)))
+
+pub usages_differ : (sums : List ℕ) (x : Object) (hard kept : List Limit) (status told : List Usage) (id : Id) (labels annotations : List (List ℕ × List ℕ)) → id ≡ x.id → labels ≡ x.labels → annotations ≡ x.annotations
+    → x.payload ≡ Quota hard status → kept ≡ hard → told ≡ usages hard sums → (status ≡ told → ⊥) → Some (Put (made id labels annotations (Quota kept told))) ≡ placed (with_sums sums x) (Some x)
+usages_differ sums x hard kept status told id labels annotations p q r is k t apart =
+    let new : Quota kept told ≡ with_usages sums x.payload = (λ i. Quota (k i) (t i)) ∙ sym (ap (with_usages sums) is) in
+    (λ i. Some (Put (made (p i) (q i) (r i) (new i))))
+    ∙ put_where_new (with_sums sums x) (Some x)
+    (differ (with_version x 0) (with_sums sums x) (λ e. apart (ap told_by (sym is ∙ ap (λ (o : Object). o.payload) e ∙ ap (with_usages sums) is) ∙ sym t)))
+
+pub usages_elsewhere : (sums : List ℕ) (x : Object) → ((hard : List Limit) (status : List Usage) → x.payload ≡ Quota hard status → ⊥) → None ≡ placed (with_sums sums x) (Some x)
+usages_elsewhere sums x other = kept_where_placed (with_sums sums x) (Some x) ((same_object-Decides (with_version x 0) (with_sums sums x)).1 (λ i. made x.id x.labels x.annotations (still x.payload other i)))
+  where
+    still : (payload : Payload) → ((hard : List Limit) (status : List Usage) → payload ≡ Quota hard status → ⊥) → payload ≡ with_usages sums payload
+    still (Quota hard status) none = absurd (none hard status refl)
+    still (NamespaceOf terminating) none = refl
+    still (Config entries) none = refl
+    still (Hierarchy parent cascade children conditions) none = refl
+    still (Anchor status) none = refl
+    still (Plain members need) none = refl
+
 -- the test of two conditions
 abbrev pub same_condition : Condition → Condition → Bool
 same_condition = (condition_eq.ghosts).eq
@@ -119,3 +154,13 @@ condition_itself AnchorMissing = refl
 
 pub same_condition-Decides : (a b : Condition) → Decides (same_condition a b) (a ≡ b)
 same_condition-Decides a b = (exact_condition a b, (λ e. subst (λ (c : Condition). same_condition a c ≡ true) e (condition_itself a)))
+
+-- the test of two usages
+abbrev pub same_usage : Usage → Usage → Bool
+same_usage = (usage_eq.ghosts).eq
+
+usage_itself : (a : Usage) → same_usage a a ≡ true
+usage_itself a = and_from _ _ (same_itself a.resource) (and_from _ _ (eq-eqb a.hard a.hard refl) (eq-eqb a.used a.used refl))
+
+pub same_usage-Decides : (a b : Usage) → Decides (same_usage a b) (a ≡ b)
+same_usage-Decides a b = (exact_usage a b, (λ e. subst (λ (c : Usage). same_usage a c ≡ true) e (usage_itself a)))

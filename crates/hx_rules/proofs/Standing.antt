@@ -33,8 +33,8 @@ short_none (found.Tree ns takes_part chain) = tt
 short_none (found.Report takes hierarchy children conditions) = tt
 short_none (found.Child takes_part anchored excluded taken) = tt
 short_none (found.Anchor live anchor status) = tt
+short_none (found.Used live quota sums) = tt
 short_none (found.Purge leaving least) = tt
-short_none found.Unserved = tt
 
 pub short_copy : (r : Result (Option Write) NoMemory) (facts : Facts) (ns : Option Object) (takes_part : Bool) (place : Option Object) (mode : Mode) (sources : List Object) → facts ≡ found.Copy ns takes_part place mode sources
     → IfOk r (λ write. IsShort facts write)

@@ -30,7 +30,7 @@ use Rattle.hx_model.specs.Subnamespaces.{anchor_id}
 use Rattle.hx_model.specs.Tree.{forest_of, hierarchy_id}
 use Rattle.hx_model.specs.TreeLabels.{is_open}
 use Rattle.hx_model.specs.Valid.{IsStored}
-use Rattle.hx_model.specs.Wanted.{anchor_status, anchor_write, child_write, copied_in, copy_write, labelled, least_id, placed, purge_write, subnamespace, tree_write, with_status_of, without_copy}
+use Rattle.hx_model.specs.Wanted.{anchor_status, anchor_write, child_write, copied_in, copy_write, labelled, least_id, placed, purge_write, quota_id, subnamespace, sums_of, tree_write, used_write, with_status_of, with_sums, without_copy}
 use Rattle.hx_model.specs.declared.key.Key.{Key}
 use Rattle.hx_model.specs.declared.key.Key.TheVariants as key
 use Rattle.hx_model.specs.declared.key.Write.{Write}
@@ -45,7 +45,7 @@ use Rattle.hx_rules.specs.Briefs.{IsPlanned, IsShort, IsStorable, IsStorableFor,
 use Rattle.hx_rules.specs.declared.brief.Brief.{Brief}
 use Rattle.hx_rules.specs.declared.brief.Facts.{Facts}
 use Rattle.hx_rules.specs.declared.brief.Facts.TheVariants as facts
-use Rattle.hx_rules.proofs.Legal.{AreLabels, bare_report_served, copy_served, labelled_served, legal_names, report_served, status_served, subnamespace_served}
+use Rattle.hx_rules.proofs.Legal.{AreLabels, bare_report_served, copy_served, labelled_served, legal_names, report_served, status_served, subnamespace_served, sums_served}
 
 -- ---- what a write puts
 
@@ -108,6 +108,11 @@ anchor_storable live status None served = tt
 anchor_storable false status (Some y) served = tt
 anchor_storable true status (Some y) served = placed_storable (with_status_of status y) (Some y) (served y refl) refl
 
+used_storable : (live : Bool) (sums : List ℕ) (quota : Option Object) → ((y : Object) → quota ≡ Some y → IsServed (with_sums sums y)) → IsStorable (used_write live sums quota)
+used_storable live sums None served = tt
+used_storable false sums (Some y) served = tt
+used_storable true sums (Some y) served = placed_storable (with_sums sums y) (Some y) (served y refl) refl
+
 report_storable : (takes : Bool) (found : Option Object) (children : List (List ℕ)) (conditions : List Condition) (n : List ℕ) → ((y : Object) → found ≡ Some y → IsServed (with_report children conditions y)) → (takes ≡ true → IsServed (bare_report n children conditions))
     → IsStorable (report_write takes found children conditions n)
 report_storable false None children conditions n served bare = tt
@@ -161,6 +166,10 @@ child_served objects n m all e =
 anchor_served : (objects : Objects) (n m : List ℕ) (status : AnchorStatus) (y : Object) → AllByRecursion IsServed objects → object_at objects (anchor_id n m) ≡ Some y → IsServed (with_status_of status y)
 anchor_served objects n m status y all e = status_served status y (All-found IsServed (anchor_id n m) y objects all e) (sym (ap (λ (id : Id). id.kind) (found_id objects (anchor_id n m) y e)))
 
+-- a quota that is there, with other usages
+quota_served : (objects : Objects) (n m : List ℕ) (sums : List ℕ) (y : Object) → AllByRecursion IsServed objects → AllByRecursion (λ sum. sum < 2 ^ 128) sums → object_at objects (quota_id n m) ≡ Some y → IsServed (with_sums sums y)
+quota_served objects n m sums y all fit e = sums_served sums y (All-found IsServed (quota_id n m) y objects all e) fit
+
 all_append : (P : Object → Type 0) (xs ys : List Object) → AllByRecursion P xs → AllByRecursion P ys → AllByRecursion P (xs ++ ys)
 all_append P [] ys p q = q
 all_append P (x ∷ xs) ys p q = (p.0, all_append P xs ys p.1 q)
@@ -202,6 +211,13 @@ planned_tree s n None all short e = tt
 planned_tree s n (Some write) all short e =
     subst IsStorable (sym e) (tree_storable (is_open (forest_of s) n) (chain_of (forest_of s) n) (object_at s.objects (namespace_id n)) (λ y there. All-found IsServed (namespace_id n) y s.objects all there) (chain_named s n all) short)
 
+planned_used : (s : State) (n m : List ℕ) (write : Option Write) → AllByRecursion IsServed s.objects
+    → IsShort (facts.Used (is_live (forest_of s) n) (object_at s.objects (quota_id n m)) (sums_of s n (object_at s.objects (quota_id n m)))) write
+    → write ≡ used_write (is_live (forest_of s) n) (sums_of s n (object_at s.objects (quota_id n m))) (object_at s.objects (quota_id n m)) → IsStorable write
+planned_used s n m None all short e = tt
+planned_used s n m (Some write) all short e =
+    subst IsStorable (sym e) (used_storable (is_live (forest_of s) n) (sums_of s n (object_at s.objects (quota_id n m))) (object_at s.objects (quota_id n m)) (λ y there. quota_served s.objects n m (sums_of s n (object_at s.objects (quota_id n m))) y all short there))
+
 planned_storable : (s : State) (k : Key) (found : Facts) (write : Option Write) → AllByRecursion IsServed s.objects → found ≡ facts_of s k → IsShort found write → write ≡ planned k found → IsStorable write
 planned_storable s (key.Copy n kind name) found write all e short is =
     subst IsStorable (sym (is ∙ ap (planned (key.Copy n kind name)) e))
@@ -220,7 +236,8 @@ planned_storable s (key.Child n name) found write all e short is =
 planned_storable s (key.Anchor n name) found write all e short is =
     subst IsStorable (sym (is ∙ ap (planned (key.Anchor n name)) e))
     (anchor_storable (is_live (forest_of s) n) (anchor_status s n name) (object_at s.objects (anchor_id n name)) (λ y there. anchor_served s.objects n name (anchor_status s n name) y all there))
-planned_storable s (key.Used n name) found write all e short is = subst IsStorable (sym (is ∙ ap (planned (key.Used n name)) e)) tt
+planned_storable s (key.Used n name) found write all e short is =
+    planned_used s n name write all (subst (λ (f : Facts). IsShort f write) e short) (is ∙ ap (planned (key.Used n name)) e)
 planned_storable s (key.Purge n) found write all e short is =
     subst IsStorable (sym (is ∙ ap (planned (key.Purge n)) e)) (purge_storable (is_leaving (forest_of s) n) (least_id s n) n)
 

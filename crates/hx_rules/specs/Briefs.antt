@@ -8,6 +8,7 @@
 --     IsPlanned brief write what every plan keeps
 --     Planned               a brief and its write
 use Rattle.std.specs.Prelude.{ℕ, ◌≡◌, ◌<◌, ◌^◌, Bool, false, length, is_some, Option, Some, None}
+use Rattle.std.specs.List.{AllByRecursion}
 use Rattle.hx_object.specs.declared.object.Object.{Object}
 use Rattle.hx_model.specs.Answers.{same_object}
 use Rattle.hx_model.specs.Cases.{is_leaving}
@@ -23,7 +24,7 @@ use Rattle.hx_model.specs.Subnamespaces.{anchor_id}
 use Rattle.hx_model.specs.Tree.{forest_of, hierarchy_id}
 use Rattle.hx_model.specs.TreeLabels.{is_open}
 use Rattle.hx_model.specs.Valid.{IsValid}
-use Rattle.hx_model.specs.Wanted.{anchor_status, anchor_write, child_write, copy_write, guards_of, least_id, purge_write, tree_write, wanted_write}
+use Rattle.hx_model.specs.Wanted.{anchor_status, anchor_write, child_write, copy_write, guards_of, least_id, purge_write, quota_id, sums_of, tree_write, used_write, wanted_write}
 use Rattle.hx_model.specs.declared.key.Key.{Key}
 use Rattle.hx_model.specs.declared.key.Key.TheVariants as key
 use Rattle.hx_model.specs.declared.key.Write.{Write}
@@ -43,8 +44,8 @@ facts_of s (key.Report n) = facts.Report (is_calm (forest_of s) n) (object_at s.
 facts_of s (key.Child n name) =
     facts.Child (is_open (forest_of s) n) (is_some (object_at s.objects (anchor_id n name))) (is_in name s.config.excluded) (is_some (object_at s.objects (namespace_id name)))
 facts_of s (key.Anchor n name) = facts.Anchor (is_live (forest_of s) n) (object_at s.objects (anchor_id n name)) (anchor_status s n name)
+facts_of s (key.Used n name) = facts.Used (is_live (forest_of s) n) (object_at s.objects (quota_id n name)) (sums_of s n (object_at s.objects (quota_id n name)))
 facts_of s (key.Purge n) = facts.Purge (is_leaving (forest_of s) n) (least_id s n)
-facts_of s _ = facts.Unserved
 
 -- its version, its guards and its facts are those of the state, for its key
 pub record StandsFor (brief : Brief) (s : State) : Type 0 where
@@ -66,6 +67,7 @@ planned (key.Tree n) (facts.Tree ns takes_part chain) = tree_write takes_part ch
 planned (key.Report n) (facts.Report takes hierarchy children conditions) = report_write takes hierarchy children conditions n
 planned (key.Child n name) (facts.Child takes_part anchored excluded taken) = child_write takes_part anchored excluded taken n name
 planned (key.Anchor n name) (facts.Anchor live anchor status) = anchor_write live status anchor
+planned (key.Used n name) (facts.Used live quota sums) = used_write live sums quota
 planned (key.Purge n) (facts.Purge leaving least) = purge_write leaving least n
 planned _ _ = None
 
@@ -90,9 +92,10 @@ IsStorable (Some (Put x)) = IsServed x × (x.version ≡ 0)
 abbrev pub IsStorableFor : Brief → Option Write → Type 0
 IsStorableFor brief write = (s : State) → IsValid s → StandsFor brief s → IsStorable write
 
--- where a namespace is written, its chain is no longer than a machine counts
+-- where a namespace is written, its chain is no longer than a machine counts, and where a quota is, so are its sums
 abbrev pub IsShort : Facts → Option Write → Type 0
 IsShort (facts.Tree ns takes_part chain) (Some write) = length chain < 2 ^ 64
+IsShort (facts.Used live quota sums) (Some write) = AllByRecursion (λ sum. sum < 2 ^ 128) sums
 IsShort _ _ = Unit {0}
 
 -- the write is the planned one

@@ -74,6 +74,15 @@ pub enum Facts {
         /// The status that it is to have.
         status: AnchorStatus,
     },
+    /// Of the status of a quota.
+    Used {
+        /// Whether the namespace of the quota is there, and not on its way out.
+        is_live: bool,
+        /// The quota, where it is there.
+        quota: Option<Shared>,
+        /// What is used of each of its limits in the subtree of its namespace, in their order, in thousandths.
+        sums: List<u128>,
+    },
     /// Of the removal of a namespace.
     Purge {
         /// Whether the namespace is there, and on its way out.
@@ -81,8 +90,6 @@ pub enum Facts {
         /// The identity of the first object that lies in it.
         least: Option<Id>,
     },
-    /// Of the keys that want nothing yet: those of quotas.
-    Unserved,
 }
 
 /// A brief with several owners. Contracts see it as the brief itself.

@@ -1,6 +1,6 @@
 //! What a reconciler writes for a key: a plan, which is made from a small brief without the state that the brief was copied out of.
 //!
-//! Plans are made for the keys of copies, tree labels, subnamespaces, statuses of anchors and removals. Those of reports and of quotas want nothing yet. Which sources go where, and which labels a place prescribes, is told to others as well.
+//! Plans are made for the keys of copies, tree labels, reports, subnamespaces, statuses of anchors and of quotas, and removals. Which sources go where, and which labels a place prescribes, is told to others as well.
 #![tactic(auto)]
 
 mod brief;
@@ -13,6 +13,7 @@ mod reports;
 mod sources;
 mod subnamespaces;
 mod tree_labels;
+mod usage;
 
 pub use brief::{Brief, Facts, SharedBrief};
 pub use exceptions::exception;
@@ -20,3 +21,4 @@ pub use planned::Plan;
 pub use planning::plan;
 pub use sources::{goes_to, is_sent, stays_home};
 pub use tree_labels::prescribed_labels;
+pub use usage::law_of_sums;

@@ -9,6 +9,7 @@ use crate::removals::next_to_go;
 use crate::reports::wanted_report;
 use crate::subnamespaces::{subnamespace, wanted_status};
 use crate::tree_labels::wanted_labels;
+use crate::usage::{law_of_sums, wanted_usages};
 use crate::{Brief, Facts, Plan, SharedBrief};
 use hx_model::{Key, Write};
 use hx_object::{NoMemory, Text};
@@ -16,7 +17,7 @@ use std::alloc::Global;
 
 /// The plan of a brief. Where no memory is left, the brief comes back.
 ///
-/// The write is that of HNC's reconcilers (HNC user guide, concepts): in a namespace that takes part, a place of copies holds the copy of the farthest source that goes there, the namespace's labels tell its ancestors, and each anchor has its subnamespace. An anchor tells its status, and a HierarchyConfiguration the children and the conditions of its namespace. Of a namespace that is on its way out, what lies in it goes object by object, and then the namespace.
+/// The write is that of HNC's reconcilers (HNC user guide, concepts): in a namespace that takes part, a place of copies holds the copy of the farthest source that goes there, the namespace's labels tell its ancestors, and each anchor has its subnamespace. An anchor tells its status, a HierarchyConfiguration the children and the conditions of its namespace, and a quota what is used of its limits. Of a namespace that is on its way out, what lies in it goes object by object, and then the namespace.
 pub fn plan(alloc: Global, brief: SharedBrief) -> Result<Plan, SharedBrief>
     ensures brief { IfOk result (λ planned. planned.brief ≡ brief) }
     ensures planned { IfOk result (λ planned. planned.write ≡ planned_by brief) }
@@ -41,8 +42,8 @@ fn write_of(alloc: Global, brief: &Brief) -> Result<Option<Write>, NoMemory>
         Key::Report { ns } => write_of_report(alloc, ns, &brief.facts),
         Key::Child { ns, name } => write_of_child(alloc, ns, name, &brief.facts),
         Key::Anchor { .. } => write_of_anchor(&brief.facts),
+        Key::Used { .. } => write_of_used(alloc, &brief.facts),
         Key::Purge { ns } => write_of_purge(alloc, ns, &brief.facts),
-        Key::Used { .. } => Ok(None),
     }
 }
 
@@ -133,6 +134,24 @@ fn write_of_anchor(facts: &Facts) -> Result<Option<Write>, NoMemory>
             anchor: Some(anchor),
             status,
         } => wanted_status(*status, anchor.object()),
+        _ => Ok(None),
+    }
+}
+
+/// The write of a quota's status.
+fn write_of_used(alloc: Global, facts: &Facts) -> Result<Option<Write>, NoMemory>
+    ensures planned { IfOk result (λ write. (ns name : List ℕ) → write ≡ planned (key.Used ns name) facts.now) }
+    ensures short { IfOk result (λ write. IsShort facts.now write) }
+{
+    match facts {
+        Facts::Used {
+            is_live: true,
+            quota: Some(quota),
+            sums,
+        } => {
+            law_of_sums(sums.as_slice());
+            wanted_usages(alloc, quota.object(), sums.as_slice())
+        }
         _ => Ok(None),
     }
 }

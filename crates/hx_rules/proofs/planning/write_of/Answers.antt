@@ -14,3 +14,6 @@ returns-in-Tree-clause-planned c = IfOk-weaker c.write_of_tree.result _ _ (λ wr
 pub returns-in-Anchor-clause-planned : goal.returns-in-Anchor-clause-planned
 returns-in-Anchor-clause-planned c =
     IfOk-weaker c.write_of_anchor.result _ _ (λ write told. told c.in-Anchor.ns c.in-Anchor.name ∙ ap (λ (k : Key). planned k c.args.brief.now.facts) (sym c.in-Anchor.is)) c.write_of_anchor.ensures.planned
+
+pub returns-in-Used-clause-planned : goal.returns-in-Used-clause-planned
+returns-in-Used-clause-planned c = IfOk-weaker c.write_of_used.result _ _ (λ write told. told c.in-Used.ns c.in-Used.name ∙ ap (λ (k : Key). planned k c.args.brief.now.facts) (sym c.in-Used.is)) c.write_of_used.ensures.planned
