@@ -1,5 +1,5 @@
 -- What reading a body gives is what the body says, and may be stored.
-use Rattle.std.proofs.Common.{◌≡◌, ◌⊎◌, inl, inr, ℕ, List, [], ◌∷◌, Bool, true, false, Option, Some, None, Result, Ok, Err, refl, sym, ap, ◌∙◌}
+use Rattle.std.proofs.Common.{◌≡◌, ◌⊎◌, inl, inr, ℕ, List, Bool, true, false, Option, Some, None, Result, Ok, Err, refl, sym, ap, ◌∙◌}
 use Rattle.std.specs.Str.{IsUtf8, is_utf8}
 use Rattle.std.proofs.lemmas.Str.{IsUtf8-from_is_utf8, is_utf8-from_IsUtf8}
 use Rattle.serde_json.specs.Data.{Data}
@@ -69,8 +69,7 @@ given_kept (Namespace terminating) h = refl
 given_kept (Config entries) h = h
 given_kept (Hierarchy parent cascade children conditions) h = refl
 given_kept (Anchor status) h = refl
-given_kept (Quota hard []) h = h
-given_kept (Quota hard (u ∷ us)) h = h
+given_kept (Quota hard status) h = refl
 given_kept (Plain members need) h = refl
 
 -- an object that a request gives may be stored

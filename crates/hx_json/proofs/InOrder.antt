@@ -8,13 +8,14 @@ use Rattle.serde_json.specs.Data.{Data, string, object, Items, no_items, item, M
 use Rattle.serde_json.specs.Read.{max_depth, read}
 use Rattle.hx_object.specs.Canonical.{IsBefore, IsCanonical, AreCanonical, AreMembers}
 use Rattle.hx_object.specs.Faults.{IsPlain, IsPayloadOf, IsLegal}
-use Rattle.hx_object.specs.Json.{pairs_members, unless_empty, unless_none, unless_blank, texts_items, metadata_of, entries_items, conditions_items, limit_pair, hierarchy_spec, hierarchy_status, members_in, own_members, object_data, object_text}
+use Rattle.hx_object.specs.Json.{pairs_members, unless_empty, unless_none, unless_blank, texts_items, metadata_of, entries_items, conditions_items, limit_pair, limits_members, hard_pair, used_pair, quota_status, hierarchy_spec, hierarchy_status, members_in, own_members, object_data, object_text}
 use Rattle.hx_object.specs.Kinds.{name_of, api_version_of}
 use Rattle.hx_object.specs.Pairs.{has_ascending_keys}
 use Rattle.hx_object.specs.declared.kind.Kind.{Kind}
 use Rattle.hx_object.specs.declared.object.Object.{Object}
 use Rattle.hx_object.specs.declared.object.ModeEntry.{ModeEntry}
 use Rattle.hx_object.specs.declared.object.Condition.{Condition}
+use Rattle.hx_object.specs.declared.object.Usage.{Usage}
 use Rattle.hx_object.specs.declared.object.Payload.{Payload}
 use Rattle.hx_object.specs.declared.object.Payload.TheVariants.{Namespace, Config, Hierarchy, Anchor, Quota, Plain}
 use Rattle.hx_json.proofs.Canonical.{before_all, before_put}
@@ -22,12 +23,12 @@ use Rattle.hx_json.proofs.RoundTrip.{read-compact_text, compact_text_once}
 
 -- ---- keys in order
 
-less : (o : Ordering) → is_lt o ≡ true → o ≡ Less
+pub less : (o : Ordering) → is_lt o ≡ true → o ≡ Less
 less Less h = refl
 less Equal h = absurd (true≢false (sym h))
 less Greater h = absurd (true≢false (sym h))
 
-rest_ascends : (p : List ℕ × List ℕ) (ps : List (List ℕ × List ℕ)) → has_ascending_keys (p ∷ ps) ≡ true → has_ascending_keys ps ≡ true
+pub rest_ascends : (p : List ℕ × List ℕ) (ps : List (List ℕ × List ℕ)) → has_ascending_keys (p ∷ ps) ≡ true → has_ascending_keys ps ≡ true
 rest_ascends p [] h = refl
 rest_ascends p (q ∷ ps) h = (and_parts (is_lt (slice_cmp nat_cmp p.0 q.0)) (has_ascending_keys (q ∷ ps)) h).1
 
@@ -166,13 +167,38 @@ status_shallow no_items (item d ds) h k = omega arith
 status_shallow (item c cs) no_items h k = omega arith
 status_shallow (item c cs) (item d ds) h k = omega arith
 
-hierarchy_in_order : (spec status : Members) → AreMembers spec → AreMembers status → AreMembers (member (codes "spec") (object spec) (unless_empty (codes "status") status no_members))
-hierarchy_in_order spec no_members h k = (tt, h, tt)
-hierarchy_in_order spec (member l e status) h k = ((refl, tt), h, (tt, k, tt))
+-- what is used stands in the order of the limits
+used_ascends : (usages : List Usage) → has_ascending_keys (map hard_pair usages) ≡ true → has_ascending_keys (map used_pair usages) ≡ true
+used_ascends [] h = refl
+used_ascends (u ∷ []) h = refl
+used_ascends (u ∷ v ∷ usages) h =
+    let parts = and_parts (is_lt (slice_cmp nat_cmp u.resource v.resource)) (has_ascending_keys (map hard_pair (v ∷ usages))) h in
+    rw parts.0 (used_ascends (v ∷ usages) parts.1)
 
-hierarchy_shallow : (spec status : Members) → members_depth spec ≤ 0 → members_depth status ≤ 2 → members_depth (member (codes "spec") (object spec) (unless_empty (codes "status") status no_members)) ≤ 3
-hierarchy_shallow spec no_members h k = omega arith
-hierarchy_shallow spec (member l e status) h k = omega arith
+-- the status of a quota with these members
+abbrev usages_of : Members → Members → Members
+usages_of hard used = unless_empty (codes "hard") hard (unless_empty (codes "used") used no_members)
+
+usages_in_order : (hard used : Members) → AreMembers hard → AreMembers used → AreMembers (usages_of hard used)
+usages_in_order no_members no_members h k = tt
+usages_in_order no_members (member m f used) h k = (tt, k, tt)
+usages_in_order (member l e hard) no_members h k = (tt, h, tt)
+usages_in_order (member l e hard) (member m f used) h k = ((refl, tt), h, (tt, k, tt))
+
+usages_shallow : (hard used : Members) → members_depth hard ≤ 0 → members_depth used ≤ 0 → members_depth (usages_of hard used) ≤ 1
+usages_shallow no_members no_members h k = omega arith
+usages_shallow no_members (member m f used) h k = omega arith
+usages_shallow (member l e hard) no_members h k = omega arith
+usages_shallow (member l e hard) (member m f used) h k = omega arith
+
+-- what is specified, and what is reported
+both_in_order : (spec status : Members) → AreMembers spec → AreMembers status → AreMembers (member (codes "spec") (object spec) (unless_empty (codes "status") status no_members))
+both_in_order spec no_members h k = (tt, h, tt)
+both_in_order spec (member l e status) h k = ((refl, tt), h, (tt, k, tt))
+
+both_shallow : (spec status : Members) → members_depth spec ≤ 1 → members_depth status ≤ 2 → members_depth (member (codes "spec") (object spec) (unless_empty (codes "status") status no_members)) ≤ 3
+both_shallow spec no_members h k = omega arith
+both_shallow spec (member l e status) h k = omega arith
 
 -- what the kept text of a plain kind reads as
 pub plain_whole : (kind : Kind) (members : List ℕ) (need : _) (p : IsPlain kind members need) → members_in (read members) ≡ p.whole
@@ -182,11 +208,13 @@ own_in_order : (kind : Kind) (payload : Payload) → IsPayloadOf kind payload �
 own_in_order kind (Namespace terminating) h = (tt, (tt, tt, tt), tt)
 own_in_order kind (Config entries) h = (tt, (tt, entries_in_order entries, tt), tt)
 own_in_order kind (Hierarchy parent cascade children conditions) h =
-    hierarchy_in_order (hierarchy_spec parent cascade) (hierarchy_status children conditions) (spec_in_order parent cascade)
+    both_in_order (hierarchy_spec parent cascade) (hierarchy_status children conditions) (spec_in_order parent cascade)
     (status_in_order (texts_items children) (conditions_items conditions) (texts_in_order children) (conditions_in_order conditions))
 own_in_order kind (Anchor None) h = tt
 own_in_order kind (Anchor (Some status)) h = (tt, (tt, tt, tt), tt)
-own_in_order kind (Quota hard status) h = (tt, (tt, pairs_in_order (map limit_pair hard) h.1, tt), tt)
+own_in_order kind (Quota hard status) h =
+    both_in_order (member (codes "hard") (object (limits_members hard)) no_members) (quota_status status) (tt, pairs_in_order (map limit_pair hard) h.1, tt)
+    (usages_in_order (pairs_members (map hard_pair status)) (pairs_members (map used_pair status)) (pairs_in_order (map hard_pair status) h.3) (pairs_in_order (map used_pair status) (used_ascends status h.3)))
 own_in_order kind (Plain members need) h = subst AreMembers (sym (plain_whole kind members need h.1)) h.1.canonical
 
 own_shallow : (kind : Kind) (payload : Payload) → IsPayloadOf kind payload → members_depth (own_members payload) ≤ 126
@@ -195,12 +223,17 @@ own_shallow kind (Config entries) h = omega (arith, entries_shallow entries)
 own_shallow kind (Hierarchy parent cascade children conditions) h =
     omega (
       arith,
-      hierarchy_shallow (hierarchy_spec parent cascade) (hierarchy_status children conditions) (spec_shallow parent cascade)
+      both_shallow (hierarchy_spec parent cascade) (hierarchy_status children conditions) (omega (arith, spec_shallow parent cascade))
           (status_shallow (texts_items children) (conditions_items conditions) (texts_shallow children) (conditions_shallow conditions)),
     )
 own_shallow kind (Anchor None) h = omega arith
 own_shallow kind (Anchor (Some status)) h = omega arith
-own_shallow kind (Quota hard status) h = omega (arith, pairs_shallow (map limit_pair hard))
+own_shallow kind (Quota hard status) h =
+    omega (
+      arith,
+      both_shallow (member (codes "hard") (object (limits_members hard)) no_members) (quota_status status) (omega (arith, pairs_shallow (map limit_pair hard)))
+          (omega (arith, usages_shallow (pairs_members (map hard_pair status)) (pairs_members (map used_pair status)) (pairs_shallow (map hard_pair status)) (pairs_shallow (map used_pair status)))),
+    )
 own_shallow kind (Plain members need) h = subst (λ ms. members_depth ms ≤ 126) (sym (plain_whole kind members need h.1)) (omega (arith, h.1.shallow))
 
 -- ---- the whole object

@@ -28,3 +28,4 @@ pub mod KeyTexts
 pub mod Normal
 pub mod Needs
 pub mod Quotas
+pub mod Usages

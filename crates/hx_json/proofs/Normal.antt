@@ -1,4 +1,6 @@
 -- The compact text of a canonical value has an ordered tree.
+--     compact_ordered    it is read as it stands
+--     compact_usages     and so is what it reports of a quota
 use Rattle.std.proofs.Common.{◌≡◌, ◌≤◌, ℕ, List, [], Bool, true, false, cond, ◌&&◌, pos, negsuc, Option, Some, None, option_map, option_and_then, unwrap_or, is_some, is_lt, Ordering, Less, Equal, Greater, nat_cmp, codes, refl, sym, ap, ◌∙◌, arith, true≢false, append-nil}
 use Rattle.std.specs.Cmp.Lexicographic.{slice_cmp}
 use Rattle.std.proofs.lemmas.Bool.{and_parts}
@@ -16,7 +18,7 @@ use Rattle.serde_json.specs.Written.{number_text, outline, items_outline, member
 use Rattle.serde_json.proofs.Texts.{print-outline}
 use Rattle.hx_object.specs.Canonical.{IsWhole, IsBefore, IsCanonical, AreCanonical, AreMembers}
 use Rattle.hx_object.specs.declared.kind.Kind.{Kind}
-use Rattle.hx_json.specs.Trees.{unless_float, whole_in, is_tame, items_are_tame, members_are_tame, is_after, is_sorted, items_are_sorted, are_sorted, is_head, kept_of, keeps_order, keeps_order_for, is_sorted_in, has_sorted_pairs, has_sorted_metadata, tree_of, IsOrdered}
+use Rattle.hx_json.specs.Trees.{unless_float, whole_in, is_tame, items_are_tame, members_are_tame, is_after, is_sorted, items_are_sorted, are_sorted, is_head, kept_of, keeps_order, keeps_order_for, is_sorted_in, has_sorted_pairs, has_sorted_metadata, has_sorted_usages, tree_of, IsOrdered}
 use Rattle.hx_json.proofs.RoundTrip.{depth-outline, number_read, numbers}
 
 both : (u v : Bool) → u ≡ true → v ≡ true → (u && v) ≡ true
@@ -161,17 +163,17 @@ order_kept (json.string text) h = refl
 order_kept (json.array js) h = refl
 order_kept (json.object ms) h = kept_sorted None ms h
 
-limits_sorted : (o : Option Json) → IsSorted o → unwrap_or (option_map (is_sorted_in (codes "hard")) o) true ≡ true
+hard_sorted : (o : Option Json) → IsSorted o → unwrap_or (option_map (is_sorted_in (codes "hard")) o) true ≡ true
 unfolding IsSorted
-limits_sorted None h = refl
-limits_sorted (Some j) h = unwrapped (find.get (codes "hard") j) (get_sorted (codes "hard") j h)
+hard_sorted None h = refl
+hard_sorted (Some j) h = unwrapped (find.get (codes "hard") j) (get_sorted (codes "hard") j h)
 
 order_kept_for : (kind : Kind) (j : Json) → is_sorted j ≡ true → keeps_order_for kind j ≡ true
 order_kept_for Kind.Namespace j h = refl
 order_kept_for Kind.HncConfiguration j h = refl
 order_kept_for Kind.HierarchyConfiguration j h = refl
 order_kept_for Kind.SubnamespaceAnchor j h = refl
-order_kept_for Kind.HierarchicalResourceQuota j h = limits_sorted (find.get (codes "spec") j) (get_sorted (codes "spec") j h)
+order_kept_for Kind.HierarchicalResourceQuota j h = hard_sorted (find.get (codes "spec") j) (get_sorted (codes "spec") j h)
 order_kept_for _ j h = order_kept j h
 
 -- the compact text of a canonical value is read as it stands
@@ -183,3 +185,10 @@ compact_ordered kind d h shallow =
       tree_compact d h shallow,
       both (is_tame j) _ (tame d h) (both (has_sorted_metadata j) _ (pairs_sorted (find.get (codes "metadata") j) (get_sorted (codes "metadata") j order)) (order_kept_for kind j order)),
     )
+
+-- and so are the limits that it reports
+pub compact_usages : (d : Data) (j : Json) → IsCanonical d → depth d ≤ max_depth → tree_of (compact_text d) ≡ Some j → has_sorted_usages j ≡ true
+compact_usages d j h shallow is =
+    let found : Some (outline d) ≡ Some j = sym (tree_compact d h shallow) ∙ is in
+    let same : outline d ≡ j = cc in
+    ap has_sorted_usages (sym same) ∙ hard_sorted (find.get (codes "status") (outline d)) (get_sorted (codes "status") (outline d) (sorted d h))

@@ -1,10 +1,10 @@
--- What the members of an object tell of its kind and its payload. What is reported of a quota isn't told.
-use Rattle.std.proofs.Common.{◌≡◌, ◌≤◌, ◌<◌, ℕ, List, [], ◌∷◌, Bool, true, false, true≢false, cond, ◌==◌, Option, Some, None, option_map, find, bytes_eq, codes, refl, sym, ap, ◌∙◌, arith, eqb-true}
+-- What the members of an object tell of its kind and its payload.
+use Rattle.std.proofs.Common.{◌≡◌, ◌≤◌, ◌<◌, ℕ, List, [], ◌∷◌, Bool, true, false, cond, ◌==◌, Option, Some, None, option_map, find, bytes_eq, codes, refl, sym, ap, ◌∙◌, arith, eqb-true}
 use Rattle.serde_json.specs.Data.{Data, object, Items, no_items, item, Members, no_members, member}
 use Rattle.serde_json.specs.Find.{get, get_member}
 use Rattle.serde_json.specs.Read.{read}
 use Rattle.hx_object.specs.Faults.{IsPayloadOf}
-use Rattle.hx_object.specs.Json.{unless_empty, texts_items, phase_of, mode_text, entry_data, entries_items, reason_text, conditions_items, anchor_text, hierarchy_spec, hierarchy_status, members_in, own_members}
+use Rattle.hx_object.specs.Json.{unless_empty, texts_items, phase_of, mode_text, entry_data, entries_items, reason_text, conditions_items, anchor_text, hierarchy_spec, hierarchy_status, limits_members, quota_status, members_in, own_members}
 use Rattle.hx_object.specs.Kinds.{all_kinds, name_of, number_of}
 use Rattle.hx_object.proofs.KindTests.{plain_number}
 use Rattle.hx_object.specs.declared.kind.Kind.{Kind}
@@ -19,9 +19,10 @@ use Rattle.hx_object.specs.declared.object.AnchorStatus.TheVariants.{Missing, Ok
 use Rattle.hx_object.specs.declared.object.Payload.{Payload}
 use Rattle.hx_object.specs.declared.object.Payload.TheVariants.{Namespace, Config, Hierarchy, Anchor, Quota, Plain}
 use Rattle.hx_json.specs.Reading.{text_in, text_or, truth_in, items_in, limits_of, plain_of}
-use Rattle.hx_json.specs.Rows.{is_told}
+use Rattle.hx_json.specs.Rows.{usages_of}
 use Rattle.hx_json.proofs.InOrder.{status_of, plain_whole}
 use Rattle.hx_json.proofs.Quotas.{limits_back}
+use Rattle.hx_json.proofs.Usages.{usages_told}
 
 -- ---- the kind
 
@@ -175,9 +176,9 @@ hierarchy_told parent cascade children conditions =
 status_text : List ℕ → Members → Option (List ℕ)
 status_text name ms = text_in (get_member name (members_in (get_member (codes "status") ms)))
 
--- the limits of a quota
-told_quota : Members → Payload
-told_quota ms = Quota (limits_of (members_in (get_member (codes "hard") (members_in (get_member (codes "spec") ms))))) []
+-- what the spec and the status of a quota tell
+told_quota : Members → Members → Payload
+told_quota spec status = Quota (limits_of (members_in (get_member (codes "hard") spec))) (usages_of (get_member (codes "used") status) (members_in (get_member (codes "hard") status)))
 
 -- what the members tell, by the kind and its number
 pub told_payload : ℕ → Kind → Members → Payload
@@ -186,7 +187,7 @@ told_payload n kind ms =
     (cond (n == 2) (Config (told_entries (items_in (get_member (codes "resources") (members_in (get_member (codes "spec") ms))))))
     (cond (n == 3) (told_hierarchy (members_in (get_member (codes "spec") ms)) (members_in (get_member (codes "status") ms)))
     (cond (n == 4) (Anchor (option_map told_anchor (status_text (codes "status") ms)))
-    (cond (n == 5) (told_quota ms) (plain_of kind ms)))))
+    (cond (n == 5) (told_quota (members_in (get_member (codes "spec") ms)) (members_in (get_member (codes "status") ms))) (plain_of kind ms)))))
 
 differs : (n k : ℕ) → k < n → (n == k) ≡ false
 differs n k more = by (n == k) refl
@@ -199,19 +200,22 @@ plain_told : (n : ℕ) (kind : Kind) (ms : Members) → 6 ≤ n → told_payload
 unfolding told_payload
 plain_told n kind ms h = rw (differs n 1 (omega arith), differs n 2 (omega arith), differs n 3 (omega arith), differs n 4 (omega arith), differs n 5 (omega arith))
 
-pub payload_told : (kind : Kind) (payload : Payload) → IsPayloadOf kind payload → is_told payload ≡ true → told_payload (number_of kind) kind (own_members payload) ≡ payload
+pub payload_told : (kind : Kind) (payload : Payload) → IsPayloadOf kind payload → told_payload (number_of kind) kind (own_members payload) ≡ payload
 unfolding told_payload status_text told_quota
-payload_told kind (Namespace terminating) h whole = ap (λ n. told_payload n kind (own_members (Namespace terminating))) (ap number_of h) ∙ ap Namespace (phase_told terminating)
-payload_told kind (Config entries) h whole = ap (λ n. told_payload n kind (own_members (Config entries))) (ap number_of h) ∙ ap Config (entries_told entries)
-payload_told kind (Hierarchy parent cascade children conditions) h whole =
+payload_told kind (Namespace terminating) h = ap (λ n. told_payload n kind (own_members (Namespace terminating))) (ap number_of h) ∙ ap Namespace (phase_told terminating)
+payload_told kind (Config entries) h = ap (λ n. told_payload n kind (own_members (Config entries))) (ap number_of h) ∙ ap Config (entries_told entries)
+payload_told kind (Hierarchy parent cascade children conditions) h =
     ap (λ n. told_payload n kind (own_members (Hierarchy parent cascade children conditions))) (ap number_of h.0)
     ∙ ap (told_hierarchy (hierarchy_spec parent cascade)) (status_there (hierarchy_spec parent cascade) (hierarchy_status children conditions))
     ∙ hierarchy_told parent cascade children conditions
-payload_told kind (Anchor None) h whole = ap (λ n. told_payload n kind no_members) (ap number_of h)
-payload_told kind (Anchor (Some status)) h whole = ap (λ n. told_payload n kind (own_members (Anchor (Some status)))) (ap number_of h) ∙ ap (λ s. Anchor (Some s)) (anchor_told status)
-payload_told kind (Quota hard []) h whole = ap (λ n. told_payload n kind (own_members (Quota hard []))) (ap number_of h.0) ∙ ap (λ limits. Quota limits []) (limits_back hard h.2)
-payload_told kind (Quota hard (usage ∷ status)) h whole = absurd (true≢false (sym whole))
-payload_told kind (Plain members need) h whole =
+payload_told kind (Anchor None) h = ap (λ n. told_payload n kind no_members) (ap number_of h)
+payload_told kind (Anchor (Some status)) h = ap (λ n. told_payload n kind (own_members (Anchor (Some status)))) (ap number_of h) ∙ ap (λ s. Anchor (Some s)) (anchor_told status)
+payload_told kind (Quota hard status) h =
+    let spec = member (codes "hard") (object (limits_members hard)) no_members in
+    ap (λ n. told_payload n kind (own_members (Quota hard status))) (ap number_of h.0)
+    ∙ ap (told_quota spec) (status_there spec (quota_status status))
+    ∙ (λ i. Quota (limits_back hard h.2 i) (usages_told status h.3 h.4 i))
+payload_told kind (Plain members need) h =
     plain_told (number_of kind) kind (members_in (read members)) (plain_number kind h.0)
     ∙ ap (plain_of kind) (plain_whole kind members need h.1)
     ∙ (λ i. Plain (sym h.1.text i) (sym h.1.says i))

@@ -3,7 +3,7 @@ use Rattle.std.proofs.Common.{◌≡◌, ℕ, List, [], ◌∷◌, ◌++◌, Boo
 use Rattle.json.specs.Print.{quoted, escape_byte}
 use Rattle.serde_json.specs.Data.{Data, string, object, Members, no_members, member}
 use Rattle.serde_json.specs.Written.{compact_text, items_text, members_text}
-use Rattle.hx_object.specs.Json.{pairs_members, unless_empty, unless_blank, texts_items, entries_items, conditions_items, limits_members, hierarchy_spec, hierarchy_status, metadata_of, object_text}
+use Rattle.hx_object.specs.Json.{pairs_members, unless_empty, unless_blank, texts_items, entries_items, conditions_items, quota_status, hierarchy_spec, hierarchy_status, metadata_of, object_text}
 use Rattle.hx_object.specs.Kinds.{name_of, api_version_of}
 use Rattle.hx_object.specs.declared.kind.Kind.{Kind}
 use Rattle.hx_object.specs.declared.kind.Kind.TheVariants as kind
@@ -12,13 +12,14 @@ use Rattle.hx_object.specs.declared.object.Condition.{Condition}
 use Rattle.hx_object.specs.declared.object.Limit.{Limit}
 use Rattle.hx_object.specs.declared.object.ModeEntry.{ModeEntry}
 use Rattle.hx_object.specs.declared.object.Object.{Object}
+use Rattle.hx_object.specs.declared.object.Usage.{Usage}
 use Rattle.hx_object.specs.declared.object.Payload.TheVariants.{Namespace, Config, Hierarchy, Anchor, Quota}
 use Rattle.hx_object.specs.Json.{own_members}
 use Rattle.hx_model.specs.Json.{objects_items, list_text}
 use Rattle.hx_model.specs.Replies.{status_text, gone_text}
 use Rattle.hx_model.specs.declared.refusal.Refusal.{Refusal}
 use Rattle.hx_model.specs.declared.refusal.Refusal.TheVariants as of
-use Rattle.hx_json.specs.Pushed.{pairs_text, pairs_front, namespace_text, metadata_text, head_text, namespace_rest, config_rest, quota_rest, spec_part, conditions_alone, conditions_behind, status_rest, pushed_list, pushed_status, pushed_gone, rule_text, over_text}
+use Rattle.hx_json.specs.Pushed.{pairs_text, pairs_front, namespace_text, metadata_text, head_text, namespace_rest, config_rest, quota_spec, hard_text, used_text, usages_rest, spec_part, conditions_alone, conditions_behind, status_rest, pushed_list, pushed_status, pushed_gone, rule_text, over_text}
 
 -- two brackets behind a text
 closed_twice : (text : List ℕ) → (text ++ 125 ∷ []) ++ 125 ∷ [] ≡ text ++ codes "}}"
@@ -94,10 +95,23 @@ unfolding object_text config_rest whole_text escape_byte
 config_pushed x entries is =
     sym (whole_pushed x (config_rest entries)) ∙ ap (λ t. whole_text x (codes ",\"spec\":{\"resources\":[" ++ t)) (sym (closed_twice (items_text false (entries_items entries)))) ∙ rw is refl
 
-pub quota_pushed : (x : Object) (hard : List Limit) (status : List _) → x.payload ≡ Quota hard status → head_text x ++ quota_rest hard ≡ object_text x
-unfolding object_text quota_rest whole_text escape_byte
+usages_are : (status : List Usage) → members_text true (unless_empty (codes "status") (quota_status status) no_members) ≡ usages_rest status
+unfolding escape_byte
+usages_are [] = refl
+usages_are (usage ∷ status) =
+    let hard = hard_text (usage ∷ status) in
+    let used = used_text (usage ∷ status) in
+    ap (λ t. codes ",\"status\":{\"hard\":{" ++ t) (append_assoc hard (codes ",\"used\":{" ++ (used ++ 125 ∷ [])) (125 ∷ []) ∙ ap (λ t. hard ++ (codes ",\"used\":{" ++ t)) (closed_twice used))
+
+pub quota_pushed : (x : Object) (hard : List Limit) (status : List Usage) → x.payload ≡ Quota hard status → head_text x ++ (quota_spec hard ++ usages_rest status) ≡ object_text x
+unfolding object_text quota_spec whole_text escape_byte
 quota_pushed x hard status is =
-    sym (whole_pushed x (quota_rest hard)) ∙ ap (λ t. whole_text x (codes ",\"spec\":{\"hard\":{" ++ t)) (sym (closed_twice (members_text false (limits_members hard)))) ∙ rw is refl
+    sym (whole_pushed x (quota_spec hard ++ usages_rest status)) ∙ ap (λ t. whole_text x (quota_spec hard ++ t)) (sym (usages_are status)) ∙ rw is refl
+
+pub usages_filled : (usages : List Usage) → length usages == 0 ≡ false
+    → codes ",\"status\":{\"hard\":{" ++ (hard_text usages ++ (codes ",\"used\":{" ++ (used_text usages ++ codes "}}"))) ≡ usages_rest usages
+usages_filled [] h = absurd (true≢false h)
+usages_filled (usage ∷ usages) h = refl
 
 pub anchor_pushed : (x : Object) (status : Option AnchorStatus) → x.payload ≡ Anchor status → head_text x ++ members_text true (own_members (Anchor status)) ≡ object_text x
 unfolding object_text whole_text escape_byte

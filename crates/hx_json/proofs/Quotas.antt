@@ -4,6 +4,7 @@
 --     quota_sound          a quota without fault has quantities as its limits
 --     quantities_back      so has one whose payload is a quota's
 --     limits_back          limits are read back from their members
+--     members_inside       the members of a member inside another one of a canonical value stand in order
 use Rattle.std.proofs.Common.{◌≡◌, ℕ, List, [], ◌∷◌, Bool, true, false, not, Option, Some, None, Result, Ok, Err, Ordering, Less, Equal, Greater, nat_cmp, map, option_and_then, unwrap_or, is_some, is_none, cond, ◌&&◌, codes, refl, sym, ap, ◌∙◌, true≢false}
 use Rattle.std.specs.Prelude.{⊤}
 use Rattle.std.specs.List.{AllByRecursion}
@@ -111,8 +112,8 @@ members_canonical (Some (string s)) h = tt
 members_canonical (Some (array ds)) h = tt
 members_canonical (Some (object ms)) h = h
 
-hard_canonical : (d : Data) → IsCanonical d → AreMembers (members_in (in_spec (codes "hard") d))
-hard_canonical d h = members_canonical (in_spec (codes "hard") d) (inside_canonical (codes "hard") (counted_member (codes "spec") d) (counted_canonical (codes "spec") d h))
+pub members_inside : (outer name : List ℕ) (d : Data) → IsCanonical d → AreMembers (members_in (option_and_then (counted_member name) (counted_member outer d)))
+members_inside outer name d h = members_canonical (option_and_then (counted_member name) (counted_member outer d)) (inside_canonical name (counted_member outer d) (counted_canonical outer d h))
 
 -- ---- what a body says is a quota's payload
 
@@ -138,7 +139,7 @@ limits_legal (member k d ms) h =
 pub quota_payload : (d : Data) → IsCanonical d → has_quantities of.HierarchicalResourceQuota d ≡ true → IsPayloadOf of.HierarchicalResourceQuota (payload_of of.HierarchicalResourceQuota d)
 quota_payload d h quantities =
     let ms = members_in (in_spec (codes "hard") d) in
-    (refl, limits_ascend ms (hard_canonical d h), limits_legal ms quantities)
+    (refl, limits_ascend ms (members_inside (codes "spec") (codes "hard") d h), limits_legal ms quantities, refl, tt)
 
 -- ---- a quota without fault
 

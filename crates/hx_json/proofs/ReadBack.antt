@@ -2,8 +2,8 @@
 --     object_back      the object of its identity and its version that its value says is itself
 --     said_back        the same of a tree of its text
 --     tree_back        its text has a tree that is read as it stands
-use Rattle.std.proofs.Common.{◌≡◌, ◌≤◌, ℕ, List, [], ◌∷◌, Bool, true, false, true≢false, Option, Some, None, Err, option_and_then, unwrap_or, bytes_eq, codes, refl, sym, subst, ap, ◌∙◌, decimal}
-use Rattle.std.specs.List.{list_all}
+use Rattle.std.proofs.Common.{◌≡◌, ◌≤◌, ℕ, List, [], ◌∷◌, Bool, true, false, true≢false, Option, Some, None, Err, option_and_then, unwrap_or, bytes_eq, map, codes, refl, sym, subst, ap, ◌∙◌, decimal}
+use Rattle.std.specs.List.{AllByRecursion, list_all}
 use Rattle.std.proofs.lemmas.Bool.{and_parts}
 use Rattle.serde_json.specs.Data.{Data, null, string, object, Members, no_members, member, put, depth}
 use Rattle.serde_json.specs.Find.{get, get_member}
@@ -11,9 +11,10 @@ use Rattle.serde_json.specs.Read.{max_depth, read}
 use Rattle.serde_json.proofs.Views.{get_member-put_other}
 use Rattle.json.specs.Json.{Json}
 use Rattle.hx_object.specs.Canonical.{IsCanonical}
-use Rattle.hx_object.specs.Faults.{IsPayloadOf, object_fault}
-use Rattle.hx_object.specs.Json.{pairs_members, unless_empty, texts_items, metadata_of, phase_of, mode_text, entry_data, entries_items, condition_data, conditions_items, anchor_text, hierarchy_spec, hierarchy_status, members_in, own_members, object_data, object_text}
+use Rattle.hx_object.specs.Faults.{IsPayloadOf, IsUsage, object_fault}
+use Rattle.hx_object.specs.Json.{pairs_members, unless_empty, texts_items, metadata_of, phase_of, mode_text, entry_data, entries_items, condition_data, conditions_items, anchor_text, hard_pair, hierarchy_spec, hierarchy_status, members_in, own_members, object_data, object_text}
 use Rattle.hx_object.specs.Kinds.{is_plain}
+use Rattle.hx_object.specs.Pairs.{has_ascending_keys}
 use Rattle.hx_object.specs.declared.kind.Kind.{Kind}
 use Rattle.hx_object.specs.declared.kind.Kind.TheVariants as of
 use Rattle.hx_object.specs.declared.object.AnchorStatus.{AnchorStatus}
@@ -27,21 +28,24 @@ use Rattle.hx_object.specs.declared.object.ModeEntry.{ModeEntry}
 use Rattle.hx_object.specs.declared.object.Object.{Object}
 use Rattle.hx_object.specs.declared.object.Payload.{Payload}
 use Rattle.hx_object.specs.declared.object.Payload.TheVariants.{Namespace, Config, Hierarchy, Anchor, Quota, Plain}
+use Rattle.hx_object.specs.declared.object.Limit.{Limit}
+use Rattle.hx_object.specs.declared.object.Usage.{Usage}
 use Rattle.hx_model.specs.Serving.{IsServed, has_type, is_given_mode, is_kept, is_typed}
 use Rattle.hx_json.specs.Reading.{counted_member, entry_of, entries_of, in_spec, is_this, items_in, kept_members, limits_of, metadata_in, mode_of_text, pairs_in, pairs_of, payload_of, plain_of, text_in, truth_in, unless_empty_text, unless_null}
 use Rattle.hx_json.specs.Inside.{has_quantities}
-use Rattle.hx_json.specs.Rows.{Gives, IsTextOf, IsUnsound, condition_in, conditions_of, in_front, in_status, reported, row_fault, said_object, status_named, texts_of, with_status}
-use Rattle.hx_json.specs.Trees.{data_of, is_ordered, tree_of, IsNoTree, IsOrdered}
+use Rattle.hx_json.specs.Rows.{Gives, IsTextOf, IsUnsound, condition_in, conditions_of, in_front, in_status, reported, row_fault, said_object, status_named, texts_of, usages_of, with_status}
+use Rattle.hx_json.specs.Trees.{data_of, has_sorted_usages, is_ordered, tree_of, IsNoTree, IsOrdered}
 use Rattle.hx_json.specs.declared.fault.JsonFault.{JsonFault}
 use Rattle.hx_json.specs.declared.fault.JsonFault.TheVariants as faults
 use Rattle.hx_json.proofs.Given.{typed_is}
 use Rattle.hx_json.proofs.InOrder.{canonical_object, metadata, plain_whole, shallow_object}
-use Rattle.hx_json.proofs.Normal.{compact_ordered}
+use Rattle.hx_json.proofs.Normal.{compact_ordered, compact_usages}
 use Rattle.hx_json.proofs.Orders.{ordered_read}
 use Rattle.hx_json.proofs.Quotas.{limits_back, quantities_back}
 use Rattle.hx_json.proofs.RoundTrip.{read-compact_text}
 use Rattle.hx_json.proofs.Statuses.{reported_typed, still_sound}
 use Rattle.hx_json.proofs.Telling.{behind, head_taken, metadata_there, other_text, own_lacks, pairs_told}
+use Rattle.hx_json.proofs.Usages.{usages_back}
 
 -- ---- the payload
 
@@ -118,6 +122,16 @@ halts_back [] (c ∷ cs) = conditions_back (c ∷ cs)
 halts_back (text ∷ texts) [] = refl
 halts_back (text ∷ texts) (c ∷ cs) = conditions_back (c ∷ cs)
 
+-- a member of what is reported of a quota
+reported_of : List ℕ → List Limit → List Usage → Option Data
+reported_of name hard status = option_and_then (counted_member name) (unless_null (get_member (codes "status") (own_members (Quota hard status))))
+
+used_back : (hard : List Limit) (status : List Usage) → has_ascending_keys (map hard_pair status) ≡ true → AllByRecursion IsUsage status
+    → usages_of (reported_of (codes "used") hard status) (members_in (reported_of (codes "hard") hard status)) ≡ status
+unfolding reported_of
+used_back hard [] ascends h = refl
+used_back hard (usage ∷ status) ascends h = usages_back (usage ∷ status) ascends h
+
 plain_kind : (kind : Kind) (d : Data) → is_plain kind ≡ true → payload_of kind d ≡ plain_of kind (kept_members d)
 plain_kind of.Namespace d h = absurd (true≢false (sym h))
 plain_kind of.HncConfiguration d h = absurd (true≢false (sym h))
@@ -149,7 +163,7 @@ module _ (version kind metadata : Data) where
   row_payload k own = reported (whole own) (payload_of k (whole own))
 
   payload_back : (k : Kind) (payload : Payload) → IsPayloadOf k payload → is_kept payload ≡ true → row_payload k (own_members payload) ≡ payload
-  unfolding row_payload reported_member
+  unfolding row_payload reported_member reported_of
   payload_back k (Namespace terminating) h kept =
       let own = own_members (Namespace terminating) in
       ap (λ k. row_payload k own) h
@@ -174,12 +188,11 @@ module _ (version kind metadata : Data) where
       ap (λ k. row_payload k own) h
       ∙ ap (λ o. Anchor (option_and_then status_named (text_in o))) (status_there (codes "status") own)
       ∙ ap Anchor (status_back status)
-  payload_back k (Quota hard []) h kept =
-      let own = own_members (Quota hard []) in
-      ap (λ k. row_payload k own) h.0
-      ∙ ap (λ o. Quota (limits_of (members_in o)) []) (spec_there (codes "hard") own)
-      ∙ ap (λ limits. Quota limits []) (limits_back hard h.2)
-  payload_back k (Quota hard (usage ∷ status)) h kept = absurd (true≢false (sym kept))
+  payload_back k (Quota hard status) h kept =
+      let own = own_members (Quota hard status) in
+      let limits : _ ≡ hard = ap (λ o. limits_of (members_in o)) (spec_there (codes "hard") own) ∙ limits_back hard h.2 in
+      let usages : _ ≡ status = (λ i. usages_of (status_there (codes "used") own i) (members_in (status_there (codes "hard") own i))) ∙ used_back hard status h.3 h.4 in
+      ap (λ k. row_payload k own) h.0 ∙ (λ i. Quota (limits i) (usages i))
   payload_back k (Plain members need) h kept =
       ap (reported (whole (own_members (Plain members need)))) (plain_kind k _ h.0
       ∙ ap (plain_of k) (head_taken version kind metadata (own_members (Plain members need)) (own_lacks k (Plain members need) h) ∙ plain_whole k members need h.1))
@@ -226,6 +239,11 @@ canonical x served = canonical_object x served.legal (record { labels = served.k
 pub tree_back : (x : Object) → IsServed x → IsOrdered x.id.kind (object_text x)
 unfolding object_text
 tree_back x served = compact_ordered x.id.kind (object_data x) (canonical x served) (shallow_object x served.legal)
+
+-- and the limits that it reports ascend
+usages_ordered : (x : Object) (j : Json) → IsServed x → tree_of (object_text x) ≡ Some j → has_sorted_usages j ≡ true
+unfolding object_text
+usages_ordered x j served is = compact_usages (object_data x) j (canonical x served) (shallow_object x served.legal) is
 
 value_back : (x : Object) → IsServed x → read (object_text x) ≡ Some (object_data x)
 unfolding object_text
@@ -275,6 +293,10 @@ module _ (id : Id) (version : ℕ) (text : List ℕ) (x : Object) (h : IsTextOf 
   unmeasured j is ordered other =
       let payload = subst (λ (y : Object). IsPayloadOf y.id.kind y.payload) (sym (told j is ordered)) h.served.legal.payload in
       true≢false (sym (quantities_back id.kind (data_of j) payload) ∙ other)
+
+  -- nor is one that reports limits of a quota in another order
+  pub disordered : (j : Json) → tree_of text ≡ Some j → has_sorted_usages j ≡ false → ⊥
+  disordered j is other = true≢false (sym (usages_ordered x j h.served (ap tree_of (sym h.text_is) ∙ is)) ∙ other)
 
   -- and it has no fault of an object
   pub faultless : (j : Json) (f : JsonFault) → tree_of text ≡ Some j → is_ordered id.kind j ≡ true → IsUnsound (said_object id version (data_of j)) f → Gives (Err (row_fault f)) x

@@ -1,4 +1,4 @@
--- The value of a legal object tells the object, so no two legal objects have one text. What is reported of a quota isn't told.
+-- The value of a legal object tells the object, so no two legal objects have one text.
 use Rattle.std.proofs.Common.{◌≡◌, ◌<◌, ◌^◌, ℕ, List, [], ◌∷◌, true, false, true≢false, Some, None, Ordering, Less, Equal, Greater, is_eq, nat_cmp, bytes_eq, codes, refl, sym, subst, ap, ◌∙◌, decimal}
 use Rattle.std.specs.Ordering.{match_ordering}
 use Rattle.std.specs.Cmp.Lexicographic.{slice_cmp}
@@ -9,7 +9,7 @@ use Rattle.serde_json.specs.Data.{Data, string, object, Members, no_members, mem
 use Rattle.serde_json.specs.Find.{get, get_member}
 use Rattle.serde_json.proofs.Views.{get_member-put, get_member-put_other}
 use Rattle.hx_object.specs.Faults.{IsPayloadOf, IsLegal}
-use Rattle.hx_object.specs.Json.{pairs_members, unless_empty, metadata_of, hierarchy_spec, hierarchy_status, members_in, own_members, object_data, object_text}
+use Rattle.hx_object.specs.Json.{pairs_members, unless_empty, metadata_of, hierarchy_spec, hierarchy_status, limits_members, quota_status, members_in, own_members, object_data, object_text}
 use Rattle.hx_object.specs.Kinds.{name_of, number_of, api_version_of}
 use Rattle.hx_object.specs.declared.kind.Kind.{Kind}
 use Rattle.hx_object.specs.declared.object.Object.{Object}
@@ -17,8 +17,7 @@ use Rattle.hx_object.specs.declared.object.Payload.{Payload}
 use Rattle.hx_object.specs.declared.object.Payload.TheVariants.{Namespace, Config, Hierarchy, Anchor, Quota, Plain}
 use Rattle.hx_json.specs.Reading.{text_or, pairs_of, without, kept_members}
 use Rattle.hx_object.specs.Pairs.{has_ascending_keys}
-use Rattle.hx_model.specs.Serving.{IsServed, is_kept}
-use Rattle.hx_json.specs.Rows.{is_told}
+use Rattle.hx_model.specs.Serving.{IsServed}
 use Rattle.hx_json.proofs.InOrder.{metadata, plain_whole, same_data}
 use Rattle.hx_json.proofs.Payloads.{kind_named, kind_told, told_payload, payload_told}
 
@@ -83,19 +82,19 @@ pairs_told (p ∷ ps) = ap (λ qs. p ∷ qs) (pairs_told ps)
 
 -- ---- the object
 
-hierarchy_lacks : (spec status : Members) → LacksHead (member (codes "spec") (object spec) (unless_empty (codes "status") status no_members))
+both_lack : (spec status : Members) → LacksHead (member (codes "spec") (object spec) (unless_empty (codes "status") status no_members))
 unfolding LacksHead
-hierarchy_lacks spec no_members = (refl, refl, refl)
-hierarchy_lacks spec (member k d status) = (refl, refl, refl)
+both_lack spec no_members = (refl, refl, refl)
+both_lack spec (member k d status) = (refl, refl, refl)
 
 pub own_lacks : (kind : Kind) (payload : Payload) → IsPayloadOf kind payload → LacksHead (own_members payload)
 unfolding LacksHead
 own_lacks kind (Namespace terminating) h = (refl, refl, refl)
 own_lacks kind (Config entries) h = (refl, refl, refl)
-own_lacks kind (Hierarchy parent cascade children conditions) h = hierarchy_lacks (hierarchy_spec parent cascade) (hierarchy_status children conditions)
+own_lacks kind (Hierarchy parent cascade children conditions) h = both_lack (hierarchy_spec parent cascade) (hierarchy_status children conditions)
 own_lacks kind (Anchor None) h = (refl, refl, refl)
 own_lacks kind (Anchor (Some status)) h = (refl, refl, refl)
-own_lacks kind (Quota hard status) h = (refl, refl, refl)
+own_lacks kind (Quota hard status) h = both_lack (member (codes "hard") (object (limits_members hard)) no_members) (quota_status status)
 own_lacks kind (Plain members need) h = subst LacksHead (sym (plain_whole kind members need h.1)) h.1.own
 
 own_told : (x : Object) → IsLegal x → kept_members (object_data x) ≡ own_members x.payload
@@ -127,22 +126,22 @@ one_kind a b same =
 one_metadata : (a b : Object) → object_data a ≡ object_data b → metadata_of a ≡ metadata_of b
 one_metadata a b same = ap members_in (sym (metadata_there a) ∙ ap (get (codes "metadata")) same ∙ metadata_there b)
 
-one_payload : (a b : Object) → IsLegal a → IsLegal b → is_told a.payload ≡ true → is_told b.payload ≡ true → object_data a ≡ object_data b → a.payload ≡ b.payload
-one_payload a b p q whole also same =
+one_payload : (a b : Object) → IsLegal a → IsLegal b → object_data a ≡ object_data b → a.payload ≡ b.payload
+one_payload a b p q same =
     let kind = one_kind a b same in
     let own : own_members a.payload ≡ own_members b.payload = sym (own_told a p) ∙ ap kept_members same ∙ own_told b q in
-    sym (payload_told a.id.kind a.payload p.payload whole)
+    sym (payload_told a.id.kind a.payload p.payload)
     ∙ (λ i. told_payload (number_of (kind i)) (kind i) (own i))
-    ∙ payload_told b.id.kind b.payload q.payload also
+    ∙ payload_told b.id.kind b.payload q.payload
 
 object_told : (x : Object) → IsTold (metadata_of x) (pairs_members x.annotations) (pairs_members x.labels) x.id.name x.id.ns (decimal x.version)
 object_told x = metadata_told (pairs_members x.annotations) (pairs_members x.labels) x.id.name x.id.ns (decimal x.version)
 
-told : (a b : Object) → IsLegal a → IsLegal b → a.version < 2 ^ 64 → b.version < 2 ^ 64 → is_told a.payload ≡ true → is_told b.payload ≡ true → object_data a ≡ object_data b → a ≡ b
+told : (a b : Object) → IsLegal a → IsLegal b → a.version < 2 ^ 64 → b.version < 2 ^ 64 → object_data a ≡ object_data b → a ≡ b
 unfolding IsTold
-told a b p q h k whole also same =
+told a b p q h k same =
     let kind = one_kind a b same in
-    let payload = one_payload a b p q whole also same in
+    let payload = one_payload a b p q same in
     let m = one_metadata a b same in
     let s = object_told a in
     let t = object_told b in
@@ -161,25 +160,15 @@ told a b p q h k whole also same =
       version = version i;
     }
 
--- no two legal objects have one text, where nothing is reported of quotas
-pub text_told : (a b : Object) → IsLegal a → IsLegal b → is_told a.payload ≡ true → is_told b.payload ≡ true
+-- no two legal objects have one text
+pub text_told : (a b : Object) → IsLegal a → IsLegal b
     → has_ascending_keys a.labels ≡ true → has_ascending_keys a.annotations ≡ true → a.version < 2 ^ 64
     → has_ascending_keys b.labels ≡ true → has_ascending_keys b.annotations ≡ true → b.version < 2 ^ 64
     → object_text a ≡ object_text b → a ≡ b
-text_told a b p q whole also la aa va lb ab vb same =
-    told a b p q va vb whole also (same_data a b p q (record { labels = la; annotations = aa }) (record { labels = lb; annotations = ab }) same)
-
--- a payload that may be stored is told
-pub kept_told : (payload : Payload) → is_kept payload ≡ true → is_told payload ≡ true
-kept_told (Namespace terminating) h = refl
-kept_told (Config entries) h = refl
-kept_told (Hierarchy parent cascade children conditions) h = refl
-kept_told (Anchor status) h = refl
-kept_told (Quota hard []) h = refl
-kept_told (Quota hard (usage ∷ status)) h = h
-kept_told (Plain members need) h = refl
+text_told a b p q la aa va lb ab vb same =
+    told a b p q va vb (same_data a b p q (record { labels = la; annotations = aa }) (record { labels = lb; annotations = ab }) same)
 
 -- no two objects that may be stored have one text
 pub served_told : (a b : Object) → IsServed a → IsServed b → a.version < 2 ^ 64 → b.version < 2 ^ 64 → object_text a ≡ object_text b → a ≡ b
 served_told a b p q va vb same =
-    text_told a b p.legal q.legal (kept_told a.payload p.kept.payload) (kept_told b.payload q.kept.payload) p.kept.labels p.kept.annotations va q.kept.labels q.kept.annotations vb same
+    text_told a b p.legal q.legal p.kept.labels p.kept.annotations va q.kept.labels q.kept.annotations vb same

@@ -1,11 +1,12 @@
 -- Texts of objects, lists and refusals, each written out by hand.
 use Rattle.std.specs.Prelude.{codes}
-use Rattle.std.proofs.Common.{◌≡◌, ℕ, true, false, List, [], ◌∷◌, Some, None, option_map, refl}
+use Rattle.std.proofs.Common.{◌≡◌, ◌^◌, ℕ, true, false, List, [], ◌∷◌, Some, None, option_map, refl}
 use Rattle.std.specs.Fmt.{digits}
+use Rattle.serde_json.specs.Data.{string, object, no_members, member}
 use Rattle.serde_json.specs.Read.{read}
 use Rattle.serde_json.proofs.OnLiterals.{serde_json_on_literals}
 use Rattle.hx_object.specs.Json.{object_text}
-use Rattle.hx_object.specs.Quantities.{factor_of, quantity_of}
+use Rattle.hx_object.specs.Quantities.{factor_of, quantity_of, quantity_text}
 use Rattle.hx_object.specs.declared.kind.Kind.{Kind}
 use Rattle.hx_object.specs.declared.kind.Kind.TheVariants.{Namespace, HncConfiguration, HierarchyConfiguration, SubnamespaceAnchor, HierarchicalResourceQuota, Role, ConfigMap}
 use Rattle.hx_object.specs.declared.object.Object.{Object}
@@ -19,7 +20,8 @@ use Rattle.hx_model.specs.Json.{list_text}
 use Rattle.hx_model.specs.Replies.{status_text, message_about}
 use Rattle.hx_model.specs.Texts.{key_text, stored_entry}
 use Rattle.hx_model.specs.declared.refusal.Refusal.TheVariants.{NotFound}
-use Rattle.hx_json.specs.Rows.{said_object, with_status}
+use Rattle.hx_quantity.specs.Printed.{printed_amount}
+use Rattle.hx_json.specs.Rows.{said_object, usages_said, with_status}
 
 -- an object without labels and annotations
 abbrev bare : Kind → List ℕ → List ℕ → Payload → Object
@@ -83,6 +85,33 @@ row_of_quota = refl
 quota_back : option_map (λ d. with_status d (said_object quota.id 7 d)) (read quota_text) ≡ Some quota
 unfolding quantity_of factor_of serde_json_on_literals
 quota_back = refl
+
+-- what is reported of it, with amounts past 63 bits
+abbrev used_quota : Object
+used_quota =
+    record quota {
+      payload = Quota (record { resource = codes "cpu"; written = codes "1"; amount = 1000 } ∷ record { resource = codes "pods"; written = codes "3"; amount = 3000 } ∷ [])
+          (record { resource = codes "cpu"; hard = 1000; used = 1500 } ∷ record { resource = codes "pods"; hard = 3000; used = 2 ^ 127 } ∷ []);
+    }
+
+abbrev used_text : List ℕ
+used_text =
+    codes "{\"apiVersion\":\"hnc.x-k8s.io/v1alpha2\",\"kind\":\"HierarchicalResourceQuota\",\"metadata\":{\"name\":\"q\",\"namespace\":\"top\",\"resourceVersion\":\"7\"},\"spec\":{\"hard\":{\"cpu\":\"1\",\"pods\":\"3\"}},\"status\":{\"hard\":{\"cpu\":\"1\",\"pods\":\"3\"},\"used\":{\"cpu\":\"1500m\",\"pods\":\"170141183460469231731687303715884105728m\"}}}"
+
+row_of_used_quota : stored_entry used_quota ≡ (codes "05/top/q", (7, used_text))
+unfolding key_text object_text quantity_text digits serde_json_on_literals
+row_of_used_quota = refl
+
+used_quota_back : option_map (λ d. with_status d (said_object used_quota.id 7 d)) (read used_text) ≡ Some used_quota
+unfolding quantity_of factor_of printed_amount serde_json_on_literals
+used_quota_back = refl
+
+-- parts that disagree: what is used of a name that no limit is reported of isn't read, and what isn't told counts as 0
+odd_status : usages_said (object (member (codes "status") (object (member (codes "hard") (object (member (codes "cpu") (string (codes "18446744073709551616m")) (member (codes "pods") (string (codes "3")) no_members)))
+    (member (codes "used") (object (member (codes "memory") (string (codes "1")) (member (codes "pods") (string (codes "1.5")) no_members))) no_members))) no_members))
+    ≡ record { resource = codes "cpu"; hard = 0; used = 0 } ∷ record { resource = codes "pods"; hard = 3000; used = 0 } ∷ []
+unfolding printed_amount
+odd_status = refl
 
 abbrev role : Object
 role = record { id = record { kind = Role; ns = codes "top"; name = codes "r" }; labels = (codes "app", codes "web") ∷ (codes "tier", []) ∷ []; annotations = []; payload = Plain (codes "{\"rules\":[]}") nothing; version = 12 }

@@ -3,15 +3,17 @@
 --     metadata_text, head_text     the metadata, and an object up to its metadata
 --     front_part, later_part       kept members in front of the first that each object has, and those between two
 --     plain_text                   an object of a plain kind
---     namespace_rest, config_rest, quota_rest, spec_part, status_rest    what other kinds have behind the metadata
-use Rattle.std.specs.Prelude.{◌≤◌, ◌-◌, ℕ, ◌==◌, ◌&&◌, nat_lt, Bool, true, false, List, [], ◌∷◌, ◌++◌, codes, length, take, slice_range, Option, Some, None}
+--     namespace_rest, config_rest    what other kinds have behind the metadata
+--     quota_spec, usages_rest        of a quota, its limits and what is reported of them
+--     spec_part, status_rest         of a HierarchyConfiguration
+use Rattle.std.specs.Prelude.{◌≤◌, ◌-◌, ℕ, ◌==◌, ◌&&◌, nat_lt, Bool, true, false, List, [], ◌∷◌, ◌++◌, codes, length, map, take, slice_range, Option, Some, None}
 use Rattle.std.specs.Fmt.{decimal}
 use Rattle.std.specs.Str.{IsCharBoundary}
 use Rattle.json.specs.Print.{quoted}
 use Rattle.serde_json.specs.Data.{object}
 use Rattle.serde_json.specs.Written.{comma_if, compact_text, items_text, members_text}
-use Rattle.hx_quantity.specs.Quantities.{quantity_text}
-use Rattle.hx_object.specs.Json.{pairs_members, texts_items, entries_items, conditions_items, limits_members}
+use Rattle.hx_object.specs.Quantities.{quantity_text}
+use Rattle.hx_object.specs.Json.{pairs_members, texts_items, entries_items, conditions_items, limits_members, hard_pair, used_pair}
 use Rattle.hx_object.specs.Kinds.{name_of, api_version_of}
 use Rattle.hx_object.specs.declared.kind.Kind.{Kind}
 use Rattle.hx_object.specs.declared.members.Places.{Places}
@@ -19,6 +21,7 @@ use Rattle.hx_object.specs.declared.object.Condition.{Condition}
 use Rattle.hx_object.specs.declared.object.Limit.{Limit}
 use Rattle.hx_object.specs.declared.object.ModeEntry.{ModeEntry}
 use Rattle.hx_object.specs.declared.object.Object.{Object}
+use Rattle.hx_object.specs.declared.object.Usage.{Usage}
 use Rattle.hx_model.specs.Json.{objects_items}
 use Rattle.hx_model.specs.Replies.{code_of, message_of, name_of_rule, reason_of}
 use Rattle.hx_model.specs.declared.refusal.Refusal.{Refusal}
@@ -89,8 +92,21 @@ namespace_rest false = codes ",\"status\":{\"phase\":\"Active\"}}"
 unfoldable pub config_rest : List ModeEntry → List ℕ
 config_rest entries = codes ",\"spec\":{\"resources\":[" ++ (items_text false (entries_items entries) ++ codes "}}")
 
-unfoldable pub quota_rest : List Limit → List ℕ
-quota_rest hard = codes ",\"spec\":{\"hard\":{" ++ (members_text false (limits_members hard) ++ codes "}}")
+-- the limits of a quota
+unfoldable pub quota_spec : List Limit → List ℕ
+quota_spec hard = codes ",\"spec\":{\"hard\":{" ++ (members_text false (limits_members hard) ++ codes "}")
+
+-- limits as they are reported, and what is used of them, each with the brace behind them
+abbrev pub hard_text : List Usage → List ℕ
+hard_text usages = members_text false (pairs_members (map hard_pair usages))
+
+abbrev pub used_text : List Usage → List ℕ
+used_text usages = members_text false (pairs_members (map used_pair usages))
+
+-- what is reported of a quota
+abbrev pub usages_rest : List Usage → List ℕ
+usages_rest [] = codes "}"
+usages_rest (usage ∷ usages) = codes ",\"status\":{\"hard\":{" ++ (hard_text (usage ∷ usages) ++ (codes ",\"used\":{" ++ (used_text (usage ∷ usages) ++ codes "}}")))
 
 -- what is asked of a HierarchyConfiguration that names no parent, and what stands in front of one that is named
 abbrev pub spec_alone : Bool → List ℕ

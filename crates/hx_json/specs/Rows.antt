@@ -8,20 +8,21 @@
 --     said_object        the object of an identity that a value says
 --     children_said d    the children that a value says
 --     conditions_said d  the conditions that a value says
+--     amount_said, limit_said    the amount that a member says, and that a value says of a limit
+--     usages_said d      the usages that a value says
 --     reported d p       a payload, with what a value reports of it
---     is_told p          a payload that a text tells
 --     with_status d x    the same of an object
 --     IsUnsound x f      the fault is that of an object
 --     IsTextOf id v t x  the text is that of an object that may be stored, of an identity and a version
 --     row_fault f        why a row isn't read, by why its body isn't
 --     Gives r x          an answer is this value, or want of memory
 --     GivesId, GivesTextOf, GivesRow    it is what a key, a text or a row is of, if that is of any
-use Rattle.std.specs.Prelude.{◌≡◌, ℕ, Bool, true, false, not, ◌==◌, ◌||◌, List, [], ◌∷◌, ◌++◌, codes, find, Option, option_and_then, Result, Ok, Err, IsUtf8, Some, None, if◌then◌else◌}
+use Rattle.std.specs.Prelude.{◌≡◌, ◌^◌, ℕ, Bool, true, false, not, ◌==◌, ◌||◌, nat_lt, List, [], ◌∷◌, ◌++◌, codes, find, Option, option_and_then, unwrap_or, Result, Ok, Err, IsUtf8, Some, None, if◌then◌else◌}
 use Rattle.std.specs.List.{AllByRecursion}
 use Rattle.std.specs.Str.{bytes_eq}
-use Rattle.serde_json.specs.Data.{Data, Items, no_items, item}
+use Rattle.serde_json.specs.Data.{Data, Items, no_items, item, Members, no_members, member}
 use Rattle.hx_object.specs.Faults.{object_fault}
-use Rattle.hx_object.specs.Json.{object_text}
+use Rattle.hx_object.specs.Json.{members_in, object_text}
 use Rattle.hx_object.specs.Kinds.{all_kinds, is_in_cluster, number_of}
 use Rattle.hx_object.specs.Names.{slash}
 pub use Rattle.hx_object.specs.Values.{in_status}
@@ -34,6 +35,8 @@ use Rattle.hx_object.specs.declared.object.Id.{Id}
 use Rattle.hx_object.specs.declared.object.Object.{Object}
 use Rattle.hx_object.specs.declared.object.Payload.{Payload}
 use Rattle.hx_object.specs.declared.object.Payload.TheVariants.{Namespace as NamespaceOf, Hierarchy, Anchor, Quota}
+use Rattle.hx_object.specs.declared.object.Usage.{Usage}
+use Rattle.hx_quantity.specs.Printed.{printed_amount}
 use Rattle.hx_model.specs.Serving.{IsServed}
 use Rattle.hx_model.specs.Texts.{key_text, stored_entry, two_digits}
 use Rattle.hx_json.specs.Reading.{counted_member, is_this, items_in, metadata_in, pairs_in, payload_of, text_in, text_or}
@@ -145,21 +148,38 @@ conditions_of (item d ds) = in_front (condition_in d) (conditions_of ds)
 abbrev pub conditions_said : Data → List Condition
 conditions_said d = conditions_of (items_in (in_status (codes "conditions") d))
 
+-- the amount that a member says as amounts are printed. A member that isn't such a text says 0
+abbrev pub amount_said : Option Data → ℕ
+amount_said found = unwrap_or (option_and_then printed_amount (text_in found)) 0
+
+-- the amount of a limit, which 64 bits hold, or 0
+abbrev pub limit_said : Data → ℕ
+limit_said d = if nat_lt (amount_said (Some d)) (2 ^ 64) then amount_said (Some d) else 0
+
+-- what is reported of a resource: its limit, and what is used of it
+abbrev pub usage_of : Option Data → List ℕ → Data → Usage
+usage_of used name hard = record { resource = name; hard = limit_said hard; used = amount_said (option_and_then (counted_member name) used) }
+
+-- the same of each limit
+abbrev pub usages_of : Option Data → Members → List Usage
+usages_of used no_members = []
+usages_of used (member name hard ms) = usage_of used name hard ∷ usages_of used ms
+
+-- the usages of a quota, where a value says some: those of the limits that it reports
+abbrev pub usages_said : Data → List Usage
+usages_said d = usages_of (in_status (codes "used") d) (members_in (in_status (codes "hard") d))
+
 -- a payload, with what a value reports of it, where its kind has something that is reported
 abbrev pub reported : Data → Payload → Payload
 reported d (NamespaceOf terminating) = NamespaceOf (says_terminating d)
 reported d (Hierarchy parent cascade children conditions) = Hierarchy parent cascade (children_said d) (conditions_said d)
 reported d (Anchor status) = Anchor (anchor_status d)
+reported d (Quota hard status) = Quota hard (usages_said d)
 reported d payload = payload
 
 -- the same of an object
 abbrev pub with_status : Data → Object → Object
 with_status d x = record x { payload = reported d x.payload }
-
--- a payload that a text tells: what is reported of a quota isn't written yet
-abbrev pub is_told : Payload → Bool
-is_told (Quota hard (usage ∷ status)) = false
-is_told payload = true
 
 -- the fault is that of an object, or want of memory
 abbrev pub IsUnsound : Object → JsonFault → Type 0

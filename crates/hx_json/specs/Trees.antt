@@ -7,6 +7,7 @@
 --     kept_of ms            the members that a plain kind keeps
 --     keeps_order j         they ascend
 --     has_sorted_limits j   the limits of a quota ascend
+--     has_sorted_usages j   the limits that are reported of one ascend
 --     has_sorted_metadata j labels and annotations ascend
 --     places_in ms          where the members go that each object has
 --     said v                the value of a tree in memory
@@ -147,6 +148,10 @@ is_sorted_in name j = unwrap_or (option_map is_sorted (find.get name j)) true
 -- the limits of a quota ascend
 abbrev pub has_sorted_limits : Json → Bool
 has_sorted_limits j = unwrap_or (option_map (is_sorted_in (codes "hard")) (find.get (codes "spec") j)) true
+
+-- the limits that are reported of a quota ascend
+abbrev pub has_sorted_usages : Json → Bool
+has_sorted_usages j = unwrap_or (option_map (is_sorted_in (codes "hard")) (find.get (codes "status") j)) true
 
 -- what a kind keeps in order is in order
 abbrev pub keeps_order_for : Kind → Json → Bool

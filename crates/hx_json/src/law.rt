@@ -1,18 +1,17 @@
 // What a text tells.
-ghost use Rattle.std.specs.Prelude.{◌≡◌, ◌<◌, ◌^◌, true, IsTrue};
+ghost use Rattle.std.specs.Prelude.{◌≡◌, ◌<◌, ◌^◌, IsTrue};
 ghost use Rattle.hx_object.specs.Faults.{IsLegal};
 ghost use Rattle.hx_object.specs.Json.{object_text};
 ghost use Rattle.hx_object.specs.Pairs.{has_ascending_keys};
-ghost use Rattle.hx_json.specs.Rows.{is_told};
 
 use hx_object::Object;
 
-/// A theorem, not to be called: no two legal objects have one text. Of quotas it is shown where nothing is reported of them, since that isn't written yet.
+/// A theorem, not to be called: no two legal objects have one text.
 #[tactic(auto, using(crate::proofs::Telling::text_told))]
 pub fn law_of_texts(one: &Object, other: &Object)
     requires one { IsLegal one.now }
     requires other { IsLegal other.now }
-    ensures { is_told one.now.payload ≡ true → is_told other.now.payload ≡ true → object_text one.now ≡ object_text other.now → one.now ≡ other.now }
+    ensures { object_text one.now ≡ object_text other.now → one.now ≡ other.now }
 {
     keep_their_types(one);
     keep_their_types(other);

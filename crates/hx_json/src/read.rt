@@ -27,6 +27,7 @@ mod resource_checks;
 mod row;
 mod shapes;
 mod tree;
+mod usages;
 mod version;
 mod whole;
 

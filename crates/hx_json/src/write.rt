@@ -5,6 +5,7 @@ mod object;
 mod payload;
 mod status;
 pub mod text;
+mod usages;
 
 pub use list::push_list;
 pub use object::{push_object, write_object};

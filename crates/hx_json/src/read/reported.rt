@@ -1,13 +1,16 @@
 // What a row's body reports, which a request's body doesn't.
-ghost use Rattle.std.specs.Prelude.{◌≡◌, IfOk};
+ghost use Rattle.std.specs.Prelude.{◌≡◌, true, IfOk};
+ghost use Rattle.json.specs.Value.{value_view};
+ghost use Rattle.hx_object.specs.Canonical.{IsCanonical};
 ghost use Rattle.hx_object.specs.Faults.{IsLegal};
 ghost use Rattle.hx_model.specs.Serving.{IsGiven, IsKept};
 ghost use Rattle.hx_json.specs.Rows.{anchor_status, children_said, reported, says_terminating, status_named, texts_of, with_status};
-ghost use Rattle.hx_json.specs.Trees.{said, said_items};
+ghost use Rattle.hx_json.specs.Trees.{has_sorted_usages, said, said_items};
 
 use super::conditions::conditions_said;
 use super::members::{in_status, text_in};
 use super::parts::text_or_empty;
+use super::usages::usages_said;
 use hx_object::{AnchorStatus, List, NoMemory, Object, Payload, Text};
 use json::Value;
 use std::alloc::Global;
@@ -16,6 +19,8 @@ use std::alloc::Global;
 pub fn with_status(alloc: Global, object: Object, value: &Value<'_>) -> Result<Object, NoMemory>
     requires legal { IsLegal object }
     requires given { IsGiven object }
+    requires canonical { IsCanonical (said value.now) }
+    requires sorted { has_sorted_usages (value_view value.now) ≡ true }
     ensures object { IfOk result (λ x. x ≡ with_status (said value.now) object) }
     ensures legal { IfOk result (λ x. IsLegal x × IsKept x) }
 {
@@ -36,6 +41,7 @@ pub fn with_status(alloc: Global, object: Object, value: &Value<'_>) -> Result<O
 }
 
 fn reported(alloc: Global, payload: Payload, value: &Value<'_>) -> Result<Payload, NoMemory>
+    requires { has_sorted_usages (value_view value.now) ≡ true }
     ensures { IfOk result (λ p. p ≡ reported (said value.now) payload) }
 {
     match payload {
@@ -54,6 +60,10 @@ fn reported(alloc: Global, payload: Payload, value: &Value<'_>) -> Result<Payloa
         }),
         Payload::Anchor { .. } => Ok(Payload::Anchor {
             status: anchor_status(value),
+        }),
+        Payload::Quota { hard, .. } => Ok(Payload::Quota {
+            hard,
+            status: usages_said(alloc, value)?,
         }),
         payload => Ok(payload),
     }

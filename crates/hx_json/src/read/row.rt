@@ -11,7 +11,7 @@ ghost use Rattle.hx_json.specs.Rows.{GivesId, GivesRow, GivesTextOf, HasNoObject
 use super::parts::has_type;
 use super::quota::has_quantities;
 use super::reported::with_status;
-use super::tree::{is_ordered, read_tree};
+use super::tree::{has_sorted_usages, is_ordered, read_tree};
 use super::{BodyReader, object_at};
 use crate::write::push_object;
 use crate::{JsonFault, RowFault};
@@ -103,6 +103,9 @@ fn read_body(
         return Err(RowFault::NoObject);
     }
     if !has_quantities(&value, id.kind) {
+        return Err(RowFault::NoObject);
+    }
+    if !has_sorted_usages(&value) {
         return Err(RowFault::NoObject);
     }
     match object_at(alloc, room, &value, id, version) {

@@ -3,7 +3,7 @@ ghost use Rattle.std.specs.Prelude.{◌≡◌, Some, None, IfOk, IfErr, option_m
 ghost use Rattle.json.specs.Value.{value_view, items_view, members_view};
 ghost use Rattle.hx_json.specs.Reading.{Target};
 ghost use Rattle.hx_json.specs.ReadObject.{IsFaultOf};
-ghost use Rattle.hx_json.specs.Trees.{IsNoTree, tree_of, is_tame, items_are_tame, members_are_tame, is_after, is_sorted, items_are_sorted, are_sorted, is_sorted_in, has_sorted_limits, has_sorted_pairs, has_sorted_metadata, is_head, is_ordered, kept_of, keeps_order, keeps_order_for};
+ghost use Rattle.hx_json.specs.Trees.{IsNoTree, tree_of, is_tame, items_are_tame, members_are_tame, is_after, is_sorted, items_are_sorted, are_sorted, is_sorted_in, has_sorted_limits, has_sorted_usages, has_sorted_pairs, has_sorted_metadata, is_head, is_ordered, kept_of, keeps_order, keeps_order_for};
 
 use super::number::whole_in;
 use crate::JsonFault;
@@ -186,6 +186,16 @@ fn has_sorted_limits(value: &Value<'_>) -> bool
 {
     match value.get("spec") {
         Some(spec) => is_sorted_in(spec, "hard"),
+        None => true,
+    }
+}
+
+/// Whether the limits that are reported of a quota ascend.
+pub fn has_sorted_usages(value: &Value<'_>) -> bool
+    ensures { result ≡ has_sorted_usages (value_view value.now) }
+{
+    match value.get("status") {
+        Some(status) => is_sorted_in(status, "hard"),
         None => true,
     }
 }

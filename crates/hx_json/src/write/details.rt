@@ -1,13 +1,10 @@
 // What a refusal says beside its reason and its message.
 ghost use Rattle.std.specs.Prelude.{◌≡◌, ◌++◌, string_bytes, OnOk};
-ghost use Rattle.json.specs.Print.{quoted};
-ghost use Rattle.hx_quantity.specs.Quantities.{quantity_text};
 ghost use Rattle.hx_json.specs.Pushed.{details_part, over_text, rule_text};
 
-use super::text::{push, push_quoted, push_text};
+use super::text::{push, push_amount, push_quoted, push_text};
 use hx_model::{Refusal, Rule};
 use hx_object::{NoMemory, Text};
-use hx_quantity::print;
 
 /// Appends the rule that was broken, where one was, and of a limit of a quota its names and its numbers.
 pub fn push_details(out: &mut String, refusal: &Refusal) -> Result<(), NoMemory>
@@ -60,12 +57,4 @@ fn push_over(
     push(out, r#","rule":"Q1","used":"#)?;
     push_amount(out, used)?;
     push(out, "}")
-}
-
-/// Appends an amount in quotes.
-fn push_amount(out: &mut String, amount: u128) -> Result<(), NoMemory>
-    ensures { OnOk result (string_bytes out.new ≡ string_bytes out.old ++ quoted (quantity_text amount)) }
-{
-    let text = print(*out.allocator(), amount)?;
-    push_text(out, &text)
 }

@@ -7,11 +7,12 @@ ghost use Rattle.hx_json.specs.Pushed.{IsCut, IsPart, front_part, head_text, lat
 
 use super::payload::{
     push_anchor, push_config, push_hierarchy_spec, push_hierarchy_status, push_namespace,
-    push_quota,
+    push_quota_spec,
 };
 use super::text::{
     push, push_api_version, push_comma_if, push_kind, push_quoted, push_quoted_number, push_text,
 };
+use super::usages::push_usages;
 use hx_object::{NoMemory, Object, Pairs, Payload, Places, Text};
 use std::alloc::Global;
 
@@ -161,9 +162,10 @@ pub fn push_object(out: &mut String, object: &Object) -> Result<(), NoMemory>
             push_head(out, object)?;
             push_anchor(out, *status)
         }
-        Payload::Quota { hard, .. } => {
+        Payload::Quota { hard, status } => {
             push_head(out, object)?;
-            push_quota(out, hard.as_slice())
+            push_quota_spec(out, hard.as_slice())?;
+            push_usages(out, status.as_slice())
         }
     }
 }

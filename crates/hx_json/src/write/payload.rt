@@ -3,7 +3,7 @@ ghost use Rattle.std.specs.Prelude.{◌≡◌, ◌++◌, true, false, string_byt
 ghost use Rattle.serde_json.specs.Written.{compact_text, items_text, members_text};
 ghost use Rattle.hx_object.specs.Json as json;
 ghost use Rattle.hx_object.specs.declared.object.Payload.TheVariants as PayloadOf;
-ghost use Rattle.hx_json.specs.Pushed.{conditions_alone, conditions_behind, config_rest, namespace_rest, quota_rest, spec_alone, spec_front, spec_part, status_rest};
+ghost use Rattle.hx_json.specs.Pushed.{conditions_alone, conditions_behind, config_rest, namespace_rest, quota_spec, spec_alone, spec_front, spec_part, status_rest};
 
 use super::text::{push, push_comma_if, push_quoted, push_text};
 use hx_object::{AnchorStatus, Condition, Limit, ModeEntry, NoMemory, Text};
@@ -236,12 +236,13 @@ fn message_text(condition: Condition) -> &'static str
     }
 }
 
-pub fn push_quota(out: &mut String, hard: &[Limit]) -> Result<(), NoMemory>
-    ensures { OnOk result (string_bytes out.new ≡ string_bytes out.old ++ quota_rest hard.now) }
+/// The limits of a quota.
+pub fn push_quota_spec(out: &mut String, hard: &[Limit]) -> Result<(), NoMemory>
+    ensures { OnOk result (string_bytes out.new ≡ string_bytes out.old ++ quota_spec hard.now) }
 {
     push(out, r#","spec":{"hard":{"#)?;
     push_limits(out, hard)?;
-    push(out, "}}")
+    push(out, "}")
 }
 
 /// Appends limits and the brace behind them.

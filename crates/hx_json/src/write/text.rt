@@ -1,4 +1,4 @@
-// Strings, numbers and commas of JSON texts.
+// Strings, numbers, amounts and commas of JSON texts.
 ghost use Rattle.std.specs.Prelude.{◌≡◌, ◌++◌, ◌/◌, ◌%◌, ◌<◌, ◌∷◌, [], encode_utf8, string_bytes, OnOk};
 ghost use Rattle.std.specs.Char.{digit_char};
 ghost use Rattle.std.specs.Fmt.{decimal};
@@ -7,8 +7,10 @@ ghost use Rattle.json.specs.Print.{escape, quoted};
 ghost use Rattle.json.specs.Run.{is_plain};
 ghost use Rattle.serde_json.specs.Written.{comma_if};
 ghost use Rattle.hx_object.specs.Kinds.{name_of, api_version_of};
+ghost use Rattle.hx_object.specs.Quantities.{quantity_text};
 
 use hx_object::{Kind, NoMemory, Text};
+use hx_quantity::print;
 use itoa::Buffer;
 
 /// Appends a text as it is.
@@ -67,6 +69,14 @@ pub fn push_number(out: &mut String, number: u64) -> Result<(), NoMemory>
     ensures { OnOk result (string_bytes out.new ≡ string_bytes out.old ++ decimal number) }
 {
     push(out, Buffer::new().format(number))
+}
+
+/// Appends an amount in quotes.
+pub fn push_amount(out: &mut String, amount: u128) -> Result<(), NoMemory>
+    ensures { OnOk result (string_bytes out.new ≡ string_bytes out.old ++ quoted (quantity_text amount)) }
+{
+    let text = print(*out.allocator(), amount)?;
+    push_text(out, &text)
 }
 
 /// Appends what stands between quotes for a text.

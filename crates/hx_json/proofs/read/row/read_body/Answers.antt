@@ -4,7 +4,7 @@ use Rattle.json.specs.Value.{value_view}
 use Rattle.hx_json.specs.Rows.{Gives, with_status}
 use Rattle.hx_json.specs.Trees.{said}
 use Rattle.hx_json.proofs.Orders.{ordered_canonical, ordered_shallow}
-use Rattle.hx_json.proofs.ReadBack.{faultless, told, treeless, unmeasured, unordered, untyped}
+use Rattle.hx_json.proofs.ReadBack.{disordered, faultless, told, treeless, unmeasured, unordered, untyped}
 use Rattle.hx_json.proofs.read.row.read_body.Goals as goal
 
 pub returns-in-Err-clause-back : goal.returns-in-Err-clause-back
@@ -25,8 +25,15 @@ pub returns-then-not-has_quantities-clause-back : goal.returns-then-not-has_quan
 returns-then-not-has_quantities-clause-back c = λ x h.
     unmeasured c.args.id c.args.version c.args.text.now x h (value_view c.in-Ok.value) c.in-Ok.ensures.ok (sym c.is_ordered.ensures ∙ c.if-not-is_ordered.false) (sym c.has_quantities.ensures ∙ c.if-not-has_quantities.true)
 
+pub returns-then-not-has_sorted_usages-clause-back : goal.returns-then-not-has_sorted_usages-clause-back
+returns-then-not-has_sorted_usages-clause-back c = λ x h.
+    disordered c.args.id c.args.version c.args.text.now x h (value_view c.in-Ok.value) c.in-Ok.ensures.ok (sym c.has_sorted_usages.ensures ∙ c.if-not-has_sorted_usages.true)
+
 pub object_at-requires-clause-canonical : goal.object_at-requires-clause-canonical
 object_at-requires-clause-canonical c = ordered_canonical c.args.text.now c.args.id.kind (value_view c.in-Ok.value) c.in-Ok.ensures.ok (sym c.is_ordered.ensures ∙ c.if-not-is_ordered.false)
+
+pub with_status-requires-clause-canonical : goal.with_status-requires-clause-canonical
+with_status-requires-clause-canonical c = ordered_canonical c.args.text.now c.args.id.kind (value_view c.in-Ok.value) c.in-Ok.ensures.ok (sym c.is_ordered.ensures ∙ c.if-not-is_ordered.false)
 
 pub object_at-requires-clause-shallow : goal.object_at-requires-clause-shallow
 object_at-requires-clause-shallow c = ordered_shallow c.args.text.now c.args.id.kind (value_view c.in-Ok.value) c.in-Ok.ensures.ok (sym c.is_ordered.ensures ∙ c.if-not-is_ordered.false)

@@ -2,7 +2,7 @@ use Rattle.std.proofs.Common.{◌∷◌, [], ◌++◌, ◌∙◌, ap, sym, subst
 use Rattle.serde_json.specs.Written.{members_text}
 use Rattle.hx_object.specs.Json.{own_members}
 use Rattle.hx_object.specs.declared.object.Payload.TheVariants.{Anchor}
-use Rattle.hx_json.specs.Pushed.{IsCut, head_text, plain_text, namespace_rest, config_rest, quota_rest, spec_part, status_rest}
+use Rattle.hx_json.specs.Pushed.{IsCut, head_text, plain_text, namespace_rest, config_rest, quota_spec, usages_rest, spec_part, status_rest}
 use Rattle.hx_json.proofs.Pushes.{namespace_pushed, config_pushed, quota_pushed, anchor_pushed, hierarchy_pushed}
 use Rattle.hx_json.proofs.Spliced.{plain_cuts, plain_pushed}
 use Rattle.hx_json.proofs.Steps.{glue, last}
@@ -50,9 +50,11 @@ returns-in_ok-push_head-in-Anchor c =
     (_, c.in_ok-push_head-in-Anchor.ensures, e)
     ∙ ap (λ t. string_bytes c.args.out.now ++ t) (anchor_pushed c.args.object.now c.in-Anchor.status c.in-Anchor.is)) c.push_anchor.ensures
 
-pub returns-in_ok-push_head-in-Quota : goal.returns-in_ok-push_head-in-Quota
-returns-in_ok-push_head-in-Quota c =
-    last c.push_quota.result (λ e.
-    glue (string_bytes c.args.out.now) (head_text c.args.object.now ∷ quota_rest c.as_slice-in-Quota.result.now ∷ []) (string_bytes c.push_quota.new.out)
-    (_, c.in_ok-push_head-in-Quota.ensures, e)
-    ∙ ap (λ t. string_bytes c.args.out.now ++ t) (ap (λ l. head_text c.args.object.now ++ quota_rest l) c.as_slice-in-Quota.ensures ∙ quota_pushed c.args.object.now c.in-Quota.hard c.in-Quota.status c.in-Quota.is)) c.push_quota.ensures
+pub returns-in_ok-push_quota_spec-in-Quota : goal.returns-in_ok-push_quota_spec-in-Quota
+returns-in_ok-push_quota_spec-in-Quota c =
+    last c.push_usages.result (λ e.
+    glue (string_bytes c.args.out.now)
+    (head_text c.args.object.now ∷ quota_spec c.as_slice-in-Quota.result.now ∷ usages_rest c.as_slice-in-Quota-2.result.now ∷ [])
+    (string_bytes c.push_usages.new.out)
+    (_, c.in_ok-push_head-in-Quota.ensures, (_, c.in_ok-push_quota_spec-in-Quota.ensures, e))
+    ∙ ap (λ t. string_bytes c.args.out.now ++ t) ((λ i. head_text c.args.object.now ++ (quota_spec (c.as_slice-in-Quota.ensures i) ++ usages_rest (c.as_slice-in-Quota-2.ensures i))) ∙ quota_pushed c.args.object.now c.in-Quota.hard c.in-Quota.status c.in-Quota.is)) c.push_usages.ensures
