@@ -13,7 +13,7 @@ use Rattle.hx_quota.specs.Inside.{Places, place_at, entries_in, ordered, AreClos
 use Rattle.hx_quota.proofs.Entries.{ascends-entries}
 use Rattle.hx_quota.proofs.Fitting.{has_nothing}
 use Rattle.hx_quota.proofs.Moved.{closed_moved}
-use Rattle.hx_quota.proofs.Usage.{in_tree, used_absent, used_added, closed_added, used_removed, closed_removed}
+use Rattle.hx_quota.proofs.UsedSums.{in_tree, used_absent, used_added, closed_added, used_removed, closed_removed}
 
 pub summed_added : (old new : Places) (n : List ℕ) (place : Place) → entry_of (ordered old) n ≡ None → place.sums ≡ replicate 15 0 → ((q : List ℕ) → place_at new q ≡ cond (bytes_eq n q) (Some place) (place_at old q))
     → ordered new ≡ with_entry n new_entry (ordered old) → IsSummed (place_at old) (ordered old) → IsSummed (place_at new) (ordered new)

@@ -23,7 +23,7 @@ use Rattle.hx_quota.proofs.Deltas.{in_place, shift_in, shifted_first}
 use Rattle.hx_quota.proofs.Entries.{ascends, ascends-entries}
 use Rattle.hx_quota.proofs.Fitting.{used_within}
 use Rattle.hx_quota.proofs.Placed.{entry_in, entry_at, changed_places, adjusted_entries}
-use Rattle.hx_quota.proofs.Usage.{same_tree, used_shifted}
+use Rattle.hx_quota.proofs.UsedSums.{same_tree, used_shifted}
 
 no_first : {A : Type 0} (n : List ℕ) → ◌≡◌ {A = Option (List ℕ)} None (Some n) → A
 no_first n h = absurd (true≢false (sym (ap is_some h)))

@@ -1,3 +1,5 @@
 pub mod Counters
+pub mod Counting
 pub mod Limiting
 pub mod Inside
+pub mod SubtreeUsage

@@ -3,14 +3,21 @@
 //! [`Counters`] keep, for each namespace, its parent and what it has of each resource by itself, and tell what it has with all below it. [`Counters::first_over`] says which limit of a quota a write would exceed. Amounts are in thousandths.
 #![tactic(auto)]
 
+mod change;
+mod changing;
 mod counters;
 mod entry;
 mod ledger;
 mod limiting;
 mod places;
+mod planting;
 mod shifting;
+mod staging;
+mod subtrees;
+mod walking;
 mod walks;
 
 pub use counters::Counters;
 pub use entry::{Delta, Entry};
 pub use limiting::{Over, QuotaRow};
+pub use subtrees::Usage;

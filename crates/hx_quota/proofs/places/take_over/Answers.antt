@@ -4,7 +4,7 @@ use Rattle.hx_quota.specs.Counters.{tree_of}
 use Rattle.hx_quota.specs.Inside.{place_at, ordered}
 use Rattle.hx_quota.proofs.Placed.{entry_in, entry_at, adjusted_entries}
 use Rattle.hx_quota.proofs.Taken.{distinct_from, distinct_to, may_take, may_give, sums_taken}
-use Rattle.hx_quota.proofs.Usage.{in_tree}
+use Rattle.hx_quota.proofs.UsedSums.{in_tree}
 use Rattle.hx_quota.proofs.places.take_over.Goals as goal
 
 pub returns-in_default-clause-sums : goal.returns-in_default-clause-sums

@@ -10,7 +10,7 @@ use Rattle.hx_quota.proofs.Deltas.{sums_first, shift_in, shifted_first}
 use Rattle.hx_quota.proofs.Fitting.{own_fits}
 use Rattle.hx_quota.proofs.Placed.{entry_in, entry_at, adjusted_entries}
 use Rattle.hx_quota.proofs.Shifted.{first_there, chain_of_first, between_entries, may_shift_sums, sums_shifted}
-use Rattle.hx_quota.proofs.Usage.{in_tree}
+use Rattle.hx_quota.proofs.UsedSums.{in_tree}
 use Rattle.hx_quota.proofs.ledger.Ledger.shift.Goals as goal
 
 pub shift_own-requires-clause-old : goal.shift_own-requires-clause-old

@@ -2,7 +2,7 @@ use Rattle.std.proofs.Common.{◌≡◌, None, option_copied, sym, ap, ◌∙◌
 use Rattle.hx_quota.specs.Counters.{entry_of}
 use Rattle.hx_quota.specs.Inside.{entries_of}
 use Rattle.hx_quota.proofs.Placed.{entry_in, entry_at}
-use Rattle.hx_quota.proofs.Usage.{used_absent}
+use Rattle.hx_quota.proofs.UsedSums.{used_absent}
 use Rattle.hx_quota.proofs.ledger.Ledger.used.Goals as goal
 
 pub returns-in-None : goal.returns-in-None

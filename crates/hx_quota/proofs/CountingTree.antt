@@ -1,0 +1,157 @@
+-- Counters of a tree and its objects, where the tree changes.
+--     chains                 the chains are those of the tree
+--     IsEmptied              nothing is charged in a namespace that goes
+--     once_names, once_ascending      so it is where the names of the tree are distinct, and those are where they are in order
+--     added, moved, terminated, removed      the counters may be changed so, and then count the tree after the change
+--     counts_tree            the same of any change
+--     fits_tree, ordered_tree         all still fits then, and the entries stay in order
+--     ascends_tree           the tree stays in order
+use Rattle.std.proofs.Common.{◌≡◌, ℕ, Bool, true, false, cond, Option, Some, None, option_map, List, [], ◌∷◌, refl, sym, ap, ◌∙◌, subst, true≢false}
+use Rattle.std.specs.Prelude.{is_some, option_and_then}
+use Rattle.std.specs.List.{AllByRecursion, IsDistinct}
+use Rattle.std.specs.Str.{bytes_eq}
+use Rattle.std.proofs.lemmas.Bool.{and_parts}
+use Rattle.std.proofs.lemmas.Map.Keys.{IsDistinct-cons}
+use Rattle.hx_forest.specs.Kept.{changed_by, MayChange as MayChangeTree}
+use Rattle.hx_forest.specs.declared.change.Change.{Change as TreeChange}
+use Rattle.hx_forest.specs.declared.change.Change.TheVariants as tree
+use Rattle.hx_forest.proofs.Nodes.{is_below_all, ascends as forest_ascends, ascends-with_node, ascends-without_node, ascends-with_changed, none_below}
+use Rattle.hx_model.specs.First.{so}
+use Rattle.hx_model.specs.Forest.{Forest, names_of, node_of, is_there, parent_of, is_child, chain_of, tail_of, with_parent as forest_with_parent}
+use Rattle.hx_model.specs.ForestChanges.{with_terminating}
+use Rattle.hx_model.specs.Moves.{chain_from}
+use Rattle.hx_model.specs.State.{Objects}
+use Rattle.hx_model.specs.declared.node.Node.{Node}
+use Rattle.hx_model.specs.declared.resource.Resource.{Resource}
+use Rattle.hx_model.proofs.Moving.{changed_node, moved_there, moved_parent, other_parent}
+use Rattle.hx_model.proofs.Opening.{chain_first}
+use Rattle.hx_model.proofs.Walking.{chain_missing, IsDistinct-filter}
+use Rattle.hx_quota.specs.declared.change.CounterChange.{CounterChange}
+use Rattle.hx_quota.specs.declared.change.CounterChange.TheVariants.{Move}
+use Rattle.hx_quota.specs.Counters.{Entries, with_parent, IsAbove, AllFit}
+use Rattle.hx_quota.specs.Counting.{Counts, if_there, parent_there, own_charge, changed_all, MayChangeAll, changes_of_tree}
+use Rattle.hx_quota.specs.SubtreeUsage.{AreOnce}
+use Rattle.hx_quota.proofs.Entries.{ascends}
+pub use Rattle.hx_quota.proofs.CountingChains.{chains}
+use Rattle.hx_quota.proofs.CountingMoves.{ascends_changed_all, fits_changed_all, HasTree, has_counted, has_moved, above_head}
+pub use Rattle.hx_quota.proofs.CountingAdded.{added}
+pub use Rattle.hx_quota.proofs.CountingRemoved.{removed}
+
+-- ---- what is needed of a change
+
+-- nothing is charged in a namespace that goes
+abbrev pub IsEmptied : Objects → TreeChange → Type 0
+IsEmptied objects (tree.Add name node) = Unit {0}
+IsEmptied objects (tree.SetParent name parent) = Unit {0}
+IsEmptied objects (tree.SetTerminating name) = Unit {0}
+IsEmptied objects (tree.Remove name) = (r : Resource) → own_charge objects name r ≡ 0
+
+pub once_names : (f : Forest) (c : TreeChange) → IsDistinct bytes_eq (names_of f) → AreOnce f c
+once_names f (tree.Add name node) distinct = IsDistinct-filter (is_child f name) (names_of f) distinct
+once_names f (tree.SetParent name parent) distinct = tt
+once_names f (tree.SetTerminating name) distinct = tt
+once_names f (tree.Remove name) distinct = IsDistinct-filter (is_child f name) (names_of f) distinct
+
+others_apart : (n : List ℕ) (f : Forest) → node_of f n ≡ None → AllByRecursion (λ m. bytes_eq n m ≡ false) (names_of f)
+others_apart n [] none = tt
+others_apart n (e ∷ f) none = at (bytes_eq n e.0) refl none (others_apart n f)
+  where
+    at : (b : Bool) → bytes_eq n e.0 ≡ b → cond b (Some e.1) (node_of f n) ≡ None → (node_of f n ≡ None → AllByRecursion (λ m. bytes_eq n m ≡ false) (names_of f))
+        → AllByRecursion (λ m. bytes_eq n m ≡ false) (names_of (e ∷ f))
+    at true same h rest = absurd (true≢false (ap is_some h))
+    at false out h rest = (out, rest h)
+
+-- names in order are distinct
+pub once_ascending : (f : Forest) → forest_ascends f ≡ true → IsDistinct bytes_eq (names_of f)
+unfolding IsDistinct
+once_ascending [] up = tt
+once_ascending (e ∷ f) up =
+    let parts = and_parts (is_below_all e.0 f) (forest_ascends f) up in
+    IsDistinct-cons bytes_eq e.0 (names_of f) (others_apart e.0 f (none_below e.0 f parts.0)) (once_ascending f parts.1)
+
+-- the tree stays in order
+pub ascends_tree : (c : TreeChange) (f : Forest) → forest_ascends f ≡ true → forest_ascends (changed_by c f) ≡ true
+ascends_tree (tree.Add name node) f up = ascends-with_node name node f up
+ascends_tree (tree.SetParent name parent) f up = ascends-with_changed name _ f ∙ up
+ascends_tree (tree.SetTerminating name) f up = ascends-with_changed name _ f ∙ up
+ascends_tree (tree.Remove name) f up = ascends-without_node name f up
+
+-- ---- where the same namespaces are there
+
+there_alike : (f g : Forest) → ((m : List ℕ) → is_there g m ≡ is_there f m) → (o : Option (List ℕ)) → option_and_then (if_there g) o ≡ option_and_then (if_there f) o
+there_alike f g same None = refl
+there_alike f g same (Some p) = ap (λ b. so b p) (same p)
+
+module _ (objects : Objects) (f : Forest) (es : Entries) (counts : Counts objects f es) where
+  -- ---- a namespace gets another parent
+
+  module _ (n : List ℕ) (parent : Option (List ℕ)) where
+    abbrev turned : Forest
+    turned = forest_with_parent n parent f
+
+    abbrev move : CounterChange
+    move = Move n (option_and_then (if_there f) parent) (tail_of (chain_of f n)) (chain_from f parent)
+
+    abbrev AreMade : List CounterChange → Type 0
+    AreMade changes = MayChangeAll changes es × Counts objects turned (changed_all changes es)
+
+    above : (o : Option (List ℕ)) → IsAbove es (option_and_then (if_there f) o) (chain_from f o)
+    above None = refl
+    above (Some p) = by (is_there f p) refl
+      where
+        by : (b : Bool) → is_there f p ≡ b → IsAbove es (so b p) (chain_of f p)
+        by true here = above_head es p (chain_of f p) (tail_of (chain_of f p)) (chains objects f es counts p) (chain_first f p here)
+        by false out = chain_missing f p out
+
+    parent_then : (m : List ℕ) (o : Option (List ℕ)) → parent_of turned m ≡ o → parent_there turned m ≡ option_and_then (if_there f) o
+    parent_then m o is = there_alike f turned (λ k. moved_there f n parent k) (parent_of turned m) ∙ ap (λ (q : Option (List ℕ)). option_and_then (if_there f) q) is
+
+    has_then : is_there f n ≡ true → HasTree objects (is_there f) (parent_there turned) (with_parent n (option_and_then (if_there f) parent) es)
+    has_then there = has_moved objects (is_there f) (parent_there f) (parent_there turned) es n (option_and_then (if_there f) parent) (has_counted objects f es counts) there
+        (parent_then n parent (moved_parent f n parent there)) (λ m out. parent_then m (parent_of f m) (other_parent f n parent m out))
+
+    pub moved : is_there f n ≡ true → MayChangeAll (changes_of_tree f (tree.SetParent n parent)) es × Counts objects turned (changed_all (changes_of_tree f (tree.SetParent n parent)) es)
+    moved there =
+        let has = has_then there in
+        let counts_then : Counts objects turned (with_parent n (option_and_then (if_there f) parent) es) = record { there = λ m. has.there m ∙ sym (moved_there f n parent m); parents = has.parents; own = has.own } in
+        subst (λ b. AreMade (cond b (move ∷ []) [])) (sym there) (((counts.there n ∙ there, chains objects f es counts n ∙ chain_first f n there, above parent), tt), counts_then)
+
+  -- ---- a namespace is on its way out
+
+  pub terminated : (n : List ℕ) → Counts objects (with_terminating n f) es
+  terminated n = record {
+    there = λ m. counts.there m ∙ sym (same_there m);
+    parents = λ m. counts.parents m ∙ sym (there_alike f (with_terminating n f) same_there (parent_of (with_terminating n f) m) ∙ ap (λ (o : Option (List ℕ)). option_and_then (if_there f) o) (same_parent m));
+    own = counts.own;
+  }
+    where
+      same_there : (m : List ℕ) → is_there (with_terminating n f) m ≡ is_there f m
+      same_there m = ap is_some (changed_node n (λ (node : Node). record node { terminating = true }) f m) ∙ either (bytes_eq n m) (node_of f m)
+        where
+          either : (b : Bool) (o : Option Node) → is_some (cond b (option_map (λ (node : Node). record node { terminating = true }) o) o) ≡ is_some o
+          either true None = refl
+          either true (Some node) = refl
+          either false o = refl
+
+      same_parent : (m : List ℕ) → parent_of (with_terminating n f) m ≡ parent_of f m
+      same_parent m = ap (λ (o : Option Node). option_and_then (λ node. node.parent) o) (changed_node n (λ (node : Node). record node { terminating = true }) f m) ∙ either (bytes_eq n m) (node_of f m)
+        where
+          either : (b : Bool) (o : Option Node) → option_and_then (λ node. node.parent) (cond b (option_map (λ (node : Node). record node { terminating = true }) o) o) ≡ option_and_then (λ (node : Node). node.parent) o
+          either true None = refl
+          either true (Some node) = refl
+          either false o = refl
+
+  -- ---- any change
+
+  module _ (order : ascends es ≡ true) where
+    pub counts_tree : (c : TreeChange) → MayChangeTree c f → AreOnce f c → IsEmptied objects c → MayChangeAll (changes_of_tree f c) es × Counts objects (changed_by c f) (changed_all (changes_of_tree f c) es)
+    counts_tree (tree.Add name node) may once emptied = added f name node may objects es counts once
+    counts_tree (tree.SetParent name parent) may once emptied = moved name parent may
+    counts_tree (tree.SetTerminating name) may once emptied = (tt, terminated name)
+    counts_tree (tree.Remove name) may once emptied = removed f name objects es may counts order once emptied
+
+    pub fits_tree : (c : TreeChange) → MayChangeTree c f → AreOnce f c → IsEmptied objects c → AllFit es → AllFit (changed_all (changes_of_tree f c) es)
+    fits_tree c may once emptied fit = fits_changed_all (changes_of_tree f c) es (counts_tree c may once emptied).0 fit
+
+    pub ordered_tree : (c : TreeChange) → ascends (changed_all (changes_of_tree f c) es) ≡ true
+    ordered_tree c = ascends_changed_all (changes_of_tree f c) es order
