@@ -33,11 +33,12 @@ use Rattle.hx_model.proofs.Climbing.{is_same, same_itself}
 use Rattle.hx_model.proofs.Displacing.{KeepsOthers, put_keeps, cut_keeps}
 use Rattle.hx_model.proofs.Objects.{id_total, is_same_id, same_from_Equal, found_again, object_at-cut}
 use Rattle.hx_model.proofs.Planting.{forest-put, forest-cut}
-use Rattle.hx_marks.specs.Law.{anchor_keys, leaving_keys, object_written, marks_by, marks_of, report_marks, differ}
+use Rattle.hx_marks.specs.Law.{anchor_keys, leaving_keys, object_written, marks_by, report_marks, differ}
 use Rattle.hx_marks.specs.Reports.{anchored_reports, report_keys}
 use Rattle.hx_marks.proofs.Among.{among_append, among_cond, out_left, out_right}
 use Rattle.hx_marks.proofs.Asking.{is_anchor_place, copied_no_anchor, anchor_key, child_of_anchor, status_of_anchor, leaving_among}
-use Rattle.hx_marks.proofs.Frames.{none_in_both, put_least, cut_least}
+use Rattle.hx_marks.proofs.Frames.{put_least, cut_least}
+use Rattle.hx_marks.proofs.Parts.{UsedSame, marks_beside}
 use Rattle.hx_marks.proofs.Reporting.{own_report, report_key, same_report, silent_report}
 use Rattle.hx_marks.proofs.Keeping.{Stands, kept_copy, kept_tree, kept_child, kept_anchor, kept_purge, staying_both}
 use Rattle.hx_marks.proofs.Within.{leaving_key}
@@ -147,24 +148,24 @@ module _ (s t : State) (id : Id) (is : is_anchor id.kind ≡ true) (left : Leave
     | inr silent ↦ silent_report s t m silent (ap (λ f. is_calm f m) left.tree ∙ silent)
   ]
 
-  law_by : (new : Option Object) → object_at t.objects id ≡ new → (k : Key) → is_among k (anchor_keys id) ≡ false → is_among k (leaving_keys (forest_of s) id.ns) ≡ false → is_among k (anchored_reports s id (object_at s.objects id) new) ≡ false → IsSameFor s t k
-  law_by new here (key.Copy m kind name) out stays told =
+  law_by : (new : Option Object) → object_at t.objects id ≡ new → (k : Key) → is_among k (anchor_keys id) ≡ false → is_among k (leaving_keys (forest_of s) id.ns) ≡ false → is_among k (anchored_reports s id (object_at s.objects id) new) ≡ false → UsedSame s t k → IsSameFor s t k
+  law_by new here (key.Copy m kind name) out stays told used =
       kept_copy s t m kind name (stands m) (left.others config_id (other_kind id config_id is refl)) (λ a copied. left.others (id_in kind name a) (other_kind id (id_in kind name a) is (copied_no_anchor kind copied)))
-  law_by new here (key.Tree m) out stays told = kept_tree s t m (stands m)
-  law_by new here (key.Report m) out stays told = report_same new here m told
-  law_by new here (key.Child m name) out stays told = elim (cases_Bool (same_id (anchor_id m name) id)) [
+  law_by new here (key.Tree m) out stays told used = kept_tree s t m (stands m)
+  law_by new here (key.Report m) out stays told used = report_same new here m told
+  law_by new here (key.Child m name) out stays told used = elim (cases_Bool (same_id (anchor_id m name) id)) [
     | inl same ↦ absurd (true≢false (sym (own_child m name same) ∙ out))
     | inr off ↦ kept_child s t m name (stands m) left.excluded (left.others (anchor_id m name) off) (ap is_some (left.others (namespace_id name) (other_kind id (namespace_id name) is refl)))
   ]
-  law_by new here (key.Anchor m name) out stays told = elim (cases_Bool (same_id (anchor_id m name) id)) [
+  law_by new here (key.Anchor m name) out stays told used = elim (cases_Bool (same_id (anchor_id m name) id)) [
     | inl same ↦ absurd (true≢false (sym (own_status m name same) ∙ out))
     | inr off ↦
         let named = left.others (namespace_id name) (other_kind id (namespace_id name) is refl) in
         let status : anchor_status t m name ≡ anchor_status s m name = λ i. status_by (is_in m (left.excluded i) || is_in name (left.excluded i)) m (named i) in
         kept_anchor s t m name (ap (λ f. is_live f m) left.tree) (left.others (namespace_id m) (other_kind id (namespace_id m) is refl)) (left.others (anchor_id m name) off) status
   ]
-  law_by new here (key.Used m name) out stays told = none_in_both s t (key.Used m name) refl refl
-  law_by new here (key.Purge m) out stays told = elim (cases_Bool (bytes_eq m id.ns)) [
+  law_by new here (key.Used m name) out stays told used = used m name refl
+  law_by new here (key.Purge m) out stays told used = elim (cases_Bool (bytes_eq m id.ns)) [
     | inl here ↦ elim (cases_Bool (is_leaving (forest_of s) m)) [
       | inl leaves ↦ absurd (true≢false (sym (leaving_among (forest_of s) m leaves) ∙ ap (λ (n : List ℕ). is_among (key.Purge m) (leaving_keys (forest_of s) n)) (is_same m id.ns here) ∙ stays))
       | inr still ↦ staying_both s t m still (same_leaving m ∙ still)
@@ -176,7 +177,7 @@ module _ (s t : State) (id : Id) (is : is_anchor id.kind ≡ true) (left : Leave
 
 -- what is marked
 anchor_marked : (s : State) (w : Write) → is_anchor (id_written w).kind ≡ true
-    → marks_of s w ≡ (anchor_keys (id_written w) ++ leaving_keys (forest_of s) (id_written w).ns) ++ anchored_reports s (id_written w) (object_at s.objects (id_written w)) (object_written w)
+    → marks_beside s w ≡ (anchor_keys (id_written w) ++ leaving_keys (forest_of s) (id_written w).ns) ++ anchored_reports s (id_written w) (object_at s.objects (id_written w)) (object_written w)
 anchor_marked s w is = by (id_written w) is (object_at s.objects (id_written w)) (object_written w)
   where
     t : State
@@ -191,15 +192,15 @@ anchor_then s (Put x) = found_again x s.objects
 anchor_then s (Cut id) = object_at-cut id s.objects id ∙ ap (λ b. cond b None (object_at s.objects id)) (same_from_Equal id id (tied_itself id_total id))
 
 -- an anchor: a key that isn't marked wants what it wanted
-pub anchor_law : (s : State) (w : Write) → is_anchor (id_written w).kind ≡ true → (k : Key) → is_among k (marks_of s w) ≡ false → IsSameFor s (state_after s (w ∷ [])) k
-anchor_law s w is k out =
+pub anchor_law : (s : State) (w : Write) → is_anchor (id_written w).kind ≡ true → (k : Key) → is_among k (marks_beside s w) ≡ false → UsedSame s (state_after s (w ∷ [])) k → IsSameFor s (state_after s (w ∷ [])) k
+anchor_law s w is k out used =
     let id = id_written w in
     let own = anchor_keys id ++ leaving_keys (forest_of s) id.ns in
     let reports = anchored_reports s id (object_at s.objects id) (object_written w) in
     let all = sym (among_append k own reports) ∙ sym (ap (is_among k) (anchor_marked s w is)) ∙ out in
     let none = sym (among_append k (anchor_keys id) (leaving_keys (forest_of s) id.ns)) ∙ out_left (is_among k own) _ all in
     law_by s (state_after s (w ∷ [])) id is (leaves_anchor s w is) (object_written w) (anchor_then s w) k
-    (out_left (is_among k (anchor_keys id)) _ none) (out_right (is_among k (anchor_keys id)) _ none) (out_right (is_among k own) _ all)
+    (out_left (is_among k (anchor_keys id)) _ none) (out_right (is_among k (anchor_keys id)) _ none) (out_right (is_among k own) _ all) used
 
 -- ---- keys of the two states
 
@@ -214,7 +215,7 @@ own_keys s (Cut id) may is k mem =
     or_left (is_key s k) _ (anchor_key s id.ns id.name may.each.0.there.0 k (ap (object_at s.objects) (sym place) ∙ may.each.0.there.1) (subst (λ (q : Id). is_among k (anchor_keys q) ≡ true) place mem))
 
 -- and only keys of the two states are marked
-pub within_anchors : (s : State) (w : Write) → MayWriteAll s (w ∷ []) → is_anchor (id_written w).kind ≡ true → (k : Key) → is_among k (marks_of s w) ≡ true → may_mark s (w ∷ []) k ≡ true
+pub within_anchors : (s : State) (w : Write) → MayWriteAll s (w ∷ []) → is_anchor (id_written w).kind ≡ true → (k : Key) → is_among k (marks_beside s w) ≡ true → may_mark s (w ∷ []) k ≡ true
 within_anchors s w may is k mem =
     let id = id_written w in
     let own = anchor_keys id ++ leaving_keys (forest_of s) id.ns in

@@ -8,27 +8,30 @@ use Rattle.std.proofs.Common.{◌≡◌, ℕ, Bool, true, false, not, Option, So
 use Rattle.std.specs.Prelude.{if◌then◌else◌}
 use Rattle.std.specs.Option.{option_map_or}
 use Rattle.std.specs.Str.{bytes_eq}
-use Rattle.std.proofs.lemmas.Bool.{and_parts, cases_Bool}
+use Rattle.std.proofs.lemmas.Bool.{and_parts, cases_Bool, or_cases, or_left}
 use Rattle.std.proofs.lemmas.List.{append-nil}
-use Rattle.hx_object.specs.Kinds.{is_anchor, is_namespace, is_hierarchy}
+use Rattle.hx_object.specs.Kinds.{is_anchor, is_namespace, is_hierarchy, is_plain}
 use Rattle.hx_object.specs.declared.object.Object.{Object}
+use Rattle.hx_object.proofs.KindTests.{hierarchy_kind, namespace_kind}
 use Rattle.hx_model.specs.Covered.{IsCovered, IsSameFor}
 use Rattle.hx_model.specs.Forest.{is_in, parent_of}
 use Rattle.hx_model.specs.Hands.{Hand}
-use Rattle.hx_model.specs.Keys.{same_key, is_among, may_mark}
+use Rattle.hx_model.specs.Keys.{same_key, is_among, is_key, touches, may_mark}
 use Rattle.hx_model.specs.State.{State, object_at, state_after}
 use Rattle.hx_model.specs.Tree.{forest_of, is_terminating}
 use Rattle.hx_model.specs.Valid.{IsValid}
 use Rattle.hx_model.specs.Wanted.{wanted_write}
 use Rattle.hx_model.specs.Writes.{HasPlace, MayWriteAll, id_written}
 use Rattle.hx_model.specs.declared.key.Key.{Key}
+use Rattle.hx_model.specs.declared.key.Key.TheVariants as key
 use Rattle.hx_model.specs.declared.key.Write.{Write}
 use Rattle.hx_model.specs.declared.key.Write.TheVariants.{Put, Cut}
 use Rattle.hx_marks.specs.Halves.{IsRegular}
-use Rattle.hx_marks.specs.Law.{begins_to_end, begins_by, is_modes, marks_of, ending_names, following_marks, marks_among, all_marks}
+use Rattle.hx_marks.specs.Law.{begins_to_end, begins_by, is_modes, marks_of, object_written, ending_names, following_marks, marks_among, all_marks}
+use Rattle.hx_marks.specs.Usage.{usage_marks}
 use Rattle.hx_marks.proofs.Among.{same_key_is}
 use Rattle.hx_marks.proofs.AnchorLaw.{anchor_law, within_anchors}
-use Rattle.hx_marks.proofs.CreatedLaw.{created_law, within_created}
+use Rattle.hx_marks.proofs.CreatedLaw.{created_law, within_created, cut_there}
 use Rattle.hx_marks.proofs.EndingLaw.{ending_law, within_ending, leaving_law, within_leaving}
 use Rattle.hx_marks.proofs.EndingWrites.{LeavesNow}
 use Rattle.hx_marks.proofs.Labelling.{label_law, within_labels}
@@ -37,8 +40,13 @@ use Rattle.hx_marks.proofs.ModeLaw.{mode_law}
 use Rattle.hx_marks.proofs.MoveLaw.{move_law}
 use Rattle.hx_marks.proofs.MoveWithin.{within_moves}
 use Rattle.hx_marks.proofs.ObjectLaw.{object_law, within_objects}
+use Rattle.hx_marks.proofs.Parts.{UsedSame, among_parts, beside_out, hierarchy_usage_key, marks_beside, namespace_usage_key, usage_by, usage_out, used_same_for}
 use Rattle.hx_marks.proofs.RemovedLaw.{removed_law, within_removed}
 use Rattle.hx_marks.proofs.StayingCovered.{HaveTheirGuards, covered_next}
+use Rattle.hx_marks.proofs.UsageCreated.{usage_of_created}
+use Rattle.hx_marks.proofs.UsageMoved.{usage_of_moved}
+use Rattle.hx_marks.proofs.UsageObjects.{usage_of_object, usage_within_object}
+use Rattle.hx_marks.proofs.UsageRemoved.{usage_of_removed}
 
 -- the marks of one write
 pub all_one : (s : State) (write : Write) → all_marks s (write ∷ []) ≡ marks_of s write
@@ -87,17 +95,38 @@ begins s x old is there may ends =
 
 namespace_law : (s : State) (write : Write) → IsValid s → MayWriteAll s (write ∷ []) → is_namespace (id_written write).kind ≡ true → (found : Option Object) → object_at s.objects (id_written write) ≡ found
     → (k : Key) → is_among k (marks_of s write) ≡ false → IsSameFor s (state_after s (write ∷ [])) k
-namespace_law s write valid may is None absent k out = created_law s write valid may is absent k out
-namespace_law s (Cut id) valid may is (Some old) there k out = removed_law s id valid may is k out
+namespace_law s (Cut id) valid may is None absent k out = absurd (cut_there s id may absent)
+namespace_law s (Put x) valid may is None absent k out =
+    created_law s x valid may is absent k (beside_out s (Put x) k out)
+    (used_same_for s (state_after s (Put x ∷ [])) (usage_marks s x.id None (Some x)) k (usage_of_created s x valid may is absent) (ap (λ o. is_among k (usage_marks s x.id o (Some x))) (sym absent) ∙ usage_out s (Put x) k out))
+namespace_law s (Cut id) valid may is (Some old) there k out =
+    removed_law s id valid may is k (beside_out s (Cut id) k out) (used_same_for s (state_after s (Cut id ∷ [])) (usage_by s (Cut id)) k (usage_of_removed s id valid may is) (usage_out s (Cut id) k out))
 namespace_law s (Put x) valid may is (Some old) there k out = elim (cases_Bool (begins_to_end old x)) [
   | inr stays ↦ label_law s x old valid may is there stays k out
   | inl ends ↦ leaving_law s (Put x ∷ []) valid may (begins s x old is there may ends, tt) k (ap (is_among k) (all_one s (Put x)) ∙ out)
 ]
 
+-- what is marked on account of what quotas tell are keys of the state
+namespace_usage_within : (s : State) (write : Write) → is_namespace (id_written write).kind ≡ true → (k : Key) → is_among k (usage_by s write) ≡ true → may_mark s (write ∷ []) k ≡ true
+namespace_usage_within s write is k mem =
+    ap (λ kind. if is_plain kind then touches s (id_written write) k else (is_key s k || is_key (state_after s (write ∷ [])) k)) (namespace_kind (id_written write).kind is)
+    ∙ or_left (is_key s k) (is_key (state_after s (write ∷ [])) k) (namespace_usage_key s k (id_written write) (object_at s.objects (id_written write)) (object_written write) is mem)
+
+hierarchy_usage_within : (s : State) (write : Write) → is_hierarchy (id_written write).kind ≡ true → (k : Key) → is_among k (usage_by s write) ≡ true → may_mark s (write ∷ []) k ≡ true
+hierarchy_usage_within s write is k mem =
+    ap (λ kind. if is_plain kind then touches s (id_written write) k else (is_key s k || is_key (state_after s (write ∷ [])) k)) (hierarchy_kind (id_written write).kind is)
+    ∙ or_left (is_key s k) (is_key (state_after s (write ∷ [])) k) (hierarchy_usage_key s k (id_written write) (object_at s.objects (id_written write)) (object_written write) is mem)
+
+-- a key that is marked is so either way
+either_within : (s : State) (write : Write) (k : Key) → (is_among k (marks_beside s write) ≡ true → may_mark s (write ∷ []) k ≡ true) → (is_among k (usage_by s write) ≡ true → may_mark s (write ∷ []) k ≡ true)
+    → is_among k (marks_of s write) ≡ true → may_mark s (write ∷ []) k ≡ true
+either_within s write k beside usage mem = elim (or_cases (is_among k (marks_beside s write)) (is_among k (usage_by s write)) (sym (among_parts s write k) ∙ mem)) [ inl one ↦ beside one | inr quota ↦ usage quota ]
+
 namespace_within : (s : State) (write : Write) → IsValid s → MayWriteAll s (write ∷ []) → is_namespace (id_written write).kind ≡ true → (found : Option Object) → object_at s.objects (id_written write) ≡ found
     → (k : Key) → is_among k (marks_of s write) ≡ true → may_mark s (write ∷ []) k ≡ true
-namespace_within s write valid may is None absent k mem = within_created s write valid may is absent k mem
-namespace_within s (Cut id) valid may is (Some old) there k mem = within_removed s id valid may is k mem
+namespace_within s (Cut id) valid may is None absent k mem = absurd (cut_there s id may absent)
+namespace_within s (Put x) valid may is None absent k mem = either_within s (Put x) k (within_created s x valid may is absent k) (namespace_usage_within s (Put x) is k) mem
+namespace_within s (Cut id) valid may is (Some old) there k mem = either_within s (Cut id) k (within_removed s id valid may is k) (namespace_usage_within s (Cut id) is k) mem
 namespace_within s (Put x) valid may is (Some old) there k mem = elim (cases_Bool (begins_to_end old x)) [
   | inr stays ↦ within_labels s x old valid may is there stays k mem
   | inl ends ↦ within_leaving s (Put x ∷ []) valid may (begins s x old is there may ends, tt) k (ap (is_among k) (all_one s (Put x)) ∙ mem)
@@ -110,31 +139,42 @@ module _ (s : State) (write : Write) (valid : IsValid s) (may : MayWriteAll s (w
   law out = elim (cases_Bool (is_namespace (id_written write).kind)) [
     | inl is ↦ namespace_law s write valid may is (object_at s.objects (id_written write)) refl k out
     | inr leaf ↦ elim (cases_Bool (is_hierarchy (id_written write).kind)) [
-      | inl is ↦ move_law s write valid may is k out
-      | inr plain ↦ elim (cases_Bool (is_modes (id_written write))) [
-        | inl is ↦ mode_law s write valid may leaf plain is k out
-        | inr other ↦ elim (cases_Bool (is_anchor (id_written write).kind)) [
-          | inl is ↦ anchor_law s write is k out
-          | inr object ↦ object_law s write valid may leaf plain other object k out
-        ]
-      ]
+      | inl is ↦ move_law s write valid may is k beside (used (usage_of_moved s write valid may is))
+      | inr plain ↦
+          let quotas = used (usage_of_object s write valid may leaf plain) in
+          elim (cases_Bool (is_modes (id_written write))) [
+            | inl is ↦ mode_law s write valid may leaf plain is k beside quotas
+            | inr other ↦ elim (cases_Bool (is_anchor (id_written write).kind)) [
+              | inl is ↦ anchor_law s write is k beside quotas
+              | inr object ↦ object_law s write valid may leaf plain other object k beside quotas
+            ]
+          ]
     ]
   ]
+    where
+      beside : is_among k (marks_beside s write) ≡ false
+      beside = beside_out s write k out
+
+      used : ((n name : List ℕ) → is_among (key.Used n name) (usage_by s write) ≡ false → IsSameFor s (state_after s (write ∷ [])) (key.Used n name)) → UsedSame s (state_after s (write ∷ [])) k
+      used quotas = used_same_for s (state_after s (write ∷ [])) (usage_by s write) k quotas (usage_out s write k out)
 
   pub within : is_among k (marks_of s write) ≡ true → may_mark s (write ∷ []) k ≡ true
   within mem = elim (cases_Bool (is_namespace (id_written write).kind)) [
     | inl is ↦ namespace_within s write valid may is (object_at s.objects (id_written write)) refl k mem
     | inr leaf ↦ elim (cases_Bool (is_hierarchy (id_written write).kind)) [
-      | inl is ↦ within_moves s write valid may is k mem
-      | inr plain ↦ elim (cases_Bool (is_modes (id_written write))) [
-        | inl is ↦ within_modes s write valid may leaf plain is k mem
-        | inr other ↦ elim (cases_Bool (is_anchor (id_written write).kind)) [
-          | inl is ↦ within_anchors s write may is k mem
-          | inr object ↦ within_objects s write valid may leaf plain other object k mem
-        ]
-      ]
+      | inl is ↦ either_within s write k (within_moves s write valid may is k) (hierarchy_usage_within s write is k) mem
+      | inr plain ↦ either_within s write k (beside leaf plain) (usage_within_object s write k valid may leaf plain) mem
     ]
   ]
+    where
+      beside : is_namespace (id_written write).kind ≡ false → is_hierarchy (id_written write).kind ≡ false → is_among k (marks_beside s write) ≡ true → may_mark s (write ∷ []) k ≡ true
+      beside leaf plain one = elim (cases_Bool (is_modes (id_written write))) [
+        | inl is ↦ within_modes s write valid may leaf plain is k one
+        | inr other ↦ elim (cases_Bool (is_anchor (id_written write).kind)) [
+          | inl is ↦ within_anchors s write may is k one
+          | inr object ↦ within_objects s write valid may leaf plain other object k one
+        ]
+      ]
 
 -- ---- the writes of a commit
 

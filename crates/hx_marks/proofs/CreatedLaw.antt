@@ -1,6 +1,7 @@
 -- The law of marks where a namespace is made.
 --     created_law        a key that isn't marked wants what it wanted
 --     within_created     only keys of the two states are marked
+--     cut_there          what goes is there
 use Rattle.std.proofs.Common.{◌≡◌, ◌≢◌, ℕ, Bool, true, false, ◌&&◌, ◌||◌, Option, Some, None, List, [], ◌∷◌, ◌++◌, option_map, refl, sym, ap, ◌∙◌, subst, inl, inr, true≢false, eqb}
 use Rattle.std.specs.Prelude.{is_some, if◌then◌else◌, flat_map, filter}
 use Rattle.std.specs.List.{AllByRecursion}
@@ -26,10 +27,9 @@ use Rattle.hx_model.specs.Tree.{forest_of, hierarchy_id, node_in}
 use Rattle.hx_model.specs.TreeLabels.{is_open}
 use Rattle.hx_model.specs.Valid.{IsValid}
 use Rattle.hx_model.specs.Wanted.{wanted_copy, wanted_child}
-use Rattle.hx_model.specs.Writes.{HasPlace, MayPut, MayWriteAll, id_written}
+use Rattle.hx_model.specs.Writes.{HasPlace, MayPut, MayWriteAll}
 use Rattle.hx_model.specs.declared.key.Key.{Key}
 use Rattle.hx_model.specs.declared.key.Key.TheVariants as key
-use Rattle.hx_model.specs.declared.key.Write.{Write}
 use Rattle.hx_model.specs.declared.key.Write.TheVariants.{Put, Cut}
 use Rattle.hx_model.specs.declared.node.Node.{Node}
 use Rattle.hx_model.proofs.Climbing.{is_same, same_itself}
@@ -39,7 +39,7 @@ use Rattle.hx_model.proofs.Parents.{is_in_filter}
 use Rattle.hx_model.proofs.Planting.{namespace_is_homed, node_of-objects}
 use Rattle.hx_model.proofs.Storing.{All-put, All-found}
 use Rattle.hx_model.proofs.Walking.{names_have}
-use Rattle.hx_marks.specs.Law.{all_of, asking_keys, below_created, created_marks, marks_by, marks_of, namespace_marks, namespace_reports, report_marks}
+use Rattle.hx_marks.specs.Law.{all_of, asking_keys, below_created, created_marks, marks_by, namespace_marks, namespace_reports, report_marks}
 use Rattle.hx_marks.specs.Reports.{created_reports}
 use Rattle.hx_marks.proofs.Among.{same_key_is, among_append, among_flat_map, found_object, passing_object, found_name, passing_name, out_left, out_right}
 use Rattle.hx_marks.proofs.Asking.{asking_known, anchor_key, child_of_anchor, status_of_anchor}
@@ -50,6 +50,7 @@ use Rattle.hx_marks.proofs.Growing.{wants_grow, wants_put}
 use Rattle.hx_marks.proofs.Keeping.{without_child, without_status, staying_both}
 use Rattle.hx_marks.proofs.MoveStates.{none_from}
 use Rattle.hx_marks.proofs.OneMore.{HasOneMore, one_more, lies_nowhere, keeps_put, apart_copy, apart_tree, apart_child, apart_status, apart_purge, unasked}
+use Rattle.hx_marks.proofs.Parts.{UsedSame, marks_beside}
 use Rattle.hx_marks.proofs.Replacing.{valid_served}
 use Rattle.hx_marks.proofs.Wanting.{any_flat_map, wants_known, child_known, child_among, all_tree, all_wants, all_children, all_parts}
 use Rattle.hx_marks.proofs.Within.{wants_named, child_key}
@@ -147,32 +148,32 @@ module _ (s : State) (x : Object) (valid : IsValid s) (may : MayPut s x) (is : i
   abbrev reports : List Key
   reports = created_reports f n (parent_of g n)
 
-  by_made : (k : Key) → is_among k opened ≡ false → is_among k (asking_keys s.objects n) ≡ false → is_among k reports ≡ false → IsSameFor s t k
-  by_made (key.Copy m kind name) out unnamed untouched = elim (cases_Bool (in_chain g m n)) [
+  by_made : (k : Key) → is_among k opened ≡ false → is_among k (asking_keys s.objects n) ≡ false → is_among k reports ≡ false → UsedSame s t k → IsSameFor s t k
+  by_made (key.Copy m kind name) out unnamed untouched used = elim (cases_Bool (in_chain g m n)) [
     | inl has ↦ none_in_both s t (key.Copy m kind name) (closed_wants s m kind name (made_not_open f g n more.made m has)) (none_from (wanted_copy t m kind name) (λ wants. true≢false (sym (copy_marked m kind name has wants) ∙ out)))
     | inr hasnt ↦ apart_copy s t n more m kind name hasnt
   ]
-  by_made (key.Tree m) out unnamed untouched = elim (cases_Bool (in_chain g m n)) [
+  by_made (key.Tree m) out unnamed untouched used = elim (cases_Bool (in_chain g m n)) [
     | inl has ↦ absurd (true≢false (sym (marked m (key.Tree m) has (all_tree s.objects (whole m) m)) ∙ out))
     | inr hasnt ↦ apart_tree s t n more m hasnt
   ]
-  by_made (key.Report m) out unnamed untouched = report_made s t n more untold served_then m untouched
-  by_made (key.Child m name) out unnamed untouched = elim (cases_Bool (in_chain g m n)) [
+  by_made (key.Report m) out unnamed untouched used = report_made s t n more untold served_then m untouched
+  by_made (key.Child m name) out unnamed untouched used = elim (cases_Bool (in_chain g m n)) [
     | inl has ↦ none_in_both s t (key.Child m name) (shut_child s m name (made_not_open f g n more.made m has)) (none_from (wanted_child t m name) (λ wants. true≢false (sym (child_marked m name has wants) ∙ out)))
     | inr hasnt ↦ elim (cases_Bool (bytes_eq n name)) [
       | inl same ↦ let none = unasked s.objects n m name (key.Child m name) (child_of_anchor m name) unnamed same in without_child s t m name none (other_kind (anchor_id m name) refl ∙ none)
       | inr off ↦ apart_child s t n more m name hasnt off
     ]
   ]
-  by_made (key.Anchor m name) out unnamed untouched = elim (cases_Bool (bytes_eq n m)) [
+  by_made (key.Anchor m name) out unnamed untouched used = elim (cases_Bool (bytes_eq n m)) [
     | inl here ↦ let none = ap (λ (q : List ℕ). object_at s.objects (anchor_id q name)) (sym (is_same n m here)) ∙ bare name in without_status s t m name none (other_kind (anchor_id m name) refl ∙ none)
     | inr off ↦ elim (cases_Bool (bytes_eq n name)) [
       | inl same ↦ let none = unasked s.objects n m name (key.Anchor m name) (status_of_anchor m name) unnamed same in without_status s t m name none (other_kind (anchor_id m name) refl ∙ none)
       | inr other ↦ apart_status s t n more m name off other
     ]
   ]
-  by_made (key.Used m name) out unnamed untouched = none_in_both s t (key.Used m name) refl refl
-  by_made (key.Purge m) out unnamed untouched = elim (cases_Bool (bytes_eq n m)) [
+  by_made (key.Used m name) out unnamed untouched used = used m name refl
+  by_made (key.Purge m) out unnamed untouched used = elim (cases_Bool (bytes_eq n m)) [
     | inl here ↦ subst (λ (q : List ℕ). IsSameFor s t (key.Purge q)) (is_same n m here) (staying_both s t n never_leaves stays)
     | inr off ↦ apart_purge s t n more m off
   ]
@@ -182,7 +183,7 @@ module _ (s : State) (x : Object) (valid : IsValid s) (may : MayPut s x) (is : i
   taken false u v e = absurd (true≢false (sym e))
 
   -- what is marked
-  marks_are : marks_of s (Put x) ≡ created_marks s n (parent_of g n) ++ reports
+  marks_are : marks_beside s (Put x) ≡ created_marks s n (parent_of g n) ++ reports
   marks_are = λ i. keys i ++ told i
     where
       keys : marks_by s t x.id (object_at s.objects x.id) (Some x) ≡ created_marks s n (parent_of g n)
@@ -243,33 +244,33 @@ module _ (s : State) (x : Object) (valid : IsValid s) (may : MayPut s x) (is : i
     | inr told ↦ reports_within s t n more k told
   ]
 
-  marked_within : (k : Key) → is_among k (marks_of s (Put x)) ≡ true → may_mark s (Put x ∷ []) k ≡ true
+  marked_within : (k : Key) → is_among k (marks_beside s (Put x)) ≡ true → may_mark s (Put x ∷ []) k ≡ true
   marked_within k mem = not_plain (is_plain x.id.kind) (touches s x.id k) (ap is_plain (namespace_kind x.id.kind is)) (all_within k (ap (is_among k) (sym marks_are) ∙ mem))
     where
       not_plain : (b u : Bool) {v : Bool} → b ≡ false → v ≡ true → (if b then u else v) ≡ true
       not_plain true u e h = absurd (true≢false e)
       not_plain false u e h = h
 
-  put_law : (k : Key) → is_among k (marks_of s (Put x)) ≡ false → IsSameFor s t k
-  put_law k out =
+  put_law : (k : Key) → is_among k (marks_beside s (Put x)) ≡ false → UsedSame s t k → IsSameFor s t k
+  put_law k out used =
       let none = sym (among_append k (created_marks s n (parent_of g n)) reports) ∙ ap (is_among k) (sym marks_are) ∙ out in
       let unmarked = sym (among_append k opened (asking_keys s.objects n)) ∙ out_left (is_among k (created_marks s n (parent_of g n))) (is_among k reports) none in
       by_made k
       (out_left (is_among k opened) (is_among k (asking_keys s.objects n)) unmarked)
       (out_right (is_among k opened) (is_among k (asking_keys s.objects n)) unmarked)
       (out_right (is_among k (created_marks s n (parent_of g n))) (is_among k reports) none)
+      used
 
-cut_there : (s : State) (id : Id) → MayWriteAll s (Cut id ∷ []) → object_at s.objects id ≡ None → ⊥
+-- what goes is there
+pub cut_there : (s : State) (id : Id) → MayWriteAll s (Cut id ∷ []) → object_at s.objects id ≡ None → ⊥
 cut_there s id may absent = true≢false (ap is_some (sym may.each.0.there.1 ∙ absent))
 
 -- a namespace that is made: a key that isn't marked wants what it wanted
-pub created_law : (s : State) (write : Write) → IsValid s → MayWriteAll s (write ∷ []) → is_namespace (id_written write).kind ≡ true → object_at s.objects (id_written write) ≡ None
-    → (k : Key) → is_among k (marks_of s write) ≡ false → IsSameFor s (state_after s (write ∷ [])) k
-created_law s (Put x) valid may is absent k out = put_law s x valid may.each.0 is absent k out
-created_law s (Cut id) valid may is absent k out = absurd (cut_there s id may absent)
+pub created_law : (s : State) (x : Object) → IsValid s → MayWriteAll s (Put x ∷ []) → is_namespace x.id.kind ≡ true → object_at s.objects x.id ≡ None
+    → (k : Key) → is_among k (marks_beside s (Put x)) ≡ false → UsedSame s (state_after s (Put x ∷ [])) k → IsSameFor s (state_after s (Put x ∷ [])) k
+created_law s x valid may is absent k out used = put_law s x valid may.each.0 is absent k out used
 
 -- and only keys of the two states are marked
-pub within_created : (s : State) (write : Write) → IsValid s → MayWriteAll s (write ∷ []) → is_namespace (id_written write).kind ≡ true → object_at s.objects (id_written write) ≡ None
-    → (k : Key) → is_among k (marks_of s write) ≡ true → may_mark s (write ∷ []) k ≡ true
-within_created s (Put x) valid may is absent k mem = marked_within s x valid may.each.0 is absent k mem
-within_created s (Cut id) valid may is absent k mem = absurd (cut_there s id may absent)
+pub within_created : (s : State) (x : Object) → IsValid s → MayWriteAll s (Put x ∷ []) → is_namespace x.id.kind ≡ true → object_at s.objects x.id ≡ None
+    → (k : Key) → is_among k (marks_beside s (Put x)) ≡ true → may_mark s (Put x ∷ []) k ≡ true
+within_created s x valid may is absent k mem = marked_within s x valid may.each.0 is absent k mem

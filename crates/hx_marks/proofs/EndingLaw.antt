@@ -41,6 +41,7 @@ use Rattle.hx_model.proofs.Planting.{node_of-objects, there-objects, namespace_i
 use Rattle.hx_marks.specs.Halves.{IsEndingWrite}
 use Rattle.hx_marks.specs.Law.{all_of, status_keys, anchor_keys, leaving_keys, open_below, ending_marks, marks_of, ending_names, marks_among, all_marks}
 use Rattle.hx_marks.specs.Reports.{ending_reports, anchored_reports}
+use Rattle.hx_marks.specs.Usage.{usage_keys}
 use Rattle.hx_marks.proofs.Among.{among_append, among_flat_map, among_here, found_name, passing_name}
 use Rattle.hx_marks.proofs.Asking.{is_anchor_place, copied_no_anchor, anchor_key, child_of_anchor, status_of_anchor, leaving_among}
 use Rattle.hx_marks.proofs.EndingChains.{IsQuieter, quiet_chain, quiet_above, quiet_or}
@@ -55,8 +56,27 @@ use Rattle.hx_marks.proofs.OpenBelow.{open_is_there, in_own_chain, in_open_below
 use Rattle.hx_marks.proofs.Replacing.{valid_served, copied_leaf}
 use Rattle.hx_marks.proofs.Reporting.{same_report, silent_report}
 use Rattle.hx_marks.proofs.Topmost.{topmost}
+use Rattle.hx_marks.proofs.UsageEndings.{usage_of_ended}
+use Rattle.hx_marks.proofs.UsageKeys.{usage_is_key}
 use Rattle.hx_marks.proofs.Wanting.{wants_known, child_known, child_among, status_among, all_tree, all_wants, all_children}
 use Rattle.hx_marks.proofs.Within.{all_keys, status_key, removal_key, leaving_key}
+
+-- the statuses of the anchors in a namespace, its quotas, and its removal
+abbrev own_keys : State → List ℕ → List Key
+own_keys s n = status_keys s.objects n ++ (usage_keys s.objects n ++ key.Purge n ∷ [])
+
+own_status : (s : State) (n : List ℕ) (k : Key) → is_among k (status_keys s.objects n) ≡ true → is_among k (own_keys s n) ≡ true
+own_status s n k mem =
+    let behind : List Key = usage_keys s.objects n ++ key.Purge n ∷ [] in
+    among_append k (status_keys s.objects n) behind ∙ or_left (is_among k (status_keys s.objects n)) (is_among k behind) mem
+
+own_removal : (s : State) (n : List ℕ) → is_among (key.Purge n) (own_keys s n) ≡ true
+own_removal s n =
+    let k = key.Purge n in
+    let removal : List Key = key.Purge n ∷ [] in
+    among_append k (status_keys s.objects n) (usage_keys s.objects n ++ removal)
+    ∙ or_right (is_among k (status_keys s.objects n)) (is_among k (usage_keys s.objects n ++ removal))
+    (among_append k (usage_keys s.objects n) removal ∙ or_right (is_among k (usage_keys s.objects n)) (is_among k removal) (among_here k []))
 
 module _ (s t : State) (names : List (List ℕ)) (keys : List Key) (before : AllByRecursion IsServed s.objects) (up : ascends s.objects ≡ true) (has : HasEnded s t names keys) where
   abbrev f : Forest
@@ -135,18 +155,15 @@ module _ (s t : State) (names : List (List ℕ)) (keys : List Key) (before : All
       let wanted : List ℕ → List Key = λ b. all_of s.objects (chain_of f b) b in
       let found = top_above a m begun over acts in
       found.marked k
-      (among_append k (flat_map wanted (open_below f found.top)) (status_keys s.objects found.top ++ key.Purge found.top ∷ [])
+      (among_append k (flat_map wanted (open_below f found.top)) (own_keys s found.top)
       ∙ or_left (is_among k (flat_map wanted (open_below f found.top))) _ (among_flat_map k wanted (open_below f found.top) ∙ passing_name (λ b. is_among k (wanted b)) m (open_below f found.top) (in_open_below f found.top m acts found.over) mem))
 
-  own_marked : (a : List ℕ) (k : Key) → HasBegun s t names keys a → (is_among k (status_keys s.objects a) || is_among k (key.Purge a ∷ [])) ≡ true → is_among k keys ≡ true
-  own_marked a k begun mem =
-      let own : List Key = status_keys s.objects a ++ key.Purge a ∷ [] in
-      begun.own k (among_append k own (near_reports f a) ∙ or_left (is_among k own) (is_among k (near_reports f a)) (among_append k (status_keys s.objects a) (key.Purge a ∷ []) ∙ mem))
+  own_marked : (a : List ℕ) (k : Key) → HasBegun s t names keys a → is_among k (own_keys s a) ≡ true → is_among k keys ≡ true
+  own_marked a k begun mem = begun.own k (among_append k (own_keys s a) (near_reports f a) ∙ or_left (is_among k (own_keys s a)) (is_among k (near_reports f a)) mem)
 
   near_marked : (a : List ℕ) (k : Key) → HasBegun s t names keys a → is_among k (near_reports f a) ≡ true → is_among k keys ≡ true
   near_marked a k begun mem =
-      let own : List Key = status_keys s.objects a ++ key.Purge a ∷ [] in
-      begun.own k (among_append k own (near_reports f a) ∙ or_right (is_among k own) (is_among k (near_reports f a)) mem)
+      begun.own k (among_append k (own_keys s a) (near_reports f a) ∙ or_right (is_among k (own_keys s a)) (is_among k (near_reports f a)) mem)
 
   -- a member of its chain began to leave, or it stands as before
   standing : (m : List ℕ) → ((a : List ℕ) × HasBegun s t names keys a × (in_chain f m a ≡ true) × (is_open g m ≡ false)) ⊎ Stands s t m
@@ -225,7 +242,7 @@ module _ (s t : State) (names : List (List ℕ)) (keys : List Key) (before : All
       by : (o : Option Object) → object_at s.objects (anchor_id m name) ≡ o → o ≡ None
       by None e = refl
       by (Some x) e =
-          absurd (true≢false (sym (own_marked m (key.Anchor m name) begun (or_left (is_among (key.Anchor m name) (status_keys s.objects m)) (is_among (key.Anchor m name) (key.Purge m ∷ [])) (status_among s.objects m name x e))) ∙ out))
+          absurd (true≢false (sym (own_marked m (key.Anchor m name) begun (own_status s m (key.Anchor m name) (status_among s.objects m name x e))) ∙ out))
 
   anchor_law : (m name : List ℕ) → Unmarked (key.Anchor m name) → IsSameFor s t (key.Anchor m name)
   anchor_law m name out = elim (has.homes m) [
@@ -240,7 +257,7 @@ module _ (s t : State) (names : List (List ℕ)) (keys : List Key) (before : All
 
   purge_law : (m : List ℕ) → Unmarked (key.Purge m) → IsSameFor s t (key.Purge m)
   purge_law m out = elim (has.homes m) [
-    | inr begun ↦ absurd (true≢false (sym (own_marked m (key.Purge m) begun (or_right (is_among (key.Purge m) (status_keys s.objects m)) (is_among (key.Purge m) (key.Purge m ∷ [])) (among_here (key.Purge m) []))) ∙ out))
+    | inr begun ↦ absurd (true≢false (sym (own_marked m (key.Purge m) begun (own_removal s m)) ∙ out))
     | inl home ↦ elim (cases_Bool (is_leaving f m)) [
       | inr stays ↦ staying_both s t m stays (same_leaving m home ∙ stays)
       | inl leaves ↦ elim (has.inside m) [
@@ -320,7 +337,7 @@ module _ (s t : State) (names : List (List ℕ)) (keys : List Key) (before : All
   law_by (key.Report m) out = report_law m out
   law_by (key.Child m name) out = child_law m name out
   law_by (key.Anchor m name) out = anchor_law m name out
-  law_by (key.Used m name) out = none_in_both s t (key.Used m name) refl refl
+  law_by (key.Used m name) out = usage_of_ended s t names keys before up has m name out
   law_by (key.Purge m) out = purge_law m out
 
 -- namespaces begin to leave, and anchors go: a key that isn't marked wants what it wanted
@@ -333,14 +350,17 @@ ending_keys : (s : State) (n : List ℕ) (k : Key) → is_there (forest_of s) n 
 ending_keys s n k there mem =
     let f = forest_of s in
     let wanted : List ℕ → List Key = λ b. all_of s.objects (chain_of f b) b in
-    elim (or_cases (is_among k (flat_map wanted (open_below f n))) (is_among k (status_keys s.objects n ++ key.Purge n ∷ [])) (sym (among_append k (flat_map wanted (open_below f n)) (status_keys s.objects n ++ key.Purge n ∷ [])) ∙ mem)) [
+    elim (or_cases (is_among k (flat_map wanted (open_below f n))) (is_among k (own_keys s n)) (sym (among_append k (flat_map wanted (open_below f n)) (own_keys s n)) ∙ mem)) [
       | inl below ↦
           let found = found_name (λ b. is_among k (wanted b)) (open_below f n) (sym (among_flat_map k wanted (open_below f n)) ∙ below) in
           let m = found.0 in
           all_keys s (chain_of f m) m k (or_left (is_there f m) (has_named s.objects SubnamespaceAnchor m) (open_is_there f m (open_below_has f n m found.1).0)) found.2
-      | inr own ↦ elim (or_cases (is_among k (status_keys s.objects n)) (is_among k (key.Purge n ∷ [])) (sym (among_append k (status_keys s.objects n) (key.Purge n ∷ [])) ∙ own)) [
+      | inr own ↦ elim (or_cases (is_among k (status_keys s.objects n)) (is_among k (usage_keys s.objects n ++ key.Purge n ∷ [])) (sym (among_append k (status_keys s.objects n) (usage_keys s.objects n ++ key.Purge n ∷ [])) ∙ own)) [
         | inl status ↦ status_key s n k status
-        | inr purge ↦ removal_key s n k there purge
+        | inr behind ↦ elim (or_cases (is_among k (usage_keys s.objects n)) (is_among k (key.Purge n ∷ [])) (sym (among_append k (usage_keys s.objects n) (key.Purge n ∷ [])) ∙ behind)) [
+          | inl quota ↦ usage_is_key s n k quota
+          | inr purge ↦ removal_key s n k there purge
+        ]
       ]
     ]
 

@@ -12,8 +12,9 @@ use Rattle.std.specs.Prelude.{flat_map, if◌then◌else◌}
 use Rattle.std.specs.List.{AllByRecursion}
 use Rattle.std.specs.Str.{bytes_eq}
 use Rattle.std.proofs.lemmas.Bool.{and_parts, cases_Bool, or_cases, or_left, or_right, false_from_ne_true}
+use Rattle.std.proofs.lemmas.List.{append-nil}
 use Rattle.std.proofs.lemmas.List.Folds.{list_any-append}
-use Rattle.hx_object.specs.Kinds.{is_in_cluster, is_namespace, is_anchor}
+use Rattle.hx_object.specs.Kinds.{is_in_cluster, is_namespace, is_hierarchy, is_anchor, is_quota, is_plain}
 use Rattle.hx_object.specs.declared.object.Id.{Id}
 use Rattle.hx_object.specs.declared.object.Object.{Object}
 use Rattle.hx_model.specs.Forest.{is_in, children_of, chain_of}
@@ -38,11 +39,14 @@ use Rattle.hx_model.proofs.Writes.{ascends_after}
 use Rattle.hx_marks.specs.Halves.{IsEndingWrite}
 use Rattle.hx_marks.specs.Law.{all_of, anchor_keys, status_keys, open_below, ending_marks, leaving_keys, begins_to_end, begins_by, namespace_marks, namespace_reports, object_written, marks_by, report_marks, marks_of, ending_name, ending_names, follows, following_marks, marks_among, all_marks}
 use Rattle.hx_marks.specs.Reports.{report_keys, reports_of, ending_reports, anchored_reports}
+use Rattle.hx_marks.specs.Usage.{usage_keys}
 use Rattle.hx_marks.proofs.Among.{among_append}
 use Rattle.hx_marks.proofs.Asking.{is_anchor_place}
 use Rattle.hx_marks.proofs.Frames.{put_least, cut_least}
 use Rattle.hx_marks.proofs.OneMore.{inside_leaf, lies_nowhere}
+use Rattle.hx_marks.proofs.Parts.{marks_beside, marks_parts, put_again_usage}
 use Rattle.hx_marks.proofs.Replacing.{valid_served}
+use Rattle.hx_marks.proofs.UsageCharges.{usage_elsewhere}
 
 -- ---- what leaves
 
@@ -77,7 +81,7 @@ all_leave s (w ∷ ws) ends = (ending_leaves s w ends.0, all_leave s ws ends.1)
 -- ---- what is marked
 
 pub put_marks : (s : State) (x : Object) → LeavesNow s x → marks_of s (Put x) ≡ ending_marks s x.id.name ++ ending_reports (forest_of s) x.id.name
-put_marks s x ends = λ i. own i ++ reports i
+put_marks s x ends = (λ i. own i ++ (reports i ++ put_again_usage s x ends.old ends.kind ends.there i)) ∙ ap (λ marks. ending_marks s x.id.name ++ marks) (append-nil (ending_reports (forest_of s) x.id.name))
   where
     taken : (b : Bool) (u v : List Key) → b ≡ true → (if b then u else v) ≡ u
     taken true u v e = refl
@@ -110,7 +114,12 @@ put_among s names x ends =
     ∙ ap (λ marks. if follows f names n then following_marks s n else marks) (put_marks s x ends)
 
 pub cut_marks : (s : State) (id : Id) → is_anchor id.kind ≡ true → marks_of s (Cut id) ≡ (anchor_keys id ++ leaving_keys (forest_of s) id.ns) ++ anchored_reports s id (object_at s.objects id) None
-cut_marks s id is = subst (λ (q : Id). marks_of s (Cut q) ≡ (anchor_keys q ++ leaving_keys (forest_of s) q.ns) ++ anchored_reports s q (object_at s.objects q) None) (sym (is_anchor_place id is)) refl
+cut_marks s id is =
+    let place = is_anchor_place id is in
+    marks_parts s (Cut id)
+    ∙ (λ i. marks_beside s (Cut id) ++ usage_elsewhere s (Cut id) (ap (λ (q : Id). is_namespace q.kind) place) (ap (λ (q : Id). is_hierarchy q.kind) place) (ap (λ (q : Id). is_quota q.kind) place) (ap (λ (q : Id). is_plain q.kind) place) i)
+    ∙ append-nil (marks_beside s (Cut id))
+    ∙ subst (λ (q : Id). marks_beside s (Cut q) ≡ (anchor_keys q ++ leaving_keys (forest_of s) q.ns) ++ anchored_reports s q (object_at s.objects q) None) (sym place) refl
 
 -- ---- keys among keys
 
@@ -131,7 +140,7 @@ following_marked : (s : State) (n : List ℕ) (keys : List Key) → AreMarked (e
 following_marked s n keys all =
     let f = forest_of s in
     let below : List Key = flat_map (λ m. all_of s.objects (chain_of f m) m) (open_below f n) in
-    let own : List Key = status_keys s.objects n ++ key.Purge n ∷ [] in
+    let own : List Key = status_keys s.objects n ++ (usage_keys s.objects n ++ key.Purge n ∷ []) in
     let report : List Key = report_keys f n in
     let children : List Key = reports_of f (children_of f n) in
     let reports = right_marked (ending_marks s n) (ending_reports f n) keys all in

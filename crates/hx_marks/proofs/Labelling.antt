@@ -39,12 +39,16 @@ use Rattle.hx_model.proofs.Objects.{found_id, found_again}
 use Rattle.hx_model.proofs.Storing.{All-found}
 use Rattle.hx_marks.proofs.Among.{among_here, among_append, out_left, out_right}
 use Rattle.hx_marks.proofs.Frames.{none_in_both, shut_child, unanchored_child, taken_child, unanchored_status, staying_removal, same_child, same_status, status_stays, same_removal, put_least}
+use Rattle.hx_marks.proofs.Parts.{marks_beside, marks_parts, put_again_usage, usage_by}
 use Rattle.hx_marks.proofs.Reporting.{conditions_same, own_report, report_key, same_report, silent_report}
 use Rattle.hx_marks.specs.Reports.{anchored_reports, ending_reports, report_keys}
 use Rattle.hx_marks.proofs.Replacing.{valid_served, uncopied, copied_leaf, no_namespace, other_name, copy_by, tree_by, same_phase, replaced_forest}
+use Rattle.hx_marks.proofs.UsageKeys.{usage_is_key}
+use Rattle.hx_marks.proofs.UsageNamespaces.{usage_of_namespace}
 use Rattle.hx_marks.proofs.Wanting.{wants_known, all_wants, all_tree, all_children, child_among, status_among}
 use Rattle.hx_marks.proofs.Within.{all_keys, status_key, leaving_key}
 use Rattle.hx_marks.specs.Law.{all_of, label_marks, namespace_marks, namespace_reports, hierarchy_reports, marks_of, begins_to_end, inner_marks, ending_marks, mode_marks, is_modes, status_keys, leaving_keys}
+use Rattle.hx_marks.specs.Usage.{usage_keys}
 
 -- ---- what is marked
 
@@ -54,16 +58,19 @@ own_marks s n = if is_open (forest_of s) n then all_of s.objects (chain_of (fore
 
 -- a key that isn't marked is in no part
 labels_out : (s : State) (n : List ℕ) (k : Key) → is_among k (label_marks s n) ≡ false
-    → (is_among k (own_marks s n) ≡ false) × (is_among k (report_keys (forest_of s) n) ≡ false) × (is_among k (status_keys s.objects n) ≡ false) × (is_among k (leaving_keys (forest_of s) n) ≡ false)
+    → (is_among k (own_marks s n) ≡ false) × (is_among k (report_keys (forest_of s) n) ≡ false) × (is_among k (status_keys s.objects n) ≡ false) × (is_among k (usage_keys s.objects n) ≡ false) × (is_among k (leaving_keys (forest_of s) n) ≡ false)
 labels_out s n k out =
-    let last = status_keys s.objects n ++ leaving_keys (forest_of s) n in
+    let quotas = usage_keys s.objects n ++ leaving_keys (forest_of s) n in
+    let last = status_keys s.objects n ++ quotas in
     let all = sym (among_append k (own_marks s n) (report_keys (forest_of s) n ++ last)) ∙ out in
     let told = sym (among_append k (report_keys (forest_of s) n) last) ∙ out_right (is_among k (own_marks s n)) _ all in
-    let later = sym (among_append k (status_keys s.objects n) (leaving_keys (forest_of s) n)) ∙ out_right (is_among k (report_keys (forest_of s) n)) _ told in (
+    let later = sym (among_append k (status_keys s.objects n) quotas) ∙ out_right (is_among k (report_keys (forest_of s) n)) _ told in
+    let behind = sym (among_append k (usage_keys s.objects n) (leaving_keys (forest_of s) n)) ∙ out_right (is_among k (status_keys s.objects n)) _ later in (
       out_left (is_among k (own_marks s n)) _ all,
       out_left (is_among k (report_keys (forest_of s) n)) _ told,
       out_left (is_among k (status_keys s.objects n)) _ later,
-      out_right (is_among k (status_keys s.objects n)) _ later,
+      out_left (is_among k (usage_keys s.objects n)) _ behind,
+      out_right (is_among k (usage_keys s.objects n)) _ behind,
     )
 
 open_there : (f : Forest) (n : List ℕ) → is_open f n ≡ true → is_there f n ≡ true
@@ -75,13 +82,16 @@ open_there f n h = live (node_of f n) (and_parts (is_live f n) _ h).0
 
 -- what is marked are keys of the state
 label_keys : (s : State) (n : List ℕ) (k : Key) → is_among k (label_marks s n) ≡ true → is_key s k ≡ true
-label_keys s n k mem = elim (or_cases (is_among k (own_marks s n)) _ (sym (among_append k (own_marks s n) (report_keys (forest_of s) n ++ (status_keys s.objects n ++ leaving_keys (forest_of s) n))) ∙ mem)) [
+label_keys s n k mem = elim (or_cases (is_among k (own_marks s n)) _ (sym (among_append k (own_marks s n) (report_keys (forest_of s) n ++ (status_keys s.objects n ++ (usage_keys s.objects n ++ leaving_keys (forest_of s) n)))) ∙ mem)) [
   | inl own ↦ by (is_open (forest_of s) n) refl own
-  | inr told ↦ elim (or_cases (is_among k (report_keys (forest_of s) n)) _ (sym (among_append k (report_keys (forest_of s) n) (status_keys s.objects n ++ leaving_keys (forest_of s) n)) ∙ told)) [
+  | inr told ↦ elim (or_cases (is_among k (report_keys (forest_of s) n)) _ (sym (among_append k (report_keys (forest_of s) n) (status_keys s.objects n ++ (usage_keys s.objects n ++ leaving_keys (forest_of s) n))) ∙ told)) [
     | inl report ↦ report_key s n k report
-    | inr later ↦ elim (or_cases (is_among k (status_keys s.objects n)) _ (sym (among_append k (status_keys s.objects n) (leaving_keys (forest_of s) n)) ∙ later)) [
+    | inr later ↦ elim (or_cases (is_among k (status_keys s.objects n)) _ (sym (among_append k (status_keys s.objects n) (usage_keys s.objects n ++ leaving_keys (forest_of s) n)) ∙ later)) [
       | inl status ↦ status_key s n k status
-      | inr leaves ↦ leaving_key s n k leaves
+      | inr behind ↦ elim (or_cases (is_among k (usage_keys s.objects n)) _ (sym (among_append k (usage_keys s.objects n) (leaving_keys (forest_of s) n)) ∙ behind)) [
+        | inl quota ↦ usage_is_key s n k quota
+        | inr leaves ↦ leaving_key s n k leaves
+      ]
     ]
   ]
 ]
@@ -285,20 +295,20 @@ module _ (s : State) (x old : Object) (valid : IsValid s) (is : is_namespace x.i
             ap (λ a. is_some (object_at t.objects (namespace_id a))) here ∙ ap is_some there_then ∙ sym (ap (λ a. is_some (object_at s.objects (namespace_id a))) here ∙ ap is_some there_before)
       ]
 
-  pub replaced_same : (k : Key) → is_among k (label_marks s x.id.name) ≡ false → IsSameFor s t k
-  replaced_same k out = by k own.0 own.1 own.2 own.3
+  pub replaced_same : ((n name : List ℕ) → is_among (key.Used n name) (usage_keys s.objects x.id.name) ≡ false → IsSameFor s t (key.Used n name)) → (k : Key) → is_among k (label_marks s x.id.name) ≡ false → IsSameFor s t k
+  replaced_same quotas k out = by k own.0 own.1 own.2 own.3 own.4
     where
-      own : (is_among k (own_marks s x.id.name) ≡ false) × (is_among k (report_keys (forest_of s) x.id.name) ≡ false) × (is_among k (status_keys s.objects x.id.name) ≡ false) × (is_among k (leaving_keys (forest_of s) x.id.name) ≡ false)
+      own : (is_among k (own_marks s x.id.name) ≡ false) × (is_among k (report_keys (forest_of s) x.id.name) ≡ false) × (is_among k (status_keys s.objects x.id.name) ≡ false) × (is_among k (usage_keys s.objects x.id.name) ≡ false) × (is_among k (leaving_keys (forest_of s) x.id.name) ≡ false)
       own = labels_out s x.id.name k out
 
-      by : (k : Key) → is_among k (own_marks s x.id.name) ≡ false → is_among k (report_keys (forest_of s) x.id.name) ≡ false → is_among k (status_keys s.objects x.id.name) ≡ false → is_among k (leaving_keys (forest_of s) x.id.name) ≡ false → IsSameFor s t k
-      by (key.Copy m kind name) out told statused left = copies m kind name out
-      by (key.Tree m) out told statused left = trees m out
-      by (key.Report m) out told statused left = reports m told
-      by (key.Child m name) out told statused left = children m name out
-      by (key.Anchor m name) out told statused left = statuses m name statused
-      by (key.Used m name) out told statused left = (refl, λ _. refl)
-      by (key.Purge m) out told statused left = removals m left
+      by : (k : Key) → is_among k (own_marks s x.id.name) ≡ false → is_among k (report_keys (forest_of s) x.id.name) ≡ false → is_among k (status_keys s.objects x.id.name) ≡ false → is_among k (usage_keys s.objects x.id.name) ≡ false → is_among k (leaving_keys (forest_of s) x.id.name) ≡ false → IsSameFor s t k
+      by (key.Copy m kind name) out told statused quoted left = copies m kind name out
+      by (key.Tree m) out told statused quoted left = trees m out
+      by (key.Report m) out told statused quoted left = reports m told
+      by (key.Child m name) out told statused quoted left = children m name out
+      by (key.Anchor m name) out told statused quoted left = statuses m name statused
+      by (key.Used m name) out told statused quoted left = quotas m name quoted
+      by (key.Purge m) out told statused quoted left = removals m left
 
 -- ---- the law
 
@@ -306,11 +316,17 @@ module _ (s : State) (x old : Object) (valid : IsValid s) (is : is_namespace x.i
 marks_are : (s : State) (x old : Object) → is_namespace x.id.kind ≡ true → object_at s.objects x.id ≡ Some old → begins_to_end old x ≡ false → marks_of s (Put x) ≡ label_marks s x.id.name
 marks_are s x old is there stays =
     let t = state_after s (Put x ∷ []) in
-    ap (λ b. (if b then namespace_marks s t x.id.name (object_at s.objects x.id) (Some x) else beside) ++ (if b then namespace_reports s t x.id.name (object_at s.objects x.id) (Some x) else reports_beside)) is
+    marks_parts s (Put x)
+    ∙ (λ i. marks_beside s (Put x) ++ no_usage i)
+    ∙ append-nil (marks_beside s (Put x))
+    ∙ ap (λ b. (if b then namespace_marks s t x.id.name (object_at s.objects x.id) (Some x) else beside) ++ (if b then namespace_reports s t x.id.name (object_at s.objects x.id) (Some x) else reports_beside)) is
     ∙ ap (λ o. namespace_marks s t x.id.name o (Some x) ++ namespace_reports s t x.id.name o (Some x)) there
     ∙ ap (λ b. (if b then ending_marks s x.id.name else label_marks s x.id.name) ++ (if b then ending_reports (forest_of s) x.id.name else [])) stays
     ∙ append-nil (label_marks s x.id.name)
   where
+    no_usage : usage_by s (Put x) ≡ []
+    no_usage = put_again_usage s x old is there
+
     reports_beside : List Key
     reports_beside =
         if is_hierarchy x.id.kind then (if bytes_eq x.id.name hierarchy then hierarchy_reports s (state_after s (Put x ∷ [])) x.id.ns else []) else (
@@ -326,7 +342,7 @@ module _ (s : State) (x old : Object) (valid : IsValid s) (may : MayWriteAll s (
   pub label_law : is_among k (marks_of s (Put x)) ≡ false → IsSameFor s (state_after s (Put x ∷ [])) k
   label_law out =
       let keeps : KeepsItsPlace old x = subst (λ (o : Option Object). HasPlace o x) there (may.each.0.place is) in
-      replaced_same s x old valid is there keeps stays k (sym (ap (is_among k) (marks_are s x old is there stays)) ∙ out)
+      replaced_same s x old valid is there keeps stays (usage_of_namespace s x old valid may is there) k (sym (ap (is_among k) (marks_are s x old is there stays)) ∙ out)
 
   -- those that are marked may be
   pub within_labels : is_among k (marks_of s (Put x)) ≡ true → may_mark s (Put x ∷ []) k ≡ true

@@ -35,9 +35,10 @@ use Rattle.hx_model.specs.declared.key.Write.TheVariants.{Put, Cut}
 use Rattle.hx_model.proofs.Displacing.{KeepsOthers, put_keeps, cut_keeps}
 use Rattle.hx_model.proofs.Objects.{id_total, is_same_id, same_from_Equal, object_at-cut, found_again}
 use Rattle.hx_model.proofs.Planting.{forest-put, forest-cut}
-use Rattle.hx_marks.specs.Law.{namespace_marks, namespace_reports, hierarchy_reports, report_marks, move_marks, mode_marks, object_marks, is_modes, object_written, marks_of, inner_marks, anchor_marks, leaving_keys, is_config_kind}
+use Rattle.hx_marks.specs.Law.{namespace_marks, namespace_reports, hierarchy_reports, report_marks, move_marks, mode_marks, object_marks, is_modes, object_written, inner_marks, anchor_marks, leaving_keys, is_config_kind}
 use Rattle.hx_marks.specs.Reports.{anchored_reports}
 use Rattle.hx_marks.proofs.Frames.{KeepsLeast, put_least, cut_least, same_child, same_status, status_stays}
+use Rattle.hx_marks.proofs.Parts.{marks_beside}
 use Rattle.hx_marks.proofs.Reporting.{same_report, conditions_same}
 
 pub record Leaves (s t : State) (id : Id) (new : Option Object) : Type 0 where
@@ -114,7 +115,7 @@ other_marks s write =
     cond (is_modes (id_written write)) (mode_marks s (object_at s.objects (id_written write)) (object_written write))
     (kept_marks s write ++ leaving_keys (forest_of s) (id_written write).ns)
 
-pub marks_are : (s : State) (write : Write) → is_namespace (id_written write).kind ≡ false → is_hierarchy (id_written write).kind ≡ false → marks_of s write ≡ other_marks s write ++ kept_reports s write
+pub marks_are : (s : State) (write : Write) → is_namespace (id_written write).kind ≡ false → is_hierarchy (id_written write).kind ≡ false → marks_beside s write ≡ other_marks s write ++ kept_reports s write
 marks_are s write namespace hierarchical =
     let t = state_after s (write ∷ []) in
     let old = object_at s.objects (id_written write) in
@@ -127,7 +128,7 @@ marks_are s write namespace hierarchical =
     ∙ ap (λ b. cond (is_modes (id_written write)) modes (cond b moves (kept_marks s write) ++ leaving) ++ cond b placed (kept_reports s write)) hierarchical
 
 -- the modes mark by themselves
-pub marks_by_modes : (s : State) (write : Write) → is_namespace (id_written write).kind ≡ false → is_hierarchy (id_written write).kind ≡ false → is_modes (id_written write) ≡ true → marks_of s write ≡ mode_marks s (object_at s.objects (id_written write)) (object_written write)
+pub marks_by_modes : (s : State) (write : Write) → is_namespace (id_written write).kind ≡ false → is_hierarchy (id_written write).kind ≡ false → is_modes (id_written write) ≡ true → marks_beside s write ≡ mode_marks s (object_at s.objects (id_written write)) (object_written write)
 marks_by_modes s write namespace hierarchical modes =
     marks_are s write namespace hierarchical
     ∙ ap (λ b. cond b (mode_marks s (object_at s.objects (id_written write)) (object_written write)) (kept_marks s write ++ leaving_keys (forest_of s) (id_written write).ns) ++ kept_reports s write) modes
@@ -140,14 +141,14 @@ marks_by_modes s write namespace hierarchical modes =
     no_anchor _ h = refl
 
 -- and so does any other object
-pub marks_by_kept : (s : State) (write : Write) → is_namespace (id_written write).kind ≡ false → is_hierarchy (id_written write).kind ≡ false → is_modes (id_written write) ≡ false → marks_of s write ≡ (kept_marks s write ++ leaving_keys (forest_of s) (id_written write).ns) ++ kept_reports s write
+pub marks_by_kept : (s : State) (write : Write) → is_namespace (id_written write).kind ≡ false → is_hierarchy (id_written write).kind ≡ false → is_modes (id_written write) ≡ false → marks_beside s write ≡ (kept_marks s write ++ leaving_keys (forest_of s) (id_written write).ns) ++ kept_reports s write
 marks_by_kept s write namespace hierarchical modes =
     marks_are s write namespace hierarchical
     ∙ ap (λ b. cond b (mode_marks s (object_at s.objects (id_written write)) (object_written write)) (kept_marks s write ++ leaving_keys (forest_of s) (id_written write).ns) ++ kept_reports s write) modes
 
 -- whatever lies in a namespace marks the removal of its namespace, too
 pub marks_inside : (s : State) (write : Write) → is_in_cluster (id_written write).kind ≡ false
-    → marks_of s write ≡ (inner_marks s (state_after s (write ∷ [])) (id_written write) (object_at s.objects (id_written write)) (object_written write) ++ leaving_keys (forest_of s) (id_written write).ns)
+    → marks_beside s write ≡ (inner_marks s (state_after s (write ∷ [])) (id_written write) (object_at s.objects (id_written write)) (object_written write) ++ leaving_keys (forest_of s) (id_written write).ns)
     ++ report_marks s (state_after s (write ∷ [])) (id_written write) (object_at s.objects (id_written write)) (object_written write)
 marks_inside s write inside =
     let t = state_after s (write ∷ []) in

@@ -1,6 +1,13 @@
 pub mod Among
 pub mod Wanting
 pub mod Within
+pub mod UsageKeys
+pub mod Parts
+pub mod UsageCharges
+pub mod UsageFrames
+pub mod UsageNamespaces
+pub mod UsageEndings
+pub mod UsageObjects
 pub mod Settling
 pub mod Frames
 pub mod Reporting
@@ -28,6 +35,10 @@ pub mod OneMoreHalting
 pub mod OneMore
 pub mod CreatedReports
 pub mod RemovedReports
+pub mod UsageTree
+pub mod UsageMoved
+pub mod UsageCreated
+pub mod UsageRemoved
 pub mod CreatedLaw
 pub mod RemovedLaw
 pub mod Topmost

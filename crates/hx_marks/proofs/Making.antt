@@ -2,53 +2,62 @@
 --     placed_put, taken_cut       what is put, and what is cut
 --     IsCopyWrite, IsTreeWrite    what is known of a write that a place of copies wants;  a namespace's tree labels
 --     copy_write_known, tree_write_known
---     IsChildWrite, IsStatusWrite, IsRemovalWrite     of a subnamespace, of an anchor's status, and of a removal
---     child_write_known, status_write_known, removal_write_known
+--     IsChildWrite, IsStatusWrite, IsUsedWrite, IsRemovalWrite     of a subnamespace, of an anchor's status, of a quota's, and of a removal
+--     child_write_known, status_write_known, used_write_known, removal_write_known
 --     removal_marked              the write of a removal marks its key again
 --     fresh_satisfies             for all keys but those of removals, which take one object after the other
-use Rattle.std.proofs.Common.{◌≡◌, ℕ, ◌+◌, Bool, true, false, cond, not, Option, Some, None, List, [], ◌∷◌, ◌++◌, ◌⊎◌, inl, inr, refl, sym, ap, ◌∙◌, subst, true≢false, option_map}
+use Rattle.std.proofs.Common.{◌≡◌, ℕ, ◌+◌, Bool, true, false, cond, not, Option, Some, None, List, [], ◌∷◌, ◌++◌, map, ◌⊎◌, inl, inr, refl, sym, ap, ◌∙◌, subst, true≢false, option_map}
 use Rattle.std.specs.Prelude.{is_some, if◌then◌else◌}
 use Rattle.std.specs.Cmp.{tied_itself}
 use Rattle.std.specs.Str.{bytes_eq}
 use Rattle.std.proofs.lemmas.Bool.{false_from_ne_true, and_parts, or_left, or_right, not-true}
-use Rattle.hx_object.specs.Kinds.{can_be_copied, is_namespace, is_hierarchy, is_in_cluster}
+use Rattle.hx_object.specs.Kinds.{can_be_copied, is_namespace, is_hierarchy, is_in_cluster, is_plain}
 use Rattle.hx_object.specs.declared.kind.Kind.{Kind}
 use Rattle.hx_object.specs.declared.kind.Kind.TheVariants as of
 use Rattle.hx_object.specs.declared.object.Id.{Id}
 use Rattle.hx_object.specs.declared.object.Mode.{Mode}
 use Rattle.hx_object.specs.declared.object.Mode.TheVariants.{Propagate, AllowPropagate, Remove, Ignore}
 use Rattle.hx_object.specs.declared.object.Object.{Object}
+use Rattle.hx_object.specs.declared.object.Payload.{Payload}
+use Rattle.hx_object.specs.declared.object.Payload.TheVariants.{Namespace as NamespaceOf, Config, Hierarchy, Anchor, Quota, Plain}
 use Rattle.hx_model.specs.Answers.{same_object}
 use Rattle.hx_model.specs.Cases.{is_leaving}
+use Rattle.hx_model.specs.Charges.{hard_of}
 use Rattle.hx_model.specs.First.{so}
-use Rattle.hx_model.specs.Forest.{is_in, chain_of, tail_of, is_live}
+use Rattle.hx_model.specs.Forest.{is_in, in_chain, chain_of, tail_of, is_live}
 use Rattle.hx_model.specs.Hands.{versioned}
 use Rattle.hx_model.specs.Keys.{is_among}
 use Rattle.hx_model.specs.Limits.{is_copy}
 use Rattle.hx_model.specs.Modes.{config_id, mode_in, mode_of}
 use Rattle.hx_model.specs.Propagation.{copy_of, goes_to, id_in, sources_along, sources_above, top_source}
-use Rattle.hx_model.specs.State.{State, Objects, object_at, put, same_id, namespace_id, with_version, after_writes, state_after, least_in}
+use Rattle.hx_model.specs.Quotas.{used}
+use Rattle.hx_model.specs.State.{State, Objects, object_at, put, same_id, namespace_id, with_version, ascends, after_writes, state_after, least_in}
 use Rattle.hx_model.specs.Subnamespaces.{anchor_id}
 use Rattle.hx_model.specs.Tree.{forest_in, forest_of}
 use Rattle.hx_model.specs.TreeLabels.{is_open, prescribed_labels}
 use Rattle.hx_model.specs.Valid.{IsValid}
-use Rattle.hx_model.specs.Wanted.{placed, without_copy, copied, copied_in, copy_write, wanted_copy, labelled, tree_write, wanted_tree, wanted_write, child_write, wanted_child, subnamespace, with_status_of, anchor_status, anchor_write, wanted_anchor, next_to_go, least_id, purge_write, wanted_purge}
+use Rattle.hx_model.specs.Wanted.{placed, without_copy, copied, copied_in, copy_write, wanted_copy, labelled, tree_write, wanted_tree, wanted_write, child_write, wanted_child, subnamespace, with_status_of, anchor_status, anchor_write, wanted_anchor, quota_id, used_of, sums_of, with_usages, with_sums, used_write, wanted_used, next_to_go, least_id, purge_write, wanted_purge}
 use Rattle.hx_model.specs.Writes.{id_written}
 use Rattle.hx_model.specs.declared.key.Key.{Key}
 use Rattle.hx_model.specs.declared.key.Key.TheVariants as key
 use Rattle.hx_model.specs.declared.key.Write.{Write}
 use Rattle.hx_model.specs.declared.key.Write.TheVariants.{Put, Cut}
+use Rattle.hx_model.specs.declared.resource.Resource.{Resource}
 use Rattle.hx_model.proofs.Climbing.{is_same}
 use Rattle.hx_model.proofs.Conflicting.{head_out}
 use Rattle.hx_model.proofs.Objects.{id_total, is_same_id, same_from_Equal, object_at-put, object_at-cut, found_again, found_id}
 use Rattle.hx_model.proofs.Planting.{forest-put, forest-cut}
+use Rattle.hx_model.proofs.Writes.{ascends_after}
 use Rattle.hx_marks.proofs.Among.{among_here, among_append}
 use Rattle.hx_marks.proofs.Frames.{taken_child, status_stays, least_lies}
 use Rattle.hx_marks.proofs.Leaving.{marks_inside}
+use Rattle.hx_marks.proofs.Parts.{among_parts, marks_beside, usage_by}
 use Rattle.hx_marks.proofs.Prescribing.{prescribed_again, chain_keys}
 use Rattle.hx_marks.proofs.Replacing.{valid_served, sources_same, copied_leaf, tree_by, leaving_found}
 use Rattle.hx_marks.proofs.ReportWrites.{report_satisfied, report_write_known}
 use Rattle.hx_marks.proofs.Settling.{stands_placed}
+use Rattle.hx_marks.proofs.UsageFrames.{sums_stay}
+use Rattle.hx_marks.proofs.UsageTree.{used_alike}
 use Rattle.hx_marks.proofs.Wanting.{along_found, wants_copied}
 use Rattle.hx_marks.specs.Law.{namespace_marks, namespace_reports, asking_keys, inner_marks, leaving_keys, marks_of, report_marks}
 use Rattle.hx_marks.specs.Reports.{removed_reports}
@@ -192,6 +201,20 @@ status_write_known s n m write wants = by (is_live (forest_of s) n) (object_at s
     by false (Some x) is at e = absurd (none_some write e)
     by true (Some x) is at e = record { live = is; anchor = x; there = at; puts = placed_put (with_status_of (anchor_status s n m) x) (Some x) write e }
 
+pub record IsUsedWrite (s : State) (n m : List ℕ) (write : Write) : Type 0 where
+  pub live : is_live (forest_of s) n ≡ true
+  pub quota : Object
+  pub there : object_at s.objects (quota_id n m) ≡ Some quota
+  pub puts : write ≡ Put (with_sums (sums_of s n (Some quota)) quota)
+
+pub used_write_known : (s : State) (n m : List ℕ) (write : Write) → wanted_used s n m ≡ Some write → IsUsedWrite s n m write
+used_write_known s n m write wants = by (is_live (forest_of s) n) (object_at s.objects (quota_id n m)) refl refl wants
+  where
+    by : (live : Bool) (found : Option Object) → is_live (forest_of s) n ≡ live → object_at s.objects (quota_id n m) ≡ found → used_write live (sums_of s n found) found ≡ Some write → IsUsedWrite s n m write
+    by live None is at e = absurd (none_some write e)
+    by false (Some x) is at e = absurd (none_some write e)
+    by true (Some x) is at e = record { live = is; quota = x; there = at; puts = placed_put (with_sums (sums_of s n (Some x)) x) (Some x) write e }
+
 pub record IsRemovalWrite (s : State) (n : List ℕ) (write : Write) : Type 0 where
   pub leaves : is_leaving (forest_of s) n ≡ true
   pub cuts : write ≡ Cut (next_to_go (least_id s n) n)
@@ -303,6 +326,46 @@ status_satisfied s n m write version known =
     ∙ ap (λ b. anchor_write b (anchor_status s n m) (Some y)) known.live
     ∙ stands_placed (with_status_of (anchor_status s n m) y) y refl
 
+-- ---- after a write of a quota's
+
+-- it has the limits that it had, and tells the same of them again
+same_hard : (sums : List ℕ) (payload : Payload) → hard_of (with_usages sums payload) ≡ hard_of payload
+same_hard sums (Quota hard status) = refl
+same_hard sums _ = refl
+
+told_again : (sums : List ℕ) (payload : Payload) → with_usages sums payload ≡ with_usages sums (with_usages sums payload)
+told_again sums (Quota hard status) = refl
+told_again sums (NamespaceOf terminating) = refl
+told_again sums (Config entries) = refl
+told_again sums (Hierarchy parent cascade children conditions) = refl
+told_again sums (Anchor status) = refl
+told_again sums (Plain members need) = refl
+
+-- what is used stays where an object of a kind that isn't charged is put, and the tree stays
+used_stays : (s : State) (y : Object) → ascends s.objects ≡ true → is_plain y.id.kind ≡ false → forest_of (state_after s (Put y ∷ [])) ≡ forest_of s → (n : List ℕ) (r : Resource) → used s n r ≡ used (state_after s (Put y ∷ [])) n r
+used_stays s y up out tree n =
+    used_alike s (state_after s (Put y ∷ [])) n up (ascends_after (Put y ∷ []) s.objects up)
+    (λ q plain. object_at-put y s.objects q ∙ ap (λ b. cond b (Some y) (object_at s.objects q)) (false_from_ne_true (same_id q y.id) (λ h. true≢false (sym plain ∙ ap (λ (p : Id). is_plain p.kind) (is_same_id q y.id h) ∙ out))))
+    (λ x plain at. ap (λ f. in_chain f x.id.ns n) (sym tree))
+
+-- the quota tells what is used, which stays
+used_satisfied : (s : State) (n m : List ℕ) (write : Write) (version : ℕ) → IsValid s → IsUsedWrite s n m write → wanted_used (state_after s (versioned version write ∷ [])) n m ≡ None
+used_satisfied s n m write version valid known =
+    let x = known.quota in
+    let sums = sums_of s n (Some x) in
+    let y = with_version (with_sums sums x) version in
+    let t = state_after s (Put y ∷ []) in
+    let id : quota_id n m ≡ x.id = found_id s.objects (quota_id n m) x known.there in
+    let tree : forest_of t ≡ forest_of s = forest-put s.config.excluded y s.objects (ap (λ (q : Id). is_namespace q.kind) (sym id)) (ap (λ (q : Id). is_hierarchy q.kind) (sym id)) in
+    let found : object_at t.objects (quota_id n m) ≡ Some y = ap (object_at t.objects) id ∙ found_again y s.objects in
+    let stays : sums_of t n (Some y) ≡ sums =
+    sums_stay s t n (used_stays s y valid.in_order (ap (λ (q : Id). is_plain q.kind) (sym id)) tree n) (Some y) ∙ ap (map (used_of s n)) (same_hard sums x.payload) in
+    let told : y.payload ≡ with_usages (sums_of t n (Some y)) y.payload = told_again sums x.payload ∙ ap (λ us. with_usages us y.payload) (sym stays) in
+    ap (λ w. wanted_used (state_after s (versioned version w ∷ [])) n m) known.puts
+    ∙ (λ i. used_write (is_live (tree i) n) (sums_of t n (found i)) (found i))
+    ∙ ap (λ b. used_write b (sums_of t n (Some y)) (Some y)) known.live
+    ∙ stands_placed (with_sums (sums_of t n (Some y)) y) y (λ i. record y { payload = told i; version = 0 })
+
 -- ---- after a write of a removal
 
 -- its own write marks it: there may be more to go
@@ -312,21 +375,27 @@ removal_marked s n write version valid known = by (least_in s.objects n) refl
     marks : (o : Option Object) → least_in s.objects n ≡ o → marks_of s (versioned version write) ≡ marks_of s (Cut (next_to_go (option_map (λ (x : Object). x.id) o) n))
     marks o is = ap (λ w. marks_of s (versioned version w)) known.cuts ∙ ap (λ (o : Option Object). marks_of s (Cut (next_to_go (option_map (λ (x : Object). x.id) o) n))) is
 
+    -- it is marked whatever quotas tell
+    beside : (w : Write) → is_among (key.Purge n) (marks_beside s w) ≡ true → is_among (key.Purge n) (marks_of s w) ≡ true
+    beside w mem = among_parts s w (key.Purge n) ∙ or_left (is_among (key.Purge n) (marks_beside s w)) (is_among (key.Purge n) (usage_by s w)) mem
+
     by : (o : Option Object) → least_in s.objects n ≡ o → is_among (key.Purge n) (marks_of s (versioned version write)) ≡ true
     by None empty =
         let found = leaving_found s valid n known.leaves in
         let t = state_after s (Cut (namespace_id n) ∷ []) in
-        ap (is_among (key.Purge n)) (marks None empty ∙ ap (λ o. namespace_marks s t n o None ++ namespace_reports s t n o None) found.1)
-        ∙ among_here (key.Purge n) (asking_keys s.objects n ++ removed_reports (forest_of s) n)
+        ap (is_among (key.Purge n)) (marks None empty)
+        ∙ beside (Cut (namespace_id n)) (ap (is_among (key.Purge n)) (ap (λ o. namespace_marks s t n o None ++ namespace_reports s t n o None) found.1) ∙ among_here (key.Purge n) (asking_keys s.objects n ++ removed_reports (forest_of s) n))
     by (Some x) first =
         let parts = and_parts (not (is_in_cluster x.id.kind)) (bytes_eq n x.id.ns) (least_lies s.objects n x first) in
         let inner = inner_marks s (state_after s (Cut x.id ∷ [])) x.id (object_at s.objects x.id) None in
         let here : is_among (key.Purge n) (leaving_keys (forest_of s) x.id.ns) ≡ true =
         ap (λ a. is_among (key.Purge n) (leaving_keys (forest_of s) a)) (sym (is_same n x.id.ns parts.1)) ∙ ap (λ b. is_among (key.Purge n) (if b then key.Purge n ∷ [] else [])) known.leaves ∙ among_here (key.Purge n) [] in
         let reports = report_marks s (state_after s (Cut x.id ∷ [])) x.id (object_at s.objects x.id) None in
-        ap (is_among (key.Purge n)) (marks (Some x) first ∙ marks_inside s (Cut x.id) (not-true (is_in_cluster x.id.kind) parts.0))
+        ap (is_among (key.Purge n)) (marks (Some x) first)
+        ∙ beside (Cut x.id)
+        (ap (is_among (key.Purge n)) (marks_inside s (Cut x.id) (not-true (is_in_cluster x.id.kind) parts.0))
         ∙ among_append (key.Purge n) (inner ++ leaving_keys (forest_of s) x.id.ns) reports
-        ∙ or_left _ (is_among (key.Purge n) reports) (among_append (key.Purge n) inner (leaving_keys (forest_of s) x.id.ns) ∙ or_right (is_among (key.Purge n) inner) _ here)
+        ∙ or_left _ (is_among (key.Purge n) reports) (among_append (key.Purge n) inner (leaving_keys (forest_of s) x.id.ns) ∙ or_right (is_among (key.Purge n) inner) _ here))
 
 -- ---- once it is made
 
@@ -342,5 +411,5 @@ fresh_satisfies s (key.Tree m) write valid once wants = tree_satisfied s m write
 fresh_satisfies s (key.Report m) write valid once wants = report_satisfied s m write (s.last + 1) valid (report_write_known s m write valid wants)
 fresh_satisfies s (key.Child m name) write valid once wants = child_satisfied s m name write (s.last + 1) (child_write_known s m name write wants)
 fresh_satisfies s (key.Anchor m name) write valid once wants = status_satisfied s m name write (s.last + 1) (status_write_known s m name write wants)
-fresh_satisfies s (key.Used m name) write valid once wants = absurd (none_some write wants)
+fresh_satisfies s (key.Used m name) write valid once wants = used_satisfied s m name write (s.last + 1) valid (used_write_known s m name write wants)
 fresh_satisfies s (key.Purge m) write valid once wants = absurd (true≢false once)

@@ -25,10 +25,11 @@ use Rattle.hx_model.specs.declared.key.Write.{Write}
 use Rattle.hx_model.proofs.Climbing.{same_itself}
 use Rattle.hx_model.proofs.Objects.{same_kind}
 use Rattle.hx_model.proofs.Parents.{is_in_filter}
-use Rattle.hx_marks.specs.Law.{key_for, open_below, apart, differ, is_ignored, is_sent, copy_marks, source_marks, kind_marks, mode_marks, is_config_kind, is_modes, object_written, marks_of}
+use Rattle.hx_marks.specs.Law.{key_for, open_below, apart, differ, is_ignored, is_sent, copy_marks, source_marks, kind_marks, mode_marks, is_config_kind, is_modes, object_written}
 use Rattle.hx_marks.proofs.Among.{same_key_is, among_append, among_flat_map, among_map, among_cond, any_filter, passing_object, found_object, found_name, found_kind}
 use Rattle.hx_marks.proofs.OpenBelow.{open_is_there, open_below_has}
 use Rattle.hx_marks.proofs.Leaving.{marks_by_modes}
+use Rattle.hx_marks.proofs.Parts.{marks_beside}
 
 -- the copies of an object in a namespace that takes part have a key
 copy_key : (s : State) (x : Object) (m : List ℕ) → object_at s.objects x.id ≡ Some x → can_be_copied x.id.kind ≡ true → is_open (forest_of s) m ≡ true → is_key s (key_for m x) ≡ true
@@ -90,7 +91,7 @@ config_not_plain id is = by id.kind (and_parts (is_config_kind id.kind) _ is).0
 
 -- a key that is marked is one that the write may make wait
 pub within_modes : (s : State) (write : Write) → IsValid s → MayWriteAll s (write ∷ []) → is_namespace (id_written write).kind ≡ false → is_hierarchy (id_written write).kind ≡ false → is_modes (id_written write) ≡ true
-    → (k : Key) → is_among k (marks_of s write) ≡ true → may_mark s (write ∷ []) k ≡ true
+    → (k : Key) → is_among k (marks_beside s write) ≡ true → may_mark s (write ∷ []) k ≡ true
 within_modes s write valid may namespace hierarchical modes k h =
     ap (λ b. cond b (touches s (id_written write) k) (is_key s k || is_key (state_after s (write ∷ [])) k)) (config_not_plain (id_written write) modes)
     ∙ or_left (is_key s k) _ (mode_keys s (object_at s.objects (id_written write)) (object_written write) k valid.in_order (ap (is_among k) (sym (marks_by_modes s write namespace hierarchical modes)) ∙ h))

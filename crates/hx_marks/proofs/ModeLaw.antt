@@ -38,12 +38,13 @@ use Rattle.hx_model.proofs.Displacing.{KeepsOthers}
 use Rattle.hx_model.proofs.Objects.{is_same_id, found_id}
 use Rattle.hx_model.proofs.Parents.{is_in_filter}
 use Rattle.hx_model.proofs.Storing.{All-found}
-use Rattle.hx_marks.specs.Law.{is_ignored, is_sent, key_for, open_below, apart, differ, copy_marks, source_marks, kind_marks, mode_marks, is_config_kind, is_modes, object_written, marks_of}
+use Rattle.hx_marks.specs.Law.{is_ignored, is_sent, key_for, open_below, apart, differ, copy_marks, source_marks, kind_marks, mode_marks, is_config_kind, is_modes, object_written}
 use Rattle.hx_marks.proofs.Among.{same_key_itself, among_append, among_flat_map, among_map, among_here, among_cond, any_filter, passing_object, passing_name, passing_kind}
 use Rattle.hx_marks.proofs.OpenBelow.{in_open_below, above_apart}
 use Rattle.hx_marks.proofs.Frames.{none_in_both, uncopied_wants, nothing_copied, same_tree, same_closed, same_copied, then_above, KeepsLeast, removal_apart}
 use Rattle.hx_marks.proofs.Going.{sent_alike, going, top_along, copied_in_none, top_goes}
 use Rattle.hx_marks.proofs.Leaving.{Leaves, leaves, namespaces_stay, marks_by_modes, child_stays, anchored_stays, leaving_stay, report_stays}
+use Rattle.hx_marks.proofs.Parts.{UsedSame, marks_beside}
 
 -- ---- what is written
 
@@ -204,19 +205,19 @@ module _ (s t : State) (left : Leaves s t config_id (object_at t.objects config_
     ]
   ]
 
-  key_law : (k : Key) → is_among k config_marks ≡ false → IsSameFor s t k
-  key_law (key.Copy n kind name) out = copy_law n kind name out
-  key_law (key.Tree n) out = same_tree s t left.tree found n
-  key_law (key.Report n) out = report_stays s t config_id (object_at t.objects config_id) left refl refl refl n
-  key_law (key.Child n m) out = child_stays s t config_id (object_at t.objects config_id) left refl refl n m
-  key_law (key.Anchor n m) out = anchored_stays s t config_id (object_at t.objects config_id) left refl refl n m
-  key_law (key.Used n name) out = none_in_both s t (key.Used n name) refl refl
-  key_law (key.Purge n) out = removal_apart s t config_id refl left.others left.least (leaving_stay s t config_id (object_at t.objects config_id) left) n refl
+  key_law : (k : Key) → is_among k config_marks ≡ false → UsedSame s t k → IsSameFor s t k
+  key_law (key.Copy n kind name) out used = copy_law n kind name out
+  key_law (key.Tree n) out used = same_tree s t left.tree found n
+  key_law (key.Report n) out used = report_stays s t config_id (object_at t.objects config_id) left refl refl refl n
+  key_law (key.Child n m) out used = child_stays s t config_id (object_at t.objects config_id) left refl refl n m
+  key_law (key.Anchor n m) out used = anchored_stays s t config_id (object_at t.objects config_id) left refl refl n m
+  key_law (key.Used n name) out used = used n name refl
+  key_law (key.Purge n) out used = removal_apart s t config_id refl left.others left.least (leaving_stay s t config_id (object_at t.objects config_id) left) n refl
 
 -- a key that isn't marked wants the same before and after the write
 pub mode_law : (s : State) (write : Write) → IsValid s → MayWriteAll s (write ∷ []) → is_namespace (id_written write).kind ≡ false → is_hierarchy (id_written write).kind ≡ false → is_modes (id_written write) ≡ true
-    → (k : Key) → is_among k (marks_of s write) ≡ false → IsSameFor s (state_after s (write ∷ [])) k
-mode_law s write valid may namespace hierarchical modes k out =
+    → (k : Key) → is_among k (marks_beside s write) ≡ false → UsedSame s (state_after s (write ∷ [])) k → IsSameFor s (state_after s (write ∷ [])) k
+mode_law s write valid may namespace hierarchical modes k out used =
     let left = leaves s write namespace hierarchical in
     let same = config_written s write valid may modes in
     let here : object_at (state_after s (write ∷ [])).objects config_id ≡ object_written write = ap (object_at (state_after s (write ∷ [])).objects) (sym same) ∙ left.here in
@@ -230,3 +231,4 @@ mode_law s write valid may namespace hierarchical modes k out =
     })
     k
     ((λ i. is_among k (mode_marks s (object_at s.objects (sym same i)) (here i))) ∙ ap (is_among k) (sym (marks_by_modes s write namespace hierarchical modes)) ∙ out)
+    used

@@ -38,13 +38,14 @@ use Rattle.hx_model.proofs.Displacing.{KeepsOthers, put_keeps, cut_keeps, with_s
 use Rattle.hx_model.proofs.Moving.{moved_parent, moved_node, with_that}
 use Rattle.hx_model.proofs.Opening.{moved_live}
 use Rattle.hx_model.proofs.Planting.{hierarchy_no_namespace, there-objects, home_of_hierarchy, forest-put_moves, forest-cut_moves}
-use Rattle.hx_marks.specs.Law.{is_modes, moved_by, move_marks, mode_marks, namespace_marks, object_marks, marks_by, marks_of, inner_marks, anchor_marks, leaving_keys, is_config_kind, object_written, hierarchy_reports, namespace_reports, report_marks}
+use Rattle.hx_marks.specs.Law.{is_modes, moved_by, move_marks, mode_marks, namespace_marks, object_marks, marks_by, inner_marks, anchor_marks, leaving_keys, is_config_kind, object_written, hierarchy_reports, namespace_reports, report_marks}
 use Rattle.hx_marks.specs.Reports.{report_keys, moved_reports, placed_reports, anchored_reports}
 use Rattle.hx_marks.proofs.Among.{among_append, out_left, out_right}
 use Rattle.hx_marks.proofs.Frames.{KeepsLeast, put_least, cut_least}
 use Rattle.hx_marks.proofs.MoveBelow.{moved_same}
 use Rattle.hx_marks.proofs.MoveReports.{calm_there, report_out, found_apart, found_named, report_kept, report_moved}
 use Rattle.hx_marks.proofs.MoveStates.{same_for}
+use Rattle.hx_marks.proofs.Parts.{UsedSame, marks_beside}
 
 pub all_served : (last : ℕ) (objects : Objects) → AllByRecursion (IsStored last) objects → AllByRecursion IsServed objects
 all_served last [] h = tt
@@ -101,13 +102,13 @@ moved_leaving f n parent a = ap (λ o. option_map_or (λ (node : Node). node.ter
     by true (Some node) = refl
     by false o = refl
 
-module _ (s : State) (valid : IsValid s) (id : Id) (is : is_hierarchy id.kind ≡ true) (new : Objects) (last : ℕ) (keeps : KeepsOthers id s.objects new) (least : KeepsLeast id s.objects new) (k : Key) (out : is_among k (leaving_keys (forest_of s) id.ns) ≡ false) where
+module _ (s : State) (valid : IsValid s) (id : Id) (is : is_hierarchy id.kind ≡ true) (new : Objects) (last : ℕ) (keeps : KeepsOthers id s.objects new) (least : KeepsLeast id s.objects new) (k : Key) (out : is_among k (leaving_keys (forest_of s) id.ns) ≡ false) (used : UsedSame s (record s { objects = new; last = last }) k) where
   abbrev after : State
   after = record s { objects = new; last = last }
 
   -- where the tree stays
   stays : forest_in s.config.excluded new ≡ forest_of s → ((m : List ℕ) → k ≡ key.Report m → is_calm (forest_of s) m ≡ true → same_id (hierarchy_id m) id ≡ false) → IsSameFor s after k
-  stays tree apart = same_for s id is new last keeps (forest_of s) tree (λ n. refl) (λ n. refl) least k (λ m report. report_kept s id is new last keeps m tree (apart m report)) out refl
+  stays tree apart = same_for s id is new last keeps (forest_of s) tree (λ n. refl) (λ n. refl) least k (λ m report. report_kept s id is new last keeps m tree (apart m report)) used out refl
 
   -- where its namespace is there
   moves : (home : Object) (parent : Option (List ℕ)) → object_at s.objects (namespace_id id.ns) ≡ Some home → forest_in s.config.excluded new ≡ with_parent id.ns parent (forest_of s)
@@ -139,7 +140,7 @@ module _ (s : State) (valid : IsValid s) (id : Id) (is : is_hierarchy id.kind �
       by false differs marks told =
           same_for s id is new last keeps moved tree (moved_live (forest_of s) id.ns parent) (moved_leaving (forest_of s) id.ns parent) least k
           (λ m report. report_moved s id is new last keeps m parent there tree (sym (ap (λ (q : Key). is_among q (moved_reports (forest_of s) id.ns (parent_of (forest_of s) id.ns) parent (is_open (forest_of s) id.ns) (is_open moved id.ns))) report) ∙ told))
-          out (moved_same s id.ns parent there (with_same_parent s valid id.ns home here) k marks)
+          used out (moved_same s id.ns parent there (with_same_parent s valid id.ns home here) k marks)
 
   by_home : (named : Option (List ℕ)) (o : Option Object) → object_at s.objects (namespace_id id.ns) ≡ o
       → forest_in s.config.excluded new ≡ option_map_or (λ home. with_parent id.ns (or_else (subnamespace_parent home) named) (forest_of s)) o (forest_of s)
@@ -170,8 +171,8 @@ pub cut_moves : (s : State) → IsValid s → (id : Id) → is_hierarchy id.kind
 cut_moves s valid id is = forest-cut_moves s.config.excluded s.objects id is valid.in_order (all_served s.last s.objects valid.stored)
 
 -- a key that isn't marked wants the same on the same guards
-pub move_law : (s : State) (write : Write) → IsValid s → MayWriteAll s (write ∷ []) → is_hierarchy (id_written write).kind ≡ true → (k : Key) → is_among k (marks_of s write) ≡ false → IsSameFor s (state_after s (write ∷ [])) k
-move_law s write valid may is k unmarked = by write is (sym (hierarchy_among s (state_after s (write ∷ [])) (id_written write) (object_at s.objects (id_written write)) (object_written write) is k) ∙ unmarked)
+pub move_law : (s : State) (write : Write) → IsValid s → MayWriteAll s (write ∷ []) → is_hierarchy (id_written write).kind ≡ true → (k : Key) → is_among k (marks_beside s write) ≡ false → UsedSame s (state_after s (write ∷ [])) k → IsSameFor s (state_after s (write ∷ [])) k
+move_law s write valid may is k unmarked used = by write is used (sym (hierarchy_among s (state_after s (write ∷ [])) (id_written write) (object_at s.objects (id_written write)) (object_written write) is k) ∙ unmarked)
   where
     moving : Write → Bool
     moving w = is_among k (if bytes_eq (id_written w).name hierarchy then move_marks s (state_after s (w ∷ [])) (id_written w).ns else [])
@@ -182,12 +183,12 @@ move_law s write valid may is k unmarked = by write is (sym (hierarchy_among s (
     telling : Write → Bool
     telling w = is_among k (if bytes_eq (id_written w).name hierarchy then hierarchy_reports s (state_after s (w ∷ [])) (id_written w).ns else [])
 
-    by : (w : Write) → is_hierarchy (id_written w).kind ≡ true → ((moving w || leaving w) || telling w) ≡ false → IsSameFor s (state_after s (w ∷ [])) k
-    by (Put x) is none =
+    by : (w : Write) → is_hierarchy (id_written w).kind ≡ true → UsedSame s (state_after s (w ∷ [])) k → ((moving w || leaving w) || telling w) ≡ false → IsSameFor s (state_after s (w ∷ [])) k
+    by (Put x) is used none =
         let some = out_left (moving (Put x) || leaving (Put x)) (telling (Put x)) none in
-        move_same s valid x.id is (put x s.objects) (s.last + 1) (put_keeps x x.id s.objects refl) (put_least x s.objects) k (out_right (moving (Put x)) (leaving (Put x)) some) (named_parent x) (put_moves s valid x is)
+        move_same s valid x.id is (put x s.objects) (s.last + 1) (put_keeps x x.id s.objects refl) (put_least x s.objects) k (out_right (moving (Put x)) (leaving (Put x)) some) used (named_parent x) (put_moves s valid x is)
         (out_left (moving (Put x)) (leaving (Put x)) some) (out_right (moving (Put x) || leaving (Put x)) (telling (Put x)) none)
-    by (Cut id) is none =
+    by (Cut id) is used none =
         let some = out_left (moving (Cut id) || leaving (Cut id)) (telling (Cut id)) none in
-        move_same s valid id is (cut id s.objects) (s.last + 1) (cut_keeps id s.objects) (cut_least id s.objects) k (out_right (moving (Cut id)) (leaving (Cut id)) some) None (cut_moves s valid id is)
+        move_same s valid id is (cut id s.objects) (s.last + 1) (cut_keeps id s.objects) (cut_least id s.objects) k (out_right (moving (Cut id)) (leaving (Cut id)) some) used None (cut_moves s valid id is)
         (out_left (moving (Cut id)) (leaving (Cut id)) some) (out_right (moving (Cut id) || leaving (Cut id)) (telling (Cut id)) none)

@@ -35,6 +35,7 @@ use Rattle.hx_model.proofs.Objects.{is_same_id, found_id}
 use Rattle.hx_model.proofs.Planting.{hierarchy_no_namespace}
 use Rattle.hx_marks.specs.Law.{all_of, leaving_keys}
 use Rattle.hx_marks.proofs.Frames.{KeepsLeast, same_status, status_stays, removal_beside}
+use Rattle.hx_marks.proofs.Parts.{UsedSame}
 use Rattle.hx_marks.proofs.Wanting.{wants_known, wants_copied, all_wants, all_tree, all_children, child_known, child_among}
 
 pub none_from : {A : Type 0} (o : Option A) → (o ≢ None → ⊥) → o ≡ None
@@ -151,7 +152,7 @@ module _ (s : State) (id : Id) (is : is_hierarchy id.kind ≡ true) (new : Objec
   same_guards (key.Tree m) wants = λ i. same_guard (namespace_id m) refl i ∷ []
   same_guards (key.Child m name) wants = λ i. same_guard (anchor_id m name) refl i ∷ same_guard (namespace_id m) refl i ∷ same_guard (namespace_id name) refl i ∷ []
   same_guards (key.Report m) wants = absurd (wants refl)
-  same_guards (key.Used m name) wants = refl
+  same_guards (key.Used m name) wants = absurd (wants refl)
   same_guards (key.Anchor m name) wants = absurd (wants refl)
   same_guards (key.Purge m) wants = absurd (wants refl)
 
@@ -165,12 +166,12 @@ module _ (s : State) (id : Id) (is : is_hierarchy id.kind ≡ true) (new : Objec
 
     -- where the new tree tells the same, the key wants the same
     pub same_for : ((n : List ℕ) → is_live f n ≡ is_live (forest_of s) n) → ((n : List ℕ) → is_leaving f n ≡ is_leaving (forest_of s) n) → KeepsLeast id s.objects new
-        → (k : Key) → ((m : List ℕ) → k ≡ key.Report m → IsSameFor s after (key.Report m)) → is_among k (leaving_keys (forest_of s) id.ns) ≡ false → wanted_in s (forest_of s) k ≡ wanted_in s f k → IsSameFor s after k
-    same_for live leaving least (key.Copy m kind name) told out same = by_tree (key.Copy m kind name) refl refl same
-    same_for live leaving least (key.Tree m) told out same = by_tree (key.Tree m) refl refl same
-    same_for live leaving least (key.Report m) told out same = told m refl
-    same_for live leaving least (key.Child m name) told out same = by_tree (key.Child m name) refl refl same
-    same_for live leaving least (key.Anchor m name) told out same =
+        → (k : Key) → ((m : List ℕ) → k ≡ key.Report m → IsSameFor s after (key.Report m)) → UsedSame s after k → is_among k (leaving_keys (forest_of s) id.ns) ≡ false → wanted_in s (forest_of s) k ≡ wanted_in s f k → IsSameFor s after k
+    same_for live leaving least (key.Copy m kind name) told used out same = by_tree (key.Copy m kind name) refl refl same
+    same_for live leaving least (key.Tree m) told used out same = by_tree (key.Tree m) refl refl same
+    same_for live leaving least (key.Report m) told used out same = told m refl
+    same_for live leaving least (key.Child m name) told used out same = by_tree (key.Child m name) refl refl same
+    same_for live leaving least (key.Anchor m name) told used out same =
         same_status s after m name (other_kind (anchor_id m name) refl) (other_kind (namespace_id m) refl) (ap (λ g. is_live g m) tree ∙ live m) (status_stays s after m name refl (other_kind (namespace_id name) refl))
-    same_for live leaving least (key.Used m name) told out same = by_tree (key.Used m name) refl refl same
-    same_for live leaving least (key.Purge m) told out same = removal_beside s after id (hierarchy_no_namespace id is) keeps least (λ n. ap (λ g. is_leaving g n) tree ∙ leaving n) m out
+    same_for live leaving least (key.Used m name) told used out same = used m name refl
+    same_for live leaving least (key.Purge m) told used out same = removal_beside s after id (hierarchy_no_namespace id is) keeps least (λ n. ap (λ g. is_leaving g n) tree ∙ leaving n) m out

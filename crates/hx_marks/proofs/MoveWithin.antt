@@ -29,10 +29,11 @@ use Rattle.hx_model.proofs.Climbing.{same_itself}
 use Rattle.hx_model.proofs.Objects.{same_kind}
 use Rattle.hx_model.proofs.Parents.{is_in_filter}
 use Rattle.hx_model.proofs.Walking.{names_have}
-use Rattle.hx_marks.specs.Law.{is_sent, listed_in, sent_from, key_for, all_of, live_below, in_one, all_sent, sent_marks, moved_by, move_marks, object_written, marks_of, leaving_keys, hierarchy_reports}
+use Rattle.hx_marks.specs.Law.{is_sent, listed_in, sent_from, key_for, all_of, live_below, in_one, all_sent, sent_marks, moved_by, move_marks, object_written, leaving_keys, hierarchy_reports}
 use Rattle.hx_marks.proofs.Among.{same_key_is, among_flat_map, among_map, any_filter, found_object, passing_object, found_name, found_kind}
 use Rattle.hx_marks.proofs.MoveLaw.{hierarchy_among}
 use Rattle.hx_marks.proofs.MoveReports.{placed_known}
+use Rattle.hx_marks.proofs.Parts.{marks_beside}
 use Rattle.hx_marks.proofs.Wanting.{any_flat_map}
 use Rattle.hx_marks.proofs.Within.{all_keys, leaving_key}
 
@@ -109,7 +110,7 @@ told_key s t k n h =
     ap (is_key s) found.1 ∙ or_left (is_there (forest_of s) found.0) (has_named s.objects SubnamespaceAnchor found.0) found.2
 
 -- what is marked may be marked
-pub within_moves : (s : State) (write : Write) → IsValid s → MayWriteAll s (write ∷ []) → is_hierarchy (id_written write).kind ≡ true → (k : Key) → is_among k (marks_of s write) ≡ true → may_mark s (write ∷ []) k ≡ true
+pub within_moves : (s : State) (write : Write) → IsValid s → MayWriteAll s (write ∷ []) → is_hierarchy (id_written write).kind ≡ true → (k : Key) → is_among k (marks_beside s write) ≡ true → may_mark s (write ∷ []) k ≡ true
 within_moves s write valid may is k marked =
     ap (λ kind. if is_plain kind then touches s (id_written write) k else (is_key s k || is_key (state_after s (write ∷ [])) k)) (hierarchy_kind (id_written write).kind is)
     ∙ or_left (is_key s k) (is_key (state_after s (write ∷ [])) k) (elim (or_cases (moves || leaves) told (sym (hierarchy_among s (state_after s (write ∷ [])) (id_written write) (object_at s.objects (id_written write)) (object_written write) is k) ∙ marked)) [

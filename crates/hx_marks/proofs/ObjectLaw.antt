@@ -35,13 +35,14 @@ use Rattle.hx_model.specs.declared.key.Write.{Write}
 use Rattle.hx_model.proofs.Climbing.{same_itself}
 use Rattle.hx_model.proofs.Conflicting.{tail_chain}
 use Rattle.hx_model.proofs.Objects.{is_same_id}
-use Rattle.hx_marks.specs.Law.{is_ignored, is_sent, open_below, is_any_sent, place_marks, object_marks, is_modes, object_written, marks_of, anchor_marks, leaving_keys}
+use Rattle.hx_marks.specs.Law.{is_ignored, is_sent, open_below, is_any_sent, place_marks, object_marks, is_modes, object_written, anchor_marks, leaving_keys}
 use Rattle.hx_marks.proofs.Among.{same_key_is, same_key_itself, among_map, among_here, among_cond, passing_name, found_name, among_append, out_left, out_right}
 use Rattle.hx_marks.proofs.OpenBelow.{open_is_there, in_own_chain, in_open_below, open_below_has}
 use Rattle.hx_marks.proofs.Frames.{none_in_both, ignored_wants, uncopied_wants, same_tree, same_closed, same_copied, removal_beside}
 use Rattle.hx_marks.proofs.Going.{unsent_stays, going, top_along}
 use Rattle.hx_marks.specs.Reports.{anchored_reports}
 use Rattle.hx_marks.proofs.Leaving.{Leaves, leaves, namespaces_stay, marks_by_kept, child_stays, anchored_stays, leaving_stay, report_stays}
+use Rattle.hx_marks.proofs.Parts.{UsedSame, marks_beside}
 use Rattle.hx_marks.proofs.Within.{leaving_key}
 
 -- ---- what is marked
@@ -129,17 +130,17 @@ module _ (s t : State) (id : Id) (new : Option Object) (left : Leaves s t id new
     ]
   ]
 
-  key_law : (k : Key) → is_among k (object_marks s id (object_at s.objects id) new) ≡ false → is_among k (leaving_keys (forest_of s) id.ns) ≡ false → IsSameFor s t k
-  key_law (key.Copy n kind name) out stays = copy_law n kind name out
-  key_law (key.Tree n) out stays = same_tree s t left.tree found n
-  key_law (key.Report n) out stays = report_stays s t id new left namespace hierarchical other n
-  key_law (key.Child n m) out stays = child_stays s t id new left namespace other n m
-  key_law (key.Anchor n m) out stays = anchored_stays s t id new left namespace other n m
-  key_law (key.Used n name) out stays = none_in_both s t (key.Used n name) refl refl
-  key_law (key.Purge n) out stays = removal_beside s t id namespace left.others left.least (leaving_stay s t id new left) n stays
+  key_law : (k : Key) → is_among k (object_marks s id (object_at s.objects id) new) ≡ false → is_among k (leaving_keys (forest_of s) id.ns) ≡ false → UsedSame s t k → IsSameFor s t k
+  key_law (key.Copy n kind name) out stays used = copy_law n kind name out
+  key_law (key.Tree n) out stays used = same_tree s t left.tree found n
+  key_law (key.Report n) out stays used = report_stays s t id new left namespace hierarchical other n
+  key_law (key.Child n m) out stays used = child_stays s t id new left namespace other n m
+  key_law (key.Anchor n m) out stays used = anchored_stays s t id new left namespace other n m
+  key_law (key.Used n name) out stays used = used n name refl
+  key_law (key.Purge n) out stays used = removal_beside s t id namespace left.others left.least (leaving_stay s t id new left) n stays
 
 pub marks_by_object : (s : State) (write : Write) → is_namespace (id_written write).kind ≡ false → is_hierarchy (id_written write).kind ≡ false → is_modes (id_written write) ≡ false → is_anchor (id_written write).kind ≡ false
-    → marks_of s write ≡ object_marks s (id_written write) (object_at s.objects (id_written write)) (object_written write) ++ leaving_keys (forest_of s) (id_written write).ns
+    → marks_beside s write ≡ object_marks s (id_written write) (object_at s.objects (id_written write)) (object_written write) ++ leaving_keys (forest_of s) (id_written write).ns
 marks_by_object s write namespace hierarchical modes other =
     let marks = object_marks s (id_written write) (object_at s.objects (id_written write)) (object_written write) in
     let leaving = leaving_keys (forest_of s) (id_written write).ns in
@@ -148,13 +149,13 @@ marks_by_object s write namespace hierarchical modes other =
 
 -- a key that isn't marked wants the same before and after the write
 pub object_law : (s : State) (write : Write) → IsValid s → MayWriteAll s (write ∷ []) → is_namespace (id_written write).kind ≡ false → is_hierarchy (id_written write).kind ≡ false → is_modes (id_written write) ≡ false → is_anchor (id_written write).kind ≡ false
-    → (k : Key) → is_among k (marks_of s write) ≡ false → IsSameFor s (state_after s (write ∷ [])) k
-object_law s write valid may namespace hierarchical modes other k out =
+    → (k : Key) → is_among k (marks_beside s write) ≡ false → UsedSame s (state_after s (write ∷ [])) k → IsSameFor s (state_after s (write ∷ [])) k
+object_law s write valid may namespace hierarchical modes other k out used =
     let marks = object_marks s (id_written write) (object_at s.objects (id_written write)) (object_written write) in
     let keys = leaving_keys (forest_of s) (id_written write).ns in
     let none : (is_among k marks || is_among k keys) ≡ false = sym (among_append k marks keys) ∙ ap (is_among k) (sym (marks_by_object s write namespace hierarchical modes other)) ∙ out in
     key_law s (state_after s (write ∷ [])) (id_written write) (object_written write) (leaves s write namespace hierarchical) namespace hierarchical modes other k
-    (out_left (is_among k marks) (is_among k keys) none) (out_right (is_among k marks) (is_among k keys) none)
+    (out_left (is_among k marks) (is_among k keys) none) (out_right (is_among k marks) (is_among k keys) none) used
 
 -- ---- and nothing else is marked
 
@@ -202,7 +203,7 @@ leaving_within s id k h = (
 
 -- a key that is marked is one that the write may make wait
 pub within_objects : (s : State) (write : Write) → IsValid s → MayWriteAll s (write ∷ []) → is_namespace (id_written write).kind ≡ false → is_hierarchy (id_written write).kind ≡ false → is_modes (id_written write) ≡ false → is_anchor (id_written write).kind ≡ false
-    → (k : Key) → is_among k (marks_of s write) ≡ true → may_mark s (write ∷ []) k ≡ true
+    → (k : Key) → is_among k (marks_beside s write) ≡ true → may_mark s (write ∷ []) k ≡ true
 within_objects s write valid may namespace hierarchical modes other k h =
     let id = id_written write in
     let marks = object_marks s id (object_at s.objects id) (object_written write) in

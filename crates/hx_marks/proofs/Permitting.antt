@@ -25,7 +25,7 @@ use Rattle.hx_model.specs.State.{State, Objects, object_at, same_id, namespace_i
 use Rattle.hx_model.specs.Subnamespaces.{anchor_id}
 use Rattle.hx_model.specs.Tree.{forest_of, is_terminating}
 use Rattle.hx_model.specs.Valid.{IsValid}
-use Rattle.hx_model.specs.Wanted.{wanted_write, labelled, subnamespace, with_status_of, anchor_status, next_to_go}
+use Rattle.hx_model.specs.Wanted.{wanted_write, labelled, subnamespace, with_status_of, anchor_status, quota_id, sums_of, with_sums, next_to_go}
 use Rattle.hx_model.specs.Writes.{id_written, MayPut, MayCut, MayWrite, MayWriteAll, AreApart, HasPlace, changes_names}
 use Rattle.hx_model.specs.declared.key.Key.{Key}
 use Rattle.hx_model.specs.declared.key.Key.TheVariants as key
@@ -35,7 +35,7 @@ use Rattle.hx_model.proofs.Legality.{legal_with_version}
 use Rattle.hx_model.proofs.Objects.{found_id, id_total, is_same_id, same_from_Equal, none_below}
 use Rattle.hx_model.proofs.Storing.{All-found}
 use Rattle.hx_marks.proofs.Frames.{least_lies}
-use Rattle.hx_marks.proofs.Making.{IsCopyOrCut, in_mode_is, IsCopyWrite, copy_write_known, IsTreeWrite, tree_write_known, IsChildWrite, child_write_known, IsStatusWrite, status_write_known, IsRemovalWrite, removal_write_known}
+use Rattle.hx_marks.proofs.Making.{IsCopyOrCut, in_mode_is, IsCopyWrite, copy_write_known, IsTreeWrite, tree_write_known, IsChildWrite, child_write_known, IsStatusWrite, status_write_known, IsUsedWrite, used_write_known, IsRemovalWrite, removal_write_known}
 use Rattle.hx_marks.proofs.Replacing.{copied_leaf, leaving_found}
 use Rattle.hx_marks.proofs.ReportWrites.{IsReportWrite, report_write_known}
 
@@ -184,6 +184,20 @@ module _ (s : State) (write : Write) (fits : s.last < greatest_version) (served 
       } in
       subst (λ (w : Write). MayWrite s (versioned (s.last + 1) w)) (sym known.puts) may
 
+  -- so is a quota's
+  used_may : IsValid s → (n m : List ℕ) → IsUsedWrite s n m write → MayWrite s (versioned (s.last + 1) write)
+  used_may valid n m known =
+      let x = known.quota in
+      let y = with_sums (sums_of s n (Some x)) x in
+      let id : quota_id n m ≡ x.id = found_id s.objects (quota_id n m) x known.there in
+      let may : MayPut s (with_version y (s.last + 1)) = record {
+        served = served_with_version y (s.last + 1) (served y known.puts);
+        next = refl;
+        home = All-found (λ (z : Object). has_home s.objects z.id ≡ true) (quota_id n m) x s.objects valid.housed known.there;
+        place = λ one. absurd (true≢false (sym one ∙ ap (λ (q : Id). is_namespace q.kind) (sym id)));
+      } in
+      subst (λ (w : Write). MayWrite s (versioned (s.last + 1) w)) (sym known.puts) may
+
   -- what is first in a namespace that is on its way out goes, and then the namespace
   removal_may : IsValid s → (n : List ℕ) → IsRemovalWrite s n write → MayWrite s (versioned (s.last + 1) write)
   removal_may valid n known = by (least_in s.objects n) refl
@@ -214,5 +228,5 @@ wanted_may_be_written s (key.Tree m) write valid fits wants served = one_write s
 wanted_may_be_written s (key.Report m) write valid fits wants served = one_write s (versioned (s.last + 1) write) fits (report_may s write fits served m (report_write_known s m write valid wants))
 wanted_may_be_written s (key.Child m name) write valid fits wants served = one_write s (versioned (s.last + 1) write) fits (child_may s write fits served m name (child_write_known s m name write wants))
 wanted_may_be_written s (key.Anchor m name) write valid fits wants served = one_write s (versioned (s.last + 1) write) fits (status_may s write fits served valid m name (status_write_known s m name write wants))
-wanted_may_be_written s (key.Used m name) write valid fits wants served = absurd (true≢false (sym (ap is_some wants)))
+wanted_may_be_written s (key.Used m name) write valid fits wants served = one_write s (versioned (s.last + 1) write) fits (used_may s write fits served valid m name (used_write_known s m name write wants))
 wanted_may_be_written s (key.Purge m) write valid fits wants served = one_write s (versioned (s.last + 1) write) fits (removal_may s write fits served valid m (removal_write_known s m write wants))

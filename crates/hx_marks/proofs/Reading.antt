@@ -30,6 +30,7 @@ use Rattle.hx_model.proofs.Walking.{no_parent}
 use Rattle.hx_marks.specs.Before.{hierarchy_marks, hierarchy_reports_by, inner_marks_by, marks_before, marks_before_among, marks_by_kind, namespace_marks_by, namespace_reports_by, opens_under, report_marks_by}
 use Rattle.hx_marks.specs.Law.{anchor_marks, created_marks, ends_following, following_marks, hierarchy_reports, inner_marks, is_modes, leaving_keys, mode_marks, marks_among, marks_by, marks_of, move_marks, moved_by, namespace_marks, namespace_reports, object_marks, object_written, report_marks}
 use Rattle.hx_marks.specs.Reports.{anchored_reports, created_reports, placed_reports, report_keys}
+use Rattle.hx_marks.specs.Usage.{usage_marks}
 use Rattle.hx_marks.proofs.TakingPart.{opens_after}
 
 all_served : (last : ℕ) (objects : Objects) → AllByRecursion (IsStored last) objects → AllByRecursion IsServed objects
@@ -196,7 +197,7 @@ module _ (s : State) (valid : IsValid s) where
       ] refl
 
   pub marks_read : (write : Write) → MayWrite s write → marks_of s write ≡ marks_before s write
-  marks_read write may = λ i. kinds_read write may i ++ reports_read write may i
+  marks_read write may = λ i. kinds_read write may i ++ (reports_read write may i ++ usage_marks s (id_written write) (old_at write) (object_written write))
 
   pub all_read : (names : List (List ℕ)) (writes : List Write) → AllByRecursion (MayWrite s) writes → flat_map (marks_among s names) writes ≡ flat_map (marks_before_among s names) writes
   all_read names [] may = refl

@@ -32,14 +32,15 @@ use Rattle.hx_model.proofs.Objects.{id_total, is_same_id, same_from_Equal, found
 use Rattle.hx_model.proofs.Opening.{not_live}
 use Rattle.hx_model.proofs.Planting.{namespace_is_homed, node_of-objects}
 use Rattle.hx_model.proofs.Storing.{All-cut, All-found}
-use Rattle.hx_marks.specs.Law.{asking_keys, removed_marks, marks_by, marks_of, namespace_marks, namespace_reports, report_marks}
+use Rattle.hx_marks.specs.Law.{asking_keys, removed_marks, marks_by, namespace_marks, namespace_reports, report_marks}
 use Rattle.hx_marks.specs.Reports.{removed_reports}
 use Rattle.hx_marks.proofs.Among.{among_append, among_here, out_left, out_right}
 use Rattle.hx_marks.proofs.Asking.{asking_known, anchor_key, child_of_anchor, status_of_anchor}
 use Rattle.hx_marks.proofs.CreatedChains.{made_not_open}
-use Rattle.hx_marks.proofs.Frames.{none_in_both, cut_least}
+use Rattle.hx_marks.proofs.Frames.{cut_least}
 use Rattle.hx_marks.proofs.Keeping.{turned, closed_copy, closed_labels, closed_children, without_child, without_status, waiting_both}
 use Rattle.hx_marks.proofs.OneMore.{HasOneMore, one_more, lies_nowhere, keeps_cut, apart_copy, apart_tree, apart_child, apart_status, apart_purge, unasked}
+use Rattle.hx_marks.proofs.Parts.{UsedSame, marks_beside}
 use Rattle.hx_marks.proofs.RemovedReports.{report_gone, gone_within}
 use Rattle.hx_marks.proofs.Replacing.{valid_served}
 use Rattle.hx_marks.proofs.TakingPart.{open_under}
@@ -109,32 +110,32 @@ module _ (s : State) (id : Id) (valid : IsValid s) (may : MayCut s id) (is : is_
   abbrev reports : List Key
   reports = removed_reports f n
 
-  by_removed : (k : Key) → is_among k (removed_marks s n) ≡ false → is_among k reports ≡ false → IsSameFor s t k
-  by_removed (key.Copy m kind name) out untouched = elim (cases_Bool (in_chain f m n)) [
+  by_removed : (k : Key) → is_among k (removed_marks s n) ≡ false → is_among k reports ≡ false → UsedSame s t k → IsSameFor s t k
+  by_removed (key.Copy m kind name) out untouched used = elim (cases_Bool (in_chain f m n)) [
     | inl has ↦ closed_copy s t m kind name (shut m has) (shut_then m has)
     | inr hasnt ↦ turned t s (key.Copy m kind name) (apart_copy t s n more m kind name hasnt)
   ]
-  by_removed (key.Tree m) out untouched = elim (cases_Bool (in_chain f m n)) [
+  by_removed (key.Tree m) out untouched used = elim (cases_Bool (in_chain f m n)) [
     | inl has ↦ closed_labels s t m (shut m has) (shut_then m has)
     | inr hasnt ↦ turned t s (key.Tree m) (apart_tree t s n more m hasnt)
   ]
-  by_removed (key.Report m) out untouched = report_gone s t n more dead m untouched
-  by_removed (key.Child m name) out untouched = elim (cases_Bool (in_chain f m n)) [
+  by_removed (key.Report m) out untouched used = report_gone s t n more dead m untouched
+  by_removed (key.Child m name) out untouched used = elim (cases_Bool (in_chain f m n)) [
     | inl has ↦ closed_children s t m name (shut m has) (shut_then m has)
     | inr hasnt ↦ elim (cases_Bool (bytes_eq n name)) [
       | inl same ↦ let none = unasked s.objects n m name (key.Child m name) (child_of_anchor m name) (out_right (same_key (key.Child m name) (key.Purge n)) _ out) same in without_child s t m name none (sym (other_kind (anchor_id m name) refl) ∙ none)
       | inr off ↦ turned t s (key.Child m name) (apart_child t s n more m name hasnt off)
     ]
   ]
-  by_removed (key.Anchor m name) out untouched = elim (cases_Bool (bytes_eq n m)) [
+  by_removed (key.Anchor m name) out untouched used = elim (cases_Bool (bytes_eq n m)) [
     | inl here ↦ subst (λ (q : List ℕ). IsSameFor s t (key.Anchor q name)) (is_same n m here) (waiting_both s t n name dead missing)
     | inr off ↦ elim (cases_Bool (bytes_eq n name)) [
       | inl same ↦ let none = unasked s.objects n m name (key.Anchor m name) (status_of_anchor m name) (out_right (same_key (key.Anchor m name) (key.Purge n)) _ out) same in without_status s t m name none (sym (other_kind (anchor_id m name) refl) ∙ none)
       | inr other ↦ turned t s (key.Anchor m name) (apart_status t s n more m name off other)
     ]
   ]
-  by_removed (key.Used m name) out untouched = none_in_both s t (key.Used m name) refl refl
-  by_removed (key.Purge m) out untouched = elim (cases_Bool (bytes_eq n m)) [
+  by_removed (key.Used m name) out untouched used = used m name refl
+  by_removed (key.Purge m) out untouched used = elim (cases_Bool (bytes_eq n m)) [
     | inl here ↦ absurd (true≢false (sym (subst (λ (q : List ℕ). is_among (key.Purge q) (removed_marks s n) ≡ true) (is_same n m here) (among_here (key.Purge n) (asking_keys s.objects n))) ∙ out))
     | inr off ↦ turned t s (key.Purge m) (apart_purge t s n more m off)
   ]
@@ -144,7 +145,7 @@ module _ (s : State) (id : Id) (valid : IsValid s) (may : MayCut s id) (is : is_
   taken false u v e = absurd (true≢false (sym e))
 
   -- what is marked
-  marks_are : marks_of s (Cut id) ≡ removed_marks s n ++ reports
+  marks_are : marks_beside s (Cut id) ≡ removed_marks s n ++ reports
   marks_are = λ i. keys i ++ told i
     where
       keys : marks_by s t id (object_at s.objects id) None ≡ removed_marks s n
@@ -165,22 +166,22 @@ module _ (s : State) (id : Id) (valid : IsValid s) (may : MayCut s id) (is : is_
     | inr told ↦ gone_within s n k told
   ]
 
-  removed_within : (k : Key) → is_among k (marks_of s (Cut id)) ≡ true → may_mark s (Cut id ∷ []) k ≡ true
+  removed_within : (k : Key) → is_among k (marks_beside s (Cut id)) ≡ true → may_mark s (Cut id ∷ []) k ≡ true
   removed_within k mem = not_plain (is_plain id.kind) (touches s id k) (ap is_plain (namespace_kind id.kind is)) (or_left (is_key s k) (is_key t k) (all_keys k (ap (is_among k) (sym marks_are) ∙ mem)))
     where
       not_plain : (b u : Bool) {v : Bool} → b ≡ false → v ≡ true → (if b then u else v) ≡ true
       not_plain true u e h = absurd (true≢false e)
       not_plain false u e h = h
 
-  cut_law : (k : Key) → is_among k (marks_of s (Cut id)) ≡ false → IsSameFor s t k
-  cut_law k out =
+  cut_law : (k : Key) → is_among k (marks_beside s (Cut id)) ≡ false → UsedSame s t k → IsSameFor s t k
+  cut_law k out used =
       let none = sym (among_append k (removed_marks s n) reports) ∙ ap (is_among k) (sym marks_are) ∙ out in
-      by_removed k (out_left (is_among k (removed_marks s n)) (is_among k reports) none) (out_right (is_among k (removed_marks s n)) (is_among k reports) none)
+      by_removed k (out_left (is_among k (removed_marks s n)) (is_among k reports) none) (out_right (is_among k (removed_marks s n)) (is_among k reports) none) used
 
 -- a namespace that goes: a key that isn't marked wants what it wanted
-pub removed_law : (s : State) (id : Id) → IsValid s → MayWriteAll s (Cut id ∷ []) → is_namespace id.kind ≡ true → (k : Key) → is_among k (marks_of s (Cut id)) ≡ false → IsSameFor s (state_after s (Cut id ∷ [])) k
-removed_law s id valid may is k out = cut_law s id valid may.each.0 is k out
+pub removed_law : (s : State) (id : Id) → IsValid s → MayWriteAll s (Cut id ∷ []) → is_namespace id.kind ≡ true → (k : Key) → is_among k (marks_beside s (Cut id)) ≡ false → UsedSame s (state_after s (Cut id ∷ [])) k → IsSameFor s (state_after s (Cut id ∷ [])) k
+removed_law s id valid may is k out used = cut_law s id valid may.each.0 is k out used
 
 -- and only keys of the state are marked
-pub within_removed : (s : State) (id : Id) → IsValid s → MayWriteAll s (Cut id ∷ []) → is_namespace id.kind ≡ true → (k : Key) → is_among k (marks_of s (Cut id)) ≡ true → may_mark s (Cut id ∷ []) k ≡ true
+pub within_removed : (s : State) (id : Id) → IsValid s → MayWriteAll s (Cut id ∷ []) → is_namespace id.kind ≡ true → (k : Key) → is_among k (marks_beside s (Cut id)) ≡ true → may_mark s (Cut id ∷ []) k ≡ true
 within_removed s id valid may is k mem = removed_within s id valid may.each.0 is k mem

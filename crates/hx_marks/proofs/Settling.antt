@@ -2,20 +2,26 @@
 --     same_object-Decides           the test of two objects tells whether they are equal
 --     placed_stands, stands_placed  nothing is put where the object stands;  and only there
 --     settled_exactly, nothing_wanted
-use Rattle.std.proofs.Common.{◌≡◌, ℕ, Bool, true, false, not, ◌&&◌, Option, Some, None, List, [], ◌∷◌, refl, sym, ap, ◌∙◌, true≢false}
+use Rattle.std.proofs.Common.{◌≡◌, ℕ, Bool, true, false, not, ◌&&◌, Option, Some, None, List, [], ◌∷◌, map, refl, sym, ap, ◌∙◌, subst, true≢false}
 use Rattle.std.specs.Prelude.{is_some}
 use Rattle.std.specs.Bool.{Decides}
 use Rattle.std.proofs.lemmas.Bool.{and_parts, not-true}
-use Rattle.hx_object.specs.Kinds.{can_be_copied}
+use Rattle.hx_object.specs.Kinds.{can_be_copied, is_quota}
+use Rattle.hx_object.specs.Faults.{IsPayloadOf}
 use Rattle.hx_object.specs.declared.kind.Kind.{Kind}
+use Rattle.hx_object.specs.declared.kind.Kind.TheVariants.{HierarchicalResourceQuota}
 use Rattle.hx_object.specs.declared.object.Condition.{Condition}
+use Rattle.hx_object.specs.declared.object.Id.{Id}
+use Rattle.hx_object.specs.declared.object.Limit.{Limit}
 use Rattle.hx_object.specs.declared.object.Mode.{Mode}
 use Rattle.hx_object.specs.declared.object.Mode.TheVariants.{Propagate, AllowPropagate, Remove, Ignore}
 use Rattle.hx_object.specs.declared.object.Object.{Object}
-use Rattle.hx_object.specs.declared.object.Payload.TheVariants.{Hierarchy}
+use Rattle.hx_object.specs.declared.object.Payload.{Payload}
+use Rattle.hx_object.specs.declared.object.Payload.TheVariants.{Namespace as NamespaceOf, Config, Hierarchy, Anchor, Quota, Plain}
 use Rattle.hx_object.proofs.Sameness.{same_object_from}
 use Rattle.hx_model.specs.Answers.{same_object}
 use Rattle.hx_model.specs.Cases.{is_leaving}
+use Rattle.hx_model.specs.Charges.{hard_of}
 use Rattle.hx_model.specs.First.{so}
 use Rattle.hx_model.specs.Forest.{chain_of, children_of, is_excluded, is_in, is_live}
 use Rattle.hx_model.specs.Limits.{is_copy}
@@ -23,13 +29,13 @@ use Rattle.hx_model.specs.Modes.{mode_of}
 use Rattle.hx_model.specs.Propagation.{copy_of, id_in, sources_above, top_source}
 use Rattle.hx_model.specs.Moves.{is_calm}
 use Rattle.hx_model.specs.Reports.{bare_report, conditions_of, is_telling, report_write, with_report}
-use Rattle.hx_model.specs.Settled.{HasNoCopy, HasCopyOf, IsKeptIn, IsSettled, TellsExactly}
+use Rattle.hx_model.specs.Settled.{HasNoCopy, HasCopyOf, HasUsages, IsKeptIn, IsSettled, TellsExactly}
 use Rattle.hx_model.specs.State.{State, object_at, namespace_id, with_version, has_home}
 use Rattle.hx_model.specs.Subnamespaces.{allows_cascade, anchor_id}
 use Rattle.hx_model.specs.Tree.{forest_of, hierarchy_id, is_terminating, spec_parent}
 use Rattle.hx_model.specs.TreeLabels.{is_open}
-use Rattle.hx_model.specs.Valid.{IsValid}
-use Rattle.hx_model.specs.Wanted.{placed, without_copy, copied, copied_in, copy_write, wanted_copy, labelled, tree_write, wanted_tree, wanted_write, child_write, wanted_child, subnamespace, with_status_of, anchor_status, anchor_write, wanted_anchor, wanted_report, next_to_go, least_id, purge_write, wanted_purge}
+use Rattle.hx_model.specs.Valid.{IsStored, IsValid}
+use Rattle.hx_model.specs.Wanted.{placed, without_copy, copied, copied_in, copy_write, wanted_copy, labelled, tree_write, wanted_tree, wanted_write, child_write, wanted_child, subnamespace, with_status_of, anchor_status, anchor_write, wanted_anchor, wanted_report, quota_id, usages, used_of, sums_of, with_usages, with_sums, used_write, wanted_used, next_to_go, least_id, purge_write, wanted_purge}
 use Rattle.hx_model.specs.declared.key.Key.{Key}
 use Rattle.hx_model.specs.declared.key.Key.TheVariants as key
 use Rattle.hx_model.specs.declared.key.Write.{Write}
@@ -119,6 +125,27 @@ from_tells (Some x) children conditions n told =
     told.2 ∙ sym (λ i. Hierarchy (spec_parent (told.2 i)) (allows_cascade (told.2 i)) children conditions) in
     stands_placed (with_report children conditions x) x (λ i. record x { payload = tells i; version = 0 })
 
+-- ---- usage
+
+module _ (s : State) (n : List ℕ) where
+  -- where a payload of a quota stands with what is used, it tells that
+  tells_used : (payload : Payload) → IsPayloadOf HierarchicalResourceQuota payload → payload ≡ with_usages (map (used_of s n) (hard_of payload)) payload → (hard : List Limit) × (payload ≡ Quota hard (usages hard (map (used_of s n) hard)))
+  tells_used (Quota hard status) of e = (hard, e)
+  tells_used (NamespaceOf terminating) of e = absurd (true≢false (ap is_quota of))
+  tells_used (Config entries) of e = absurd (true≢false (ap is_quota of))
+  tells_used (Hierarchy parent cascade children conditions) of e = absurd (true≢false (ap is_quota of.0))
+  tells_used (Anchor status) of e = absurd (true≢false (ap is_quota of))
+  tells_used (Plain members need) of e = absurd (true≢false (sym of.0))
+
+  -- and one that tells it stands
+  stands_used : (x : Object) → HasUsages s n x → with_version x 0 ≡ with_sums (sums_of s n (Some x)) x
+  stands_used x (hard, told) =
+      let same : x.payload ≡ with_usages (map (used_of s n) (hard_of x.payload)) x.payload = told ∙ sym (ap (λ payload. with_usages (map (used_of s n) (hard_of payload)) payload) told) in
+      λ i. record x { payload = same i; version = 0 }
+
+  used_wanted : (name : List ℕ) (x : Object) → object_at s.objects (quota_id n name) ≡ Some x → is_live (forest_of s) n ≡ true → wanted_used s n name ≡ placed (with_sums (sums_of s n (Some x)) x) (Some x)
+  used_wanted name x at lives i = used_write (lives i) (sums_of s n (at i)) (at i)
+
 -- ---- states
 
 -- what a namespace that takes part wants
@@ -137,12 +164,13 @@ stays_from s valid n x none at = by (is_terminating x.payload) (leaving_is s val
     by false is = refl
     by true is = absurd (none_some (Cut (next_to_go (least_id s n) n)) (sym (ap (λ b. purge_write b (least_id s n) n) is) ∙ none))
 
--- the namespace of an anchor is there, and so it isn't on its way out
-anchor_live : (s : State) → IsValid s → ((n : List ℕ) (x : Object) → object_at s.objects (namespace_id n) ≡ Some x → is_terminating x.payload ≡ false) → (n m : List ℕ) (x : Object) → object_at s.objects (anchor_id n m) ≡ Some x → is_live (forest_of s) n ≡ true
-anchor_live s valid none_leaving n m x at = by (object_at s.objects (namespace_id n)) refl home
+-- the namespace of what is found in one is there, and so it isn't on its way out
+home_live : (s : State) → IsValid s → ((n : List ℕ) (x : Object) → object_at s.objects (namespace_id n) ≡ Some x → is_terminating x.payload ≡ false)
+    → (n : List ℕ) (q : Id) → has_home s.objects q ≡ is_some (object_at s.objects (namespace_id n)) → (x : Object) → object_at s.objects q ≡ Some x → is_live (forest_of s) n ≡ true
+home_live s valid none_leaving n q lies x at = by (object_at s.objects (namespace_id n)) refl home
   where
     home : is_some (object_at s.objects (namespace_id n)) ≡ true
-    home = ap (has_home s.objects) (found_id s.objects (anchor_id n m) x at) ∙ All-found (λ (y : Object). has_home s.objects y.id ≡ true) (anchor_id n m) x s.objects valid.housed at
+    home = sym lies ∙ ap (has_home s.objects) (found_id s.objects q x at) ∙ All-found (λ (y : Object). has_home s.objects y.id ≡ true) q x s.objects valid.housed at
 
     by : (o : Option Object) → object_at s.objects (namespace_id n) ≡ o → is_some o ≡ true → is_live (forest_of s) n ≡ true
     by None absent there = absurd (true≢false (sym there))
@@ -168,7 +196,7 @@ settled_exactly s valid none = record {
   children = λ n m x at. child_from (is_open (forest_of s) n) (is_in m s.config.excluded) (is_some (object_at s.objects (namespace_id m))) (object_at s.objects (anchor_id n m)) n m x at (none (key.Child n m));
   statuses = λ n m x at.
       let written : anchor_write (is_live (forest_of s) n) (anchor_status s n m) (object_at s.objects (anchor_id n m)) ≡ placed (with_status_of (anchor_status s n m) x) (Some x) =
-      (λ i. anchor_write (anchor_live s valid staying n m x at i) (anchor_status s n m) (at i)) in
+      (λ i. anchor_write (home_live s valid staying n (anchor_id n m) refl x at i) (anchor_status s n m) (at i)) in
       let stands = placed_stands (with_status_of (anchor_status s n m) x) (Some x) (sym written ∙ none (key.Anchor n m)) in
       let same : x ≡ stands.0 = let e = stands.1 in cc in
       ap (λ (o : Object). o.payload) same ∙ ap (λ (o : Object). o.payload) stands.2;
@@ -177,6 +205,12 @@ settled_exactly s valid none = record {
       let conditions = conditions_of s n in
       let calm : is_calm (forest_of s) n ≡ true = λ i. (live_is s valid n x at ∙ ap not (staying n x at)) i && not (included i) in
       tells_from (object_at s.objects (hierarchy_id n)) children conditions n (sym (ap (λ b. report_write b (object_at s.objects (hierarchy_id n)) children conditions n) calm) ∙ none (key.Report n));
+  usages = λ n m x at.
+      let stands = placed_stands (with_sums (sums_of s n (Some x)) x) (Some x) (sym (used_wanted s n m x at (home_live s valid staying n (quota_id n m) refl x at)) ∙ none (key.Used n m)) in
+      let same : x ≡ stands.0 = let e = stands.1 in cc in
+      let quota : IsPayloadOf HierarchicalResourceQuota x.payload =
+      subst (λ (q : Id). IsPayloadOf q.kind x.payload) (sym (found_id s.objects (quota_id n m) x at)) (All-found (IsStored s.last) (quota_id n m) x s.objects valid.stored at).served.legal.payload in
+      tells_used s n x.payload quota (ap (λ (o : Object). o.payload) same ∙ ap (λ (o : Object). o.payload) stands.2);
 }
   where
     staying : (n : List ℕ) (x : Object) → object_at s.objects (namespace_id n) ≡ Some x → is_terminating x.payload ≡ false
@@ -249,7 +283,12 @@ nothing_wanted s valid settled (key.Anchor n m) = by (is_live (forest_of s) n) (
     by true (Some x) is at =
         (λ i. anchor_write (is i) (anchor_status s n m) (at i))
         ∙ stands_placed (with_status_of (anchor_status s n m) x) x (λ i. record x { payload = settled.statuses n m x at i; version = 0 })
-nothing_wanted s valid settled (key.Used n name) = refl
+nothing_wanted s valid settled (key.Used n name) = by (is_live (forest_of s) n) (object_at s.objects (quota_id n name)) refl refl
+  where
+    by : (live : Bool) (found : Option Object) → is_live (forest_of s) n ≡ live → object_at s.objects (quota_id n name) ≡ found → wanted_used s n name ≡ None
+    by live None is at = λ i. used_write (is_live (forest_of s) n) (sums_of s n (at i)) (at i)
+    by false (Some x) is at = λ i. used_write (is i) (sums_of s n (at i)) (at i)
+    by true (Some x) is at = used_wanted s n name x at is ∙ stands_placed (with_sums (sums_of s n (Some x)) x) x (stands_used s n x (settled.usages n name x at))
 nothing_wanted s valid settled (key.Purge n) = by (is_leaving (forest_of s) n) refl
   where
     by : (leaves : Bool) → is_leaving (forest_of s) n ≡ leaves → wanted_purge s n ≡ None

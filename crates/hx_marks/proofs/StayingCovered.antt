@@ -22,7 +22,7 @@ use Rattle.hx_model.specs.Propagation.{id_in}
 use Rattle.hx_model.specs.State.{State, object_at, namespace_id, same_id, least_in}
 use Rattle.hx_model.specs.Subnamespaces.{anchor_id}
 use Rattle.hx_model.specs.Tree.{forest_of, hierarchy_id}
-use Rattle.hx_model.specs.Wanted.{wanted_write, guards_of, purge_guards, purge_write, least_id}
+use Rattle.hx_model.specs.Wanted.{quota_id, wanted_write, guards_of, purge_guards, purge_write, least_id}
 use Rattle.hx_model.specs.declared.key.Guard.{Guard}
 use Rattle.hx_model.specs.declared.key.Key.{Key}
 use Rattle.hx_model.specs.declared.key.Key.TheVariants as key
@@ -49,8 +49,8 @@ ids_for (key.Tree n) write = namespace_id n ∷ []
 ids_for (key.Report n) write = hierarchy_id n ∷ namespace_id n ∷ []
 ids_for (key.Child n name) write = anchor_id n name ∷ namespace_id n ∷ namespace_id name ∷ []
 ids_for (key.Anchor n name) write = anchor_id n name ∷ namespace_id n ∷ []
+ids_for (key.Used n name) write = quota_id n name ∷ namespace_id n ∷ []
 ids_for (key.Purge n) write = ids_gone n write
-ids_for _ write = []
 
 -- a hand that has a write rests on the identities that its key and the write tell
 abbrev pub HasItsGuards : Hand → Type 0
@@ -100,7 +100,7 @@ telling s (key.Tree n) = (refl, tt)
 telling s (key.Report n) = (refl, (refl, tt))
 telling s (key.Child n name) = (refl, (refl, (refl, tt)))
 telling s (key.Anchor n name) = (refl, (refl, tt))
-telling s (key.Used n name) = tt
+telling s (key.Used n name) = (refl, (refl, tt))
 telling s (key.Purge n) = by (least_id s n)
   where
     by : (o : Option Id) → Tells s (purge_guards s o n)

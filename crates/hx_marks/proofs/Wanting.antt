@@ -3,6 +3,7 @@
 --     wants_known                a place of copies that wants a write is among those that may
 --     wants_copied               and its kind can be copied
 --     child_among, status_among  the keys of an anchor that is there are among those of its namespace
+--     usage_among                so is the key of a quota
 --     all_tree, all_wants, all_children, all_parts   the parts of all that a namespace may want that takes part
 --     all_known                  a key that wants a write is among those of its namespace
 use Rattle.std.proofs.Common.{◌≡◌, ◌≢◌, ℕ, Bool, true, false, cond, not, ◌&&◌, ◌||◌, Option, Some, None, List, [], ◌∷◌, ◌++◌, map, filter, flat_map, ◌⊎◌, inl, inr, refl, sym, ap, ◌∙◌, subst, true≢false, eqb, eq-eqb}
@@ -14,7 +15,7 @@ use Rattle.std.proofs.lemmas.List.Folds.{list_any-append}
 use Rattle.std.proofs.lemmas.Slice.Eq.{bytes_eq-Decides}
 use Rattle.hx_object.specs.Kinds.{number_of, can_be_copied}
 use Rattle.hx_object.specs.declared.kind.Kind.{Kind}
-use Rattle.hx_object.specs.declared.kind.Kind.TheVariants.{SubnamespaceAnchor}
+use Rattle.hx_object.specs.declared.kind.Kind.TheVariants.{HierarchicalResourceQuota, SubnamespaceAnchor}
 use Rattle.hx_object.specs.declared.object.AnchorStatus.{AnchorStatus}
 use Rattle.hx_object.specs.declared.object.Condition.{Condition}
 use Rattle.hx_object.specs.declared.object.Id.{Id}
@@ -35,12 +36,13 @@ use Rattle.hx_model.specs.State.{State, Objects, object_at, namespace_id}
 use Rattle.hx_model.specs.Subnamespaces.{anchor_id}
 use Rattle.hx_model.specs.Tree.{forest_of, hierarchy_id}
 use Rattle.hx_model.specs.TreeLabels.{is_open}
-use Rattle.hx_model.specs.Wanted.{copy_write, copied, copied_in, without_copy, tree_write, child_write, anchor_status, anchor_write, least_id, purge_write, wanted_write}
+use Rattle.hx_model.specs.Wanted.{copy_write, copied, copied_in, without_copy, tree_write, child_write, anchor_status, anchor_write, quota_id, sums_of, used_write, least_id, purge_write, wanted_write}
 use Rattle.hx_model.specs.declared.key.Key.{Key}
 use Rattle.hx_model.specs.declared.key.Key.TheVariants as key
 use Rattle.hx_model.specs.declared.key.Write.TheVariants.{Cut}
 use Rattle.hx_model.proofs.Objects.{found_id}
 use Rattle.hx_marks.proofs.Among.{same_key_itself, among_here, among_append, among_map, among_flat_map, any_filter, passing_object, passing_name, passing_kind}
+use Rattle.hx_marks.specs.Usage.{usage_key, usage_keys}
 use Rattle.hx_marks.specs.Law.{is_ignored, is_sent, listed_in, sent_from, key_for, wants_of_kind, wants_of, child_keys, status_keys, all_of}
 
 pub any_flat_map : {A B : Type 0} (t : B → Bool) (f : A → List B) (xs : List A) → list_any t (flat_map f xs) ≡ list_any (λ x. list_any t (f x)) xs
@@ -214,6 +216,14 @@ module _ (objects : Objects) (m name : List ℕ) (x : Object) (at : object_at ob
   pub status_among : is_among (key.Anchor m name) (status_keys objects m) ≡ true
   status_among = among_map (key.Anchor m name) (λ (y : Object). key.Anchor m y.id.name) (listed_in objects SubnamespaceAnchor m) ∙ named_among (key.Anchor m)
 
+-- ---- keys of quotas
+
+pub usage_among : (objects : Objects) (m name : List ℕ) (x : Object) → object_at objects (quota_id m name) ≡ Some x → is_among (key.Used m name) (usage_keys objects m) ≡ true
+usage_among objects m name x at =
+    among_map (key.Used m name) usage_key (listed_in objects HierarchicalResourceQuota m)
+    ∙ listed_there (λ (y : Object). same_key (key.Used m name) (usage_key y)) objects HierarchicalResourceQuota m name x at
+    (subst (λ (q : Id). same_key (key.Used m name) (key.Used q.ns q.name) ≡ true) (found_id objects (quota_id m name) x at) (same_key_itself (key.Used m name)))
+
 -- ---- all keys
 
 module _ (objects : Objects) (chain : List (List ℕ)) (m : List ℕ) where
@@ -254,6 +264,12 @@ status_known live status None wants = absurd (wants refl)
 status_known true status (Some x) wants = (refl, x, refl)
 status_known false status (Some x) wants = absurd (wants refl)
 
+-- usages that are wanted: the namespace isn't on its way out, and the quota is there
+pub used_known : (live : Bool) (sums : List ℕ) (quota : Option Object) → used_write live sums quota ≢ None → (live ≡ true) × (x : Object) × (quota ≡ Some x)
+used_known live sums None wants = absurd (wants refl)
+used_known true sums (Some x) wants = (refl, x, refl)
+used_known false sums (Some x) wants = absurd (wants refl)
+
 -- a report that is wanted: its namespace takes reports
 pub report_known : (takes : Bool) (found : Option Object) (children : List (List ℕ)) (conditions : List Condition) (n : List ℕ) → report_write takes found children conditions n ≢ None → takes ≡ true
 report_known true found children conditions n wants = refl
@@ -265,9 +281,10 @@ pub removal_known : (leaves : Bool) (least : Option Id) (n : List ℕ) → purge
 removal_known true least n wants = refl
 removal_known false least n wants = absurd (wants refl)
 
--- a key is among those of its namespace: of one that takes part, of the statuses of one that isn't on its way out, of the report of one that takes reports, or of the removal of one that is on its way out
+-- a key is among those of its namespace: of one that takes part, of the statuses and the quotas of one that isn't on its way out, of the report of one that takes reports, or of the removal of one that is on its way out
 abbrev pub IsKnown : State → Key → Type 0
 IsKnown s (key.Anchor n name) = (is_live (forest_of s) n ≡ true) × (is_among (key.Anchor n name) (status_keys s.objects n) ≡ true)
+IsKnown s (key.Used n name) = (is_live (forest_of s) n ≡ true) × (is_among (key.Used n name) (usage_keys s.objects n) ≡ true)
 IsKnown s (key.Report n) = is_calm (forest_of s) n ≡ true
 IsKnown s (key.Purge n) = is_leaving (forest_of s) n ≡ true
 IsKnown s k = (m : List ℕ) × (is_open (forest_of s) m ≡ true) × (is_among k (all_of s.objects (chain_of (forest_of s) m) m) ≡ true)
@@ -290,5 +307,7 @@ all_known s (key.Child m name) wants =
 all_known s (key.Anchor m name) wants =
     let known = status_known (is_live (forest_of s) m) (anchor_status s m name) (object_at s.objects (anchor_id m name)) wants in
     (known.0, status_among s.objects m name known.1 known.2)
-all_known s (key.Used m name) wants = absurd (wants refl)
+all_known s (key.Used m name) wants =
+    let known = used_known (is_live (forest_of s) m) (sums_of s m (object_at s.objects (quota_id m name))) (object_at s.objects (quota_id m name)) wants in
+    (known.0, usage_among s.objects m name known.1 known.2)
 all_known s (key.Purge m) wants = removal_known (is_leaving (forest_of s) m) (least_id s m) m wants

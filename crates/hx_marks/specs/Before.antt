@@ -23,6 +23,7 @@ use Rattle.hx_model.specs.declared.key.Key.{Key}
 use Rattle.hx_model.specs.declared.key.Write.{Write}
 use Rattle.hx_store.specs.Kept.{StoreView}
 use Rattle.hx_marks.specs.Reports.{ending_reports, removed_reports, created_reports, placed_reports, anchored_reports}
+use Rattle.hx_marks.specs.Usage.{usage_marks}
 use Rattle.hx_marks.specs.Law.{label_marks, ending_marks, created_marks, removed_marks, begins_to_end, moved_by, mode_marks, anchor_marks, object_marks, leaving_keys, is_modes, object_written, ends_following, following_marks}
 
 abbrev pub state_of : StoreView → RunConfig → State
@@ -96,7 +97,7 @@ report_marks_by s id old new =
 -- ---- all
 
 abbrev pub marks_before_by : State → Id → Option Object → Option Object → List Key
-marks_before_by s id old new = marks_by_kind s id old new ++ report_marks_by s id old new
+marks_before_by s id old new = marks_by_kind s id old new ++ (report_marks_by s id old new ++ usage_marks s id old new)
 
 abbrev pub marks_before : State → Write → List Key
 marks_before s write = marks_before_by s (id_written write) (object_at s.objects (id_written write)) (object_written write)

@@ -4,9 +4,10 @@
 --     below_children     what lies below those that name it as their parent, whether it is there or not
 --     below_created      itself, and that
 --     differ             one of two tests holds, and not the other
-use Rattle.std.specs.Prelude.{ℕ, Bool, true, false, not, List, ◌∷◌, filter, flat_map}
+--     apart, in_one      the names that aren't among others;  those of exactly one of two lists
+use Rattle.std.specs.Prelude.{ℕ, Bool, true, false, not, List, ◌∷◌, ◌++◌, filter, flat_map}
 use Rattle.std.specs.List.{list_all}
-use Rattle.hx_model.specs.Forest.{Forest, chain_of, children_of, subtree_of}
+use Rattle.hx_model.specs.Forest.{Forest, is_in, chain_of, children_of, subtree_of}
 use Rattle.hx_model.specs.Moves.{is_calm, up_to}
 use Rattle.hx_model.specs.TreeLabels.{is_open}
 
@@ -30,3 +31,11 @@ below_created f n = n ∷ below_children f n
 abbrev pub differ : Bool → Bool → Bool
 differ true b = not b
 differ false b = b
+
+-- the names that aren't among others
+abbrev pub apart : List (List ℕ) → List (List ℕ) → List (List ℕ)
+apart names others = filter (λ a. not (is_in a others)) names
+
+-- the names of exactly one of two lists
+abbrev pub in_one : List (List ℕ) → List (List ℕ) → List (List ℕ)
+in_one a b = apart a b ++ apart b a

@@ -14,6 +14,7 @@
 --     mode_marks             the modes of kinds change
 --     anchor_marks           an anchor is written or removed
 --     report_marks           the reports that a write changes
+--     usage_marks            the quotas whose usage it changes
 --     object_marks           an object of a kind that can be copied is written or removed
 --     marks_of s write       by what is written
 --     ending_names writes    the namespaces that writes put as on their way out
@@ -50,7 +51,8 @@ use Rattle.hx_model.specs.declared.key.Key.TheVariants as key
 use Rattle.hx_model.specs.declared.key.Write.{Write}
 use Rattle.hx_model.specs.declared.key.Write.TheVariants.{Put, Cut}
 use Rattle.hx_store.specs.Sources.{is_anchor_of}
-pub use Rattle.hx_marks.specs.Below.{open_below, live_below, below_created, differ}
+pub use Rattle.hx_marks.specs.Below.{open_below, live_below, below_created, differ, apart, in_one}
+use Rattle.hx_marks.specs.Usage.{usage_keys, usage_marks}
 use Rattle.hx_marks.specs.Reports.{report_keys, reports_of, ending_reports, removed_reports, created_reports, placed_reports, anchored_reports}
 
 -- ---- what may want a write
@@ -113,7 +115,7 @@ all_of objects chain m = key.Tree m ∷ (wants_of objects chain m ++ child_keys 
 
 -- all keys of a namespace that may want a write
 abbrev pub known_of : Objects → Forest → List ℕ → List Key
-known_of objects f n = (if is_open f n then all_of objects (chain_of f n) n else []) ++ (report_keys f n ++ (status_keys objects n ++ leaving_keys f n))
+known_of objects f n = (if is_open f n then all_of objects (chain_of f n) n else []) ++ (report_keys f n ++ (status_keys objects n ++ (usage_keys objects n ++ leaving_keys f n)))
 
 -- A namespace is replaced: its labels may count, and all its keys rest on its version
 abbrev pub label_marks : State → List ℕ → List Key
@@ -123,7 +125,7 @@ label_marks s n = known_of s.objects (forest_of s) n
 abbrev pub ending_marks : State → List ℕ → List Key
 ending_marks s n =
     flat_map (λ m. all_of s.objects (chain_of (forest_of s) m) m) (open_below (forest_of s) n)
-    ++ (status_keys s.objects n ++ key.Purge n ∷ [])
+    ++ (status_keys s.objects n ++ (usage_keys s.objects n ++ key.Purge n ∷ []))
 
 -- A namespace is made, under this parent: what waited for it below may begin to take part, and anchors may have waited for it
 abbrev pub created_marks : State → List ℕ → Option (List ℕ) → List Key
@@ -134,14 +136,6 @@ created_marks s n parent =
 -- A namespace goes, in which nothing lies: nothing below it has taken part
 abbrev pub removed_marks : State → List ℕ → List Key
 removed_marks s n = key.Purge n ∷ asking_keys s.objects n
-
--- the names that aren't among others
-abbrev pub apart : List (List ℕ) → List (List ℕ) → List (List ℕ)
-apart names others = filter (λ a. not (is_in a others)) names
-
--- the names of exactly one of two chains
-abbrev pub in_one : List (List ℕ) → List (List ℕ) → List (List ℕ)
-in_one a b = apart a b ++ apart b a
 
 -- what is sent by some namespaces, of all kinds
 abbrev pub all_sent : Objects → List (List ℕ) → Objects
@@ -259,7 +253,7 @@ report_marks s t id old new =
 abbrev pub marks_between : State → State → Write → List Key
 marks_between s t write =
     marks_by s t (id_written write) (object_at s.objects (id_written write)) (object_written write)
-    ++ report_marks s t (id_written write) (object_at s.objects (id_written write)) (object_written write)
+    ++ (report_marks s t (id_written write) (object_at s.objects (id_written write)) (object_written write) ++ usage_marks s (id_written write) (object_at s.objects (id_written write)) (object_written write))
 
 abbrev pub marks_of : State → Write → List Key
 marks_of s write = marks_between s (state_after s (write ∷ [])) write
@@ -286,9 +280,9 @@ begins_by old new = option_map_or (λ x. option_map_or (λ before. begins_to_end
 abbrev pub ends_following : Forest → List (List ℕ) → Id → Option Object → Option Object → Bool
 ends_following f names id old new = begins_by old new && (is_namespace id.kind && follows f names id.name)
 
--- what it marks itself: the statuses of its anchors, its removal, its report, and those of its children. What took part below it did so below its parent
+-- what it marks itself: the statuses of its anchors and its quotas, its removal, its report, and those of its children. What took part below it did so below its parent
 abbrev pub following_marks : State → List ℕ → List Key
-following_marks s n = (status_keys s.objects n ++ key.Purge n ∷ []) ++ (report_keys (forest_of s) n ++ reports_of (forest_of s) (children_of (forest_of s) n))
+following_marks s n = (status_keys s.objects n ++ (usage_keys s.objects n ++ key.Purge n ∷ [])) ++ (report_keys (forest_of s) n ++ reports_of (forest_of s) (children_of (forest_of s) n))
 
 -- what a write marks among others, which put these namespaces as on their way out
 abbrev pub marks_among : State → List (List ℕ) → Write → List Key

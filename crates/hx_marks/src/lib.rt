@@ -13,6 +13,7 @@ mod namespaces;
 mod objects;
 mod reports;
 mod senders;
+mod usage;
 mod wants;
 mod writes;
 

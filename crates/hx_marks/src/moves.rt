@@ -136,7 +136,7 @@ fn all_by_ways(
 }
 
 /// Adds the names before that of a namespace.
-fn push_up_to(list: &mut Vec<Text>, name: &Text, names: &[Text]) -> Result<(), NoMemory>
+pub(crate) fn push_up_to(list: &mut Vec<Text>, name: &Text, names: &[Text]) -> Result<(), NoMemory>
     ensures { OnOk result (list.new.items ≡ list.old.items ++ up_to name.now names.now) }
 {
     for other in names {
@@ -149,7 +149,7 @@ fn push_up_to(list: &mut Vec<Text>, name: &Text, names: &[Text]) -> Result<(), N
 }
 
 /// The names of exactly one of two chains.
-fn in_one(alloc: Global, a: &[Text], b: &[Text]) -> Result<Vec<Text>, NoMemory>
+pub(crate) fn in_one(alloc: Global, a: &[Text], b: &[Text]) -> Result<Vec<Text>, NoMemory>
     ensures { IfOk result (λ names. names.items ≡ in_one a.now b.now) }
 {
     let mut names = Vec::new(alloc);

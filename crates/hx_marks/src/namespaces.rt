@@ -10,6 +10,7 @@ use crate::anchors::{asking_keys, push_purge, status_keys};
 use crate::below::{chain_from, open_below, push_below, push_names};
 use crate::reports::near_reports;
 use crate::senders::all_by_chains;
+use crate::usage::usage_keys;
 use crate::wants::all_of;
 use hx_forest::Forest;
 use hx_model::{Key, RunConfig};
@@ -17,7 +18,7 @@ use hx_object::{NoMemory, Text};
 use hx_store::Store;
 use std::alloc::Global;
 
-/// Marks what a namespace touches that is on its way out from now on: all that those below it want which took part, its anchors, and its removal.
+/// Marks what a namespace touches that is on its way out from now on: all that those below it want which took part, its anchors, its quotas, and its removal.
 pub(crate) fn ending_marks(
     store: &Store,
     forest: &Forest,
@@ -31,10 +32,11 @@ pub(crate) fn ending_marks(
     let members = open_below(store.allocator(), forest, name)?;
     all_by_chains(store, forest, &members, keys)?;
     status_keys(store, name, keys)?;
+    usage_keys(store, name, keys)?;
     push_purge(name, keys)
 }
 
-/// Marks what a namespace touches that is on its way out from now on together with its parent, which marks what took part below both: its anchors, its removal, its report, and those of its children.
+/// Marks what a namespace touches that is on its way out from now on together with its parent, which marks what took part below both: its anchors, its quotas, its removal, its report, and those of its children.
 pub(crate) fn following_marks(
     store: &Store,
     forest: &Forest,
@@ -46,6 +48,7 @@ pub(crate) fn following_marks(
     ensures { OnOk result (keys.new.items ≡ keys.old.items ++ following_marks (state_of store.now config.now) name.now) }
 {
     status_keys(store, name, keys)?;
+    usage_keys(store, name, keys)?;
     push_purge(name, keys)?;
     near_reports(forest, name, keys)
 }

@@ -8,6 +8,7 @@ ghost use Rattle.hx_marks.specs.Law.{all_of, known_of, all_sent, is_sent, key_fo
 use crate::anchors::{child_keys, leaving_keys, status_keys};
 use crate::lookups::{is_ignored, is_propagated, mode_at};
 use crate::reports::report_key;
+use crate::usage::usage_keys;
 use hx_forest::Forest;
 use hx_model::{COPIED_KINDS, Key, is_copy};
 use hx_object::{Kind, Mode, NoMemory, Object, Shared, Text};
@@ -35,6 +36,7 @@ pub(crate) fn known_of(
     open_keys(store, forest, name, keys)?;
     report_key(forest, name, keys)?;
     status_keys(store, name, keys)?;
+    usage_keys(store, name, keys)?;
     leaving_keys(forest, name, keys)
 }
 
@@ -121,7 +123,7 @@ fn wants_of_kind(
 }
 
 /// A chain without its first member.
-fn tail_of(chain: &[Text]) -> &[Text]
+pub(crate) fn tail_of(chain: &[Text]) -> &[Text]
     ensures { result.now ≡ tail_of chain.now }
 {
     match chain.split_first() {

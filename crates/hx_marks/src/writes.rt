@@ -15,6 +15,7 @@ use crate::moves::move_marks;
 use crate::namespaces::{created_marks, ending_marks, following_marks, removed_marks};
 use crate::objects::object_marks;
 use crate::reports::report_marks;
+use crate::usage::usage_marks;
 use crate::wants::known_of;
 use hx_forest::Forest;
 use hx_model::{Key, RunConfig, is_terminating, parent_by};
@@ -96,10 +97,11 @@ fn marks_by(
     ensures { OnOk result (keys.new.items ≡ keys.old.items ++ marks_before_by (state_of store.now config.now) id.now (option_copied old.entry) (option_copied new.entry)) }
 {
     marks_by_kind(store, forest, config, id, old, new, keys)?;
-    report_marks(store, forest, config, id, old, new, keys)
+    report_marks(store, forest, config, id, old, new, keys)?;
+    usage_marks(store, forest, config, id, old, new, keys)
 }
 
-/// Marks what an object touches by its kind, but for reports.
+/// Marks what an object touches by its kind, but for reports and usage.
 fn marks_by_kind(
     store: &Store,
     forest: &Forest,

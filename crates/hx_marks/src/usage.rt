@@ -1,0 +1,304 @@
+// The quotas whose usage a write changes.
+ghost use Rattle.std.specs.Prelude.{◌≡◌, ◌++◌, ◌∷◌, [], IfOk, OnOk, filter, flat_map, map, option_copied};
+ghost use Rattle.std.specs.List.{list_any};
+ghost use Rattle.hx_model.specs.Moves.{chain_from};
+ghost use Rattle.hx_model.specs.Quotas.{quotas_in};
+ghost use Rattle.hx_model.specs.Tree.{forest_of};
+ghost use Rattle.hx_model.specs.declared.key.Key.TheVariants as key;
+ghost use Rattle.hx_marks.specs.Before.{state_of};
+ghost use Rattle.hx_marks.specs.Usage.{charged_usage, counts_change, created_usage, hierarchy_usage, is_charged_anew, is_limit_of, is_recharged, moved_usage, namespace_usage, removed_usage, usage_key, usage_keys, usage_marks, usage_of};
+
+use crate::below::chain_from;
+use crate::lookups::object_in;
+use crate::moves::{in_one, push_up_to};
+use crate::wants::tail_of;
+use crate::writes::parent_under;
+use hx_charge::{charge_before, hard_of};
+use hx_forest::{Ancestors, Forest};
+use hx_model::{Key, RESOURCES, Resource, RunConfig, is_same_name, parent_by};
+use hx_object::well_known::HIERARCHY;
+use hx_object::{Id, Kind, Limit, NoMemory, Object, Shared, Text};
+use hx_store::Store;
+
+/// Marks the quotas whose usage a write of an object changes.
+pub(crate) fn usage_marks(
+    store: &Store,
+    forest: &Forest,
+    config: &RunConfig,
+    id: &Id,
+    old: Option<&Object>,
+    new: Option<&Object>,
+    keys: &mut Vec<Key>,
+) -> Result<(), NoMemory>
+    requires tree { forest.now.nodes ≡ forest_of (state_of store.now config.now) }
+    ensures { OnOk result (keys.new.items ≡ keys.old.items ++ usage_marks (state_of store.now config.now) id.now (option_copied old.entry) (option_copied new.entry)) }
+{
+    match id.kind {
+        Kind::Namespace => namespace_usage(store, forest, config, &id.name, old, new, keys),
+        Kind::HierarchyConfiguration => hierarchy_usage(store, forest, config, id, new, keys),
+        Kind::HierarchicalResourceQuota => push_usage(id, keys),
+        _ => charged_usage(store, forest, config, &id.ns, old, new, keys),
+    }
+}
+
+/// Marks the quotas whose usage changes where a namespace goes, or is made. None changes where one is replaced.
+fn namespace_usage(
+    store: &Store,
+    forest: &Forest,
+    config: &RunConfig,
+    name: &Text,
+    old: Option<&Object>,
+    new: Option<&Object>,
+    keys: &mut Vec<Key>,
+) -> Result<(), NoMemory>
+    requires tree { forest.now.nodes ≡ forest_of (state_of store.now config.now) }
+    ensures { OnOk result (keys.new.items ≡ keys.old.items ++ namespace_usage (state_of store.now config.now) name.now (option_copied old.entry) (option_copied new.entry)) }
+{
+    match (old, new) {
+        (Some(_), Some(_)) => Ok(()),
+        (Some(_), None) => removed_usage(store, forest, config, name, keys),
+        (None, Some(new)) => {
+            let found = store.find(Kind::HierarchyConfiguration, name.as_str(), HIERARCHY);
+            let parent = parent_by(new, object_in(found));
+            created_usage(store, forest, config, name, parent, keys)
+        }
+        (None, None) => Ok(()),
+    }
+}
+
+/// Marks the quotas above a namespace that goes, where something lies below it.
+fn removed_usage(
+    store: &Store,
+    forest: &Forest,
+    config: &RunConfig,
+    name: &Text,
+    keys: &mut Vec<Key>,
+) -> Result<(), NoMemory>
+    requires tree { forest.now.nodes ≡ forest_of (state_of store.now config.now) }
+    ensures { OnOk result (keys.new.items ≡ keys.old.items ++ removed_usage (state_of store.now config.now) name.now) }
+{
+    if forest.children(name).is_empty() {
+        return Ok(());
+    }
+    let mut members = forest.ancestors(name);
+    members.next();
+    usage_along(store, members, keys)
+}
+
+/// Marks the quotas above a namespace that is made under a parent, where something has waited for it below.
+fn created_usage(
+    store: &Store,
+    forest: &Forest,
+    config: &RunConfig,
+    name: &Text,
+    parent: Option<&Text>,
+    keys: &mut Vec<Key>,
+) -> Result<(), NoMemory>
+    requires tree { forest.now.nodes ≡ forest_of (state_of store.now config.now) }
+    ensures { OnOk result (keys.new.items ≡ keys.old.items ++ created_usage (state_of store.now config.now) name.now (option_copied parent.entry)) }
+{
+    if forest.children(name).is_empty() {
+        return Ok(());
+    }
+    usage_from(store, forest, parent, keys)
+}
+
+/// Marks the quotas of a parent and of what is above it.
+fn usage_from(
+    store: &Store,
+    forest: &Forest,
+    parent: Option<&Text>,
+    keys: &mut Vec<Key>,
+) -> Result<(), NoMemory>
+    ensures { OnOk result (keys.new.items ≡ keys.old.items ++ usage_of store.now.objects (chain_from forest.now.nodes (option_copied parent.entry))) }
+{
+    match parent {
+        Some(parent) => usage_along(store, forest.ancestors(parent), keys),
+        None => Ok(()),
+    }
+}
+
+/// Marks the quotas whose usage changes where a HierarchyConfiguration is written or removed.
+fn hierarchy_usage(
+    store: &Store,
+    forest: &Forest,
+    config: &RunConfig,
+    id: &Id,
+    new: Option<&Object>,
+    keys: &mut Vec<Key>,
+) -> Result<(), NoMemory>
+    requires tree { forest.now.nodes ≡ forest_of (state_of store.now config.now) }
+    ensures { OnOk result (keys.new.items ≡ keys.old.items ++ hierarchy_usage (state_of store.now config.now) id.now (option_copied new.entry)) }
+{
+    if id.name.as_str() != HIERARCHY {
+        return Ok(());
+    }
+    let home = object_in(store.find(Kind::Namespace, "", id.ns.as_str()));
+    moved_usage(store, forest, config, &id.ns, parent_under(home, new), keys)
+}
+
+/// Marks the quotas of what is above a namespace before it gets a parent, or then, and not both. Where it has that parent already, none.
+fn moved_usage(
+    store: &Store,
+    forest: &Forest,
+    config: &RunConfig,
+    name: &Text,
+    parent: Option<&Text>,
+    keys: &mut Vec<Key>,
+) -> Result<(), NoMemory>
+    requires tree { forest.now.nodes ≡ forest_of (state_of store.now config.now) }
+    ensures { OnOk result (keys.new.items ≡ keys.old.items ++ moved_usage (state_of store.now config.now) name.now (option_copied parent.entry)) }
+{
+    if is_same_name(forest.parent(name), parent) {
+        return Ok(());
+    }
+    let alloc = store.allocator();
+    let before = forest.chain(name)?;
+    let above = chain_from(alloc, forest, parent)?;
+    let mut after = Vec::new(alloc);
+    push_up_to(&mut after, name, &above)?;
+    let names = in_one(alloc, tail_of(&before), &after)?;
+    usage_of(store, &names, keys)
+}
+
+/// Marks the quotas of a namespace and of those above it that limit what an object is charged of, where that changes. Where no charge changes, nothing is looked at.
+fn charged_usage(
+    store: &Store,
+    forest: &Forest,
+    config: &RunConfig,
+    ns: &Text,
+    old: Option<&Object>,
+    new: Option<&Object>,
+    keys: &mut Vec<Key>,
+) -> Result<(), NoMemory>
+    requires tree { forest.now.nodes ≡ forest_of (state_of store.now config.now) }
+    ensures { OnOk result (keys.new.items ≡ keys.old.items ++ charged_usage (state_of store.now config.now) ns.now (option_copied old.entry) (option_copied new.entry)) }
+{
+    if !is_charged_anew(old, new) {
+        return Ok(());
+    }
+    charged_along(store, old, new, forest.ancestors(ns), keys)
+}
+
+/// Marks the quotas of some namespaces that limit what an object is charged of, where that changes.
+fn charged_along(
+    store: &Store,
+    old: Option<&Object>,
+    new: Option<&Object>,
+    members: Ancestors,
+    keys: &mut Vec<Key>,
+) -> Result<(), NoMemory>
+    ensures { OnOk result (keys.new.items ≡ keys.old.items ++ map usage_key (filter (counts_change (option_copied old.entry) (option_copied new.entry)) (flat_map (quotas_in store.now.objects) members.entry))) }
+{
+    for member in members {
+        let quotas = store.list(Kind::HierarchicalResourceQuota, Some(member))?;
+        push_charged(old, new, &quotas, keys)?;
+    }
+    Ok(())
+}
+
+/// Marks those of some quotas.
+fn push_charged(
+    old: Option<&Object>,
+    new: Option<&Object>,
+    quotas: &[Shared],
+    keys: &mut Vec<Key>,
+) -> Result<(), NoMemory>
+    ensures { OnOk result (keys.new.items ≡ keys.old.items ++ map usage_key (filter (counts_change (option_copied old.entry) (option_copied new.entry)) quotas.now)) }
+{
+    for quota in quotas {
+        if counts_change(old, new, quota.object()) {
+            push_usage(&quota.object().id, keys)?;
+        }
+    }
+    Ok(())
+}
+
+/// Marks the quotas of the namespaces of a chain.
+fn usage_along(store: &Store, members: Ancestors, keys: &mut Vec<Key>) -> Result<(), NoMemory>
+    ensures { OnOk result (keys.new.items ≡ keys.old.items ++ usage_of store.now.objects members.entry) }
+{
+    for member in members {
+        usage_keys(store, member, keys)?;
+    }
+    Ok(())
+}
+
+/// Marks the quotas of some namespaces.
+fn usage_of(store: &Store, names: &[Text], keys: &mut Vec<Key>) -> Result<(), NoMemory>
+    ensures { OnOk result (keys.new.items ≡ keys.old.items ++ usage_of store.now.objects names.now) }
+{
+    for name in names {
+        usage_keys(store, name, keys)?;
+    }
+    Ok(())
+}
+
+/// Marks the quotas in a namespace.
+pub(crate) fn usage_keys(store: &Store, ns: &Text, keys: &mut Vec<Key>) -> Result<(), NoMemory>
+    ensures { OnOk result (keys.new.items ≡ keys.old.items ++ usage_keys store.now.objects ns.now) }
+{
+    let quotas = store.list(Kind::HierarchicalResourceQuota, Some(ns))?;
+    push_quotas(&quotas, keys)
+}
+
+fn push_quotas(quotas: &[Shared], keys: &mut Vec<Key>) -> Result<(), NoMemory>
+    ensures { OnOk result (keys.new.items ≡ keys.old.items ++ map usage_key quotas.now) }
+{
+    for quota in quotas {
+        push_usage(&quota.object().id, keys)?;
+    }
+    Ok(())
+}
+
+/// Marks a quota.
+fn push_usage(id: &Id, keys: &mut Vec<Key>) -> Result<(), NoMemory>
+    ensures { OnOk result (keys.new.items ≡ keys.old.items ++ key.Used id.now.ns id.now.name ∷ []) }
+{
+    keys.push(Key::Used {
+        ns: id.ns.clone()?,
+        name: id.name.clone()?,
+    })?;
+    Ok(())
+}
+
+/// Whether what an object is charged changes, of some resource.
+fn is_charged_anew(old: Option<&Object>, new: Option<&Object>) -> bool
+    ensures { result ≡ is_charged_anew (option_copied old.entry) (option_copied new.entry) }
+{
+    is_any_recharged(old, new, &RESOURCES)
+}
+
+fn is_any_recharged(old: Option<&Object>, new: Option<&Object>, resources: &[Resource]) -> bool
+    ensures { result ≡ list_any (is_recharged (option_copied old.entry) (option_copied new.entry)) resources.now }
+{
+    resources
+        .iter()
+        .any(|resource| is_recharged(old, new, *resource))
+}
+
+/// Whether a quota limits a resource of which what an object is charged changes.
+fn counts_change(old: Option<&Object>, new: Option<&Object>, quota: &Object) -> bool
+    ensures { result ≡ counts_change (option_copied old.entry) (option_copied new.entry) quota.now }
+{
+    hard_of(&quota.payload)
+        .iter()
+        .any(|limit| is_limit_of(old, new, limit))
+}
+
+/// Whether a limit is of such a resource.
+fn is_limit_of(old: Option<&Object>, new: Option<&Object>, limit: &Limit) -> bool
+    ensures { result ≡ is_limit_of (option_copied old.entry) (option_copied new.entry) limit.now }
+{
+    match Resource::of_name(limit.resource.as_str()) {
+        Some(resource) => is_recharged(old, new, resource),
+        None => false,
+    }
+}
+
+/// Whether what an object is charged of a resource changes.
+fn is_recharged(old: Option<&Object>, new: Option<&Object>, resource: Resource) -> bool
+    ensures { result ≡ is_recharged (option_copied old.entry) (option_copied new.entry) resource }
+{
+    charge_before(old, resource) != charge_before(new, resource)
+}
