@@ -125,7 +125,7 @@ phase_of kind (Plain members need) is own = absurd (true≢false (sym own.0 ∙ 
 legal_ended : (x : Object) (version : ℕ) → is_namespace x.id.kind ≡ true → IsLegal x → IsLegal (ended version x)
 legal_ended x version is legal =
     subst (λ (p : Payload). IsLegal (record x { payload = p; version = version })) (phase_of x.id.kind x.payload (namespace_kind x.id.kind is) legal.payload)
-    (legal_replaced (record x { payload = NamespaceOf true; version = version }) x legal)
+    (legal_replaced (record x { payload = NamespaceOf true; version = version }) x tt legal)
 
 served_ended : (x : Object) (version : ℕ) → is_namespace x.id.kind ≡ true → IsServed x → IsServed (ended version x)
 served_ended x version is served = record {

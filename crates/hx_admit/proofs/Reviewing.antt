@@ -33,7 +33,7 @@ use Rattle.hx_model.specs.declared.key.Write.{Write}
 use Rattle.hx_model.specs.declared.key.Write.TheVariants.{Put}
 use Rattle.hx_model.specs.declared.refusal.Refusal.{Refusal}
 use Rattle.hx_model.specs.declared.refusal.Refusal.TheVariants.{NoMemory}
-use Rattle.hx_model.proofs.Legality.{legal_with_version, legal_replaced}
+use Rattle.hx_model.proofs.Legality.{legal_with_version, legal_replaced, status_legal}
 use Rattle.hx_model.proofs.Objects.{found_id}
 use Rattle.hx_model.proofs.Planting.{terminating-replaced}
 use Rattle.hx_model.proofs.Storing.{All-found}
@@ -74,6 +74,12 @@ passes_list s kind ns selector writes says legal none is =
     subst (λ ws. Passes s (ListOf kind ns selector) ws says) (sym none) (subst (λ a. Passes s (ListOf kind ns selector) [] a) (sym is)
     (record { passes = rw (not_less (bytes_in s.objects)) refl; changes = refl; says = refl; legal = legal }))
 
+-- the object that a PUT finds, and the one that it gives
+legal_given : (s : State) (x old next : Object) (expected : Option ℕ) (skip : Bool) → IsReplacement s x old expected skip next → IsLegal (replaced_by old x)
+legal_given s x old next expected skip r =
+    let before : IsServed old = All-found IsServed x.id old s.objects (valid_served s r.valid) r.there in
+    legal_replaced old x (status_legal old.id.kind old.payload before.legal.payload) r.served.legal
+
 pub passes_unchanged : (s : State) (x old next : Object) (expected : Option ℕ) (skip : Bool) (writes : List Write) (says : Answer) → IsReplacement s x old expected skip next → next ≡ old → writes ≡ [] → says ≡ One old false → Passes s (Replace x expected skip) writes says
 passes_unchanged s x old next expected skip writes says r same none answers =
     let quiet = replace_unchanged s x old next expected skip r same in
@@ -81,7 +87,7 @@ passes_unchanged s x old next expected skip writes says r same none answers =
       passes = quiet.0;
       changes = quiet.1;
       says = ap (λ o. answer_found o false x.id) r.there;
-      legal = subst (λ (y : Object). IsLegalAnswer (One y false)) (sym r.gives ∙ same) (legal_replaced old x r.served.legal);
+      legal = subst (λ (y : Object). IsLegalAnswer (One y false)) (sym r.gives ∙ same) (legal_given s x old next expected skip r);
     }))
 
 -- ---- writes that may be made
@@ -121,12 +127,9 @@ may_put s x served home later = record {
 -- the payload that a PUT gives may be stored
 still_kept : (old x : Payload) → is_kept old ≡ true → is_kept x ≡ true → is_kept (with_status old x) ≡ true
 still_kept (NamespaceOf t) (NamespaceOf u) p q = refl
-still_kept (Hierarchy a b [] []) (Hierarchy e f g h) p q = refl
-still_kept (Hierarchy a b [] (d ∷ ds)) (Hierarchy e f g h) p q = p
-still_kept (Hierarchy a b (c ∷ cs) ds) (Hierarchy e f g h) p q = p
+still_kept (Hierarchy a b c d) (Hierarchy e f g h) p q = refl
 still_kept (Anchor s) (Anchor t) p q = refl
-still_kept (Quota h []) (Quota k t) p q = refl
-still_kept (Quota h (s ∷ ss)) (Quota k t) p q = p
+still_kept (Quota h s) (Quota k t) p q = refl
 still_kept old x p q = q
 
 -- and is of the type that is given
@@ -155,7 +158,7 @@ module _ (s : State) (x old next : Object) (expected : Option ℕ) (skip : Bool)
   served_before = All-found IsServed x.id old s.objects (valid_served s r.valid) r.there
 
   served_given : IsServed (replaced_by old x)
-  served_given = record { legal = legal_replaced old x r.served.legal; kept = kept_replaced old x served_before.kept r.served.kept }
+  served_given = record { legal = legal_given s x old next expected skip r; kept = kept_replaced old x served_before.kept r.served.kept }
 
   pub served_replacement : IsServed next
   served_replacement = subst IsServed (sym r.gives) served_given
@@ -188,9 +191,10 @@ pub passes_replace : (s : State) (x old next : Object) (expected : Option ℕ) (
 passes_replace s x old next expected skip writes says r apart passes reviewed =
     let unlike : same_object (replaced_by old x) old ≡ false = differs (replaced_by old x) old (λ e. apart (r.gives ∙ e)) in
     let made = subst (λ (y : Object). IsReviewed (Put (with_version y (s.last + 1))) (One (with_version y (s.last + 1)) false) writes says) r.gives reviewed in
+    let legal = legal_given s x old next expected skip r in
     let next = with_version (replaced_by old x) (s.last + 1) in
     let there : object_at s.objects x.id ≡ Some old = r.there in
-    passes_write s (Replace x expected skip) (Put next) (One next false) writes says passes (rw (there, unlike) refl) (ap (λ o. answer_found o false x.id) (object_at-put_itself next s.objects)) (legal_with_version (replaced_by old x) (s.last + 1) (legal_replaced old x r.served.legal)) made
+    passes_write s (Replace x expected skip) (Put next) (One next false) writes says passes (rw (there, unlike) refl) (ap (λ o. answer_found o false x.id) (object_at-put_itself next s.objects)) (legal_with_version (replaced_by old x) (s.last + 1) legal) made
 
 -- ---- removals
 

@@ -1,25 +1,25 @@
 -- What quotas refuse, as code finds it.
 --     unrefused       no quota refuses a write that raises no charge and brings no Pod that asks for something else
---     used_listed     what is used is the sum over the objects of one kind
+--     used_seen       what is used is the sum over all objects of the subtree
 --     over_sides      a sum passes a limit where it did before, or where the rest is too small for the rise
-use Rattle.std.proofs.Common.{◌≡◌, ◌≤◌, ◌+◌, ◌-◌, ℕ, Bool, true, false, ◌&&◌, ◌||◌, nat_lt, List, [], ◌∷◌, None, Some, Option, refl, ap, ◌∙◌, inl, inr, ◌⊎◌, filter, cond, sum_by, arith, true≢false}
-use Rattle.std.specs.Prelude.{if◌then◌else◌}
+use Rattle.std.proofs.Common.{◌≡◌, ◌≤◌, ◌+◌, ◌-◌, ℕ, Bool, true, false, ◌&&◌, ◌||◌, nat_lt, List, [], ◌∷◌, None, Some, Option, refl, ap, ◌∙◌, inl, inr, ◌⊎◌, sum_by, arith, true≢false}
 use Rattle.std.specs.Cmp.{both_ways}
-use Rattle.std.proofs.lemmas.List.Sums.{sum_by-cons}
 use Rattle.std.proofs.lemmas.Bool.{ltb-true, ltb-false, lt-ltb, le-ltb}
 use Rattle.hx_object.specs.declared.object.Limit.{Limit}
 use Rattle.hx_object.specs.declared.object.Object.{Object}
-use Rattle.hx_model.specs.Charges.{hard_of, resource_named, charge_of, kind_for}
+use Rattle.hx_model.specs.Charges.{hard_of, resource_named, charge_of}
 use Rattle.hx_model.specs.First.{so, or_else, first_of}
-use Rattle.hx_model.specs.Forest.{Forest, in_chain}
+use Rattle.hx_model.specs.Forest.{Forest}
 use Rattle.hx_model.specs.Quotas.{quotas_for, charge_below, used, charge_before, rise_of, asks_anew, is_lacking, over_limit, over_quota, first_over, refused_by_quotas}
-use Rattle.hx_model.specs.State.{State, Objects, is_listed}
-use Rattle.hx_model.specs.Tree.{forest_of}
+use Rattle.hx_model.specs.State.{State, Objects}
+use Rattle.hx_model.specs.Tree.{forest_in, forest_of}
+use Rattle.hx_model.specs.declared.config.RunConfig.{RunConfig}
 use Rattle.hx_model.specs.declared.refusal.Refusal.TheVariants.{Broken}
 use Rattle.hx_model.specs.declared.resource.Resource.{Resource}
 use Rattle.hx_model.specs.declared.rule.Rule.TheVariants.{Q2}
-use Rattle.hx_model.proofs.Charging.{charged_elsewhere, uncharged}
+use Rattle.hx_model.proofs.Charging.{uncharged}
 use Rattle.hx_admit.specs.Spending.{raises, may_refuse}
+use Rattle.hx_admit.specs.StateView.{state_in}
 
 -- ---- writes that no quota refuses
 
@@ -62,24 +62,15 @@ unrefused s old x quiet =
 
 -- ---- what is used
 
-sum_kept : (f : Object → ℕ) (p : Object → Bool) → ((x : Object) → p x ≡ false → f x ≡ 0) → (xs : Objects) → sum_by f (filter p xs) ≡ sum_by f xs
-sum_kept f p nothing [] = refl
-sum_kept f p nothing (x ∷ xs) =
-    elim (p x) as (λ b. p x ≡ b → sum_by f (cond b (x ∷ filter p xs) (filter p xs)) ≡ sum_by f (x ∷ xs)) [
-      | true ↦ λ _. omega (arith, sum_by-cons f x (filter p xs), sum_by-cons f x xs, sum_kept f p nothing xs)
-      | false ↦ λ e. omega (arith, sum_by-cons f x xs, sum_kept f p nothing xs, nothing x e)
-    ] refl
-
-uncharged_below : (f : Forest) (a : List ℕ) (r : Resource) (x : Object) → is_listed (kind_for r) None x ≡ false → charge_below f a r x ≡ 0
-uncharged_below f a r x other = by (in_chain f x.id.ns a)
-  where
-    by : (b : Bool) → (if b then charge_of x r else 0) ≡ 0
-    by true = charged_elsewhere r x other
-    by false = refl
-
-pub used_listed : (s : State) (a : List ℕ) (r : Resource) → sum_by (charge_below (forest_of s) a r) (filter (is_listed (kind_for r) None) s.objects) ≡ used s a r
+used_in : (s : State) (a : List ℕ) (r : Resource) → sum_by (charge_below (forest_of s) a r) s.objects ≡ used s a r
 unfolding used
-used_listed s a r = sum_kept (charge_below (forest_of s) a r) (is_listed (kind_for r) None) (uncharged_below (forest_of s) a r) s.objects
+used_in s a r = refl
+
+-- it is what all objects of the subtree are charged
+pub used_seen : (config : RunConfig) (objects : Objects) (last : ℕ) (s : State) (nodes : Forest) (a : List ℕ) (r : Resource) → state_in config objects last ≡ s → nodes ≡ forest_in config.excluded objects
+    → sum_by (charge_below nodes a r) objects ≡ used s a r
+used_seen config objects last s nodes a r same planted =
+    ap (λ f. sum_by (charge_below f a r) objects) planted ∙ used_in (state_in config objects last) a r ∙ ap (λ (t : State). used t a r) same
 
 -- ---- what passes a limit
 

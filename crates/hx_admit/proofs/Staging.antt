@@ -5,6 +5,7 @@
 --     may_make_all              the writes of one commit may be planned together
 --     alone_distinct, alone_apart, alone_naming      one write by itself touches no other, and changes at most one name
 --     grown_tree, grown_owners  the tree and the owners after all of them
+--     may_stage                 what is counted of the subtrees may be staged
 --     indexed_staged            the indexes where they are staged
 use Rattle.std.proofs.Common.{◌≡◌, ◌≢◌, ◌<◌, ◌≤◌, ◌+◌, ℕ, Bool, true, false, cond, ◌&&◌, List, [], ◌∷◌, ◌++◌, filter, length, take, slice_index_or, None, Some, Option, refl, sym, ap, subst, ◌∙◌, arith, IfSome}
 use Rattle.std.specs.Prelude.{Result, Ok, Err, OnOk, OnErr, if◌then◌else◌, option_and_then}
@@ -16,7 +17,7 @@ use Rattle.hx_object.specs.declared.kind.Kind.{Kind}
 use Rattle.hx_object.specs.declared.kind.Kind.TheVariants.{Namespace}
 use Rattle.hx_object.specs.declared.object.Id.{Id}
 use Rattle.hx_object.specs.declared.object.Object.{Object}
-use Rattle.hx_forest.specs.Kept.{ForestView, changed_by, changed_by_all}
+use Rattle.hx_forest.specs.Kept.{ForestView, changed_by, changed_by_all, MayChangeAll}
 use Rattle.hx_forest.specs.declared.change.Change.{Change as TreeChange}
 use Rattle.hx_forest.specs.declared.change.Change.TheVariants.{Add}
 use Rattle.hx_model.specs.First.{or_else}
@@ -26,7 +27,7 @@ use Rattle.hx_model.specs.State.{State, Objects, ascends, same_id, object_at, ho
 use Rattle.hx_model.specs.Subnamespaces.{owners_in, owners_of}
 use Rattle.hx_model.specs.Tree.{subnamespace_parent, named_parent, is_terminating, forest_in, forest_of}
 use Rattle.hx_model.specs.Serving.{IsServed}
-use Rattle.hx_model.specs.Valid.{IsValid}
+use Rattle.hx_model.specs.Valid.{IsValid, AreHoused}
 use Rattle.hx_model.specs.Writes.{HasPlace, KeepsItsPlace, MayWrite, MayWriteAll, AreApart, changes_names}
 use Rattle.hx_model.specs.declared.config.RunConfig.{RunConfig}
 use Rattle.hx_model.specs.declared.key.Write.{Write}
@@ -36,6 +37,8 @@ use Rattle.hx_model.proofs.Objects.{ascends-put, ascends-cut}
 use Rattle.hx_model.proofs.Planting.{namespace_is_homed}
 use Rattle.hx_model.proofs.Writes.{valid_after}
 use Rattle.hx_model.proofs.Storing.{All-put, All-cut}
+use Rattle.hx_quota.specs.SubtreeUsage.{UsageView, IsCounted, MayStage}
+use Rattle.hx_quota.proofs.CountingSums.{lie_there, none_outside}
 use Rattle.hx_store.specs.Changes.{id_of, object_of}
 use Rattle.hx_store.specs.Kept.{StoreView}
 use Rattle.hx_admit.specs.Counting.{Counts, IsPart, counts_of, gone}
@@ -226,18 +229,29 @@ module _ (s : State) (ws : List Write) (counts counts' : LimitCounts) (nodes own
       next [] some valid = absurd (some refl)
       next (w ∷ ws) some valid = valid
 
+-- what is counted of the subtrees may be staged
+pub may_stage : (s : State) (ws : List Write) (counts counts' : LimitCounts) (nodes owners : Forest) (tree own : List TreeChange) → Agrees s.config s.objects s.last counts nodes owners → IsPlan s ws counts' tree own
+    → AreHoused (after_writes ws s.objects) → MayStage s.objects nodes ws tree
+may_stage s ws counts counts' nodes owners tree own agrees plan housed = record {
+  in_order = agrees.in_order;
+  tree = subst (MayChangeAll tree) (sym agrees.planted) plan.planted.may;
+  housed = none_outside (changed_by_all tree nodes) (after_writes ws s.objects) (lie_there (changed_by_all tree nodes) s.config.excluded (after_writes ws s.objects) (grown_tree s ws counts counts' nodes owners tree own agrees plan) housed);
+}
+
 -- the indexes where they are staged, or nothing is
-pub indexed_staged : {A E : Type 0} (result : Result A E) (config : RunConfig) (store store' : StoreView) (counts next next' : LimitCounts) (forest forest' owners owners' : ForestView) (tree own : List TreeChange) (s : State) (ws : List Write)
-    → IsIndexed config store counts next forest owners → state_in config store.objects store.version ≡ s → MayWriteAll s ws → IsPlan s ws next' tree own
+pub indexed_staged : {A E : Type 0} (result : Result A E) (config : RunConfig) (store store' : StoreView) (counts next next' : LimitCounts) (forest forest' owners owners' : ForestView) (usage usage' : UsageView) (tree own : List TreeChange) (s : State) (ws : List Write)
+    → IsIndexed config store counts next forest owners usage → state_in config store.objects store.version ≡ s → MayWriteAll s ws → IsPlan s ws next' tree own
     → store'.objects ≡ store.objects → store'.version ≡ store.version → OnOk result (store'.staged ≡ ws) → OnErr result (store'.staged ≡ []) → forest'.nodes ≡ forest.nodes → forest'.staged ≡ tree → owners'.nodes ≡ owners.nodes → owners'.staged ≡ own
-    → IsIndexed config store' counts next' forest' owners'
-indexed_staged result config store store' counts next next' forest forest' owners owners' tree own s ws indexed same may plan objects version ok err nodes staged nodes' staged' =
+    → usage'.now ≡ usage.now → IsCounted (after_writes ws store.objects) (changed_by_all tree forest.nodes) usage'.next → IsIndexed config store' counts next' forest' owners' usage'
+indexed_staged result config store store' counts next next' forest forest' owners owners' usage usage' tree own s ws indexed same may plan objects version ok err nodes staged nodes' staged' counted counted' =
     let t = state_in config store.objects store.version in
     let ready : ws ≢ [] → Agrees config (after_writes ws store.objects) (store.version + 1) next' (changed_by_all tree forest.nodes) (changed_by_all own owners.nodes) =
     agrees_then t ws counts next' forest.nodes owners.nodes tree own indexed.now (subst (λ s. IsPlan s ws next' tree own) (sym same) plan) (subst (λ s. MayWriteAll s ws) (sym same) may) in
     record {
       now = rw (objects, version, nodes, nodes') indexed.now;
       then = λ some. let is = staged_by result ok err some in rw (objects, version, nodes, staged, nodes', staged', is) (ready (subst (λ v. v ≢ []) is some));
+      counted = rw (objects, nodes, counted) indexed.counted;
+      counted_then = λ some. let is = staged_by result ok err some in rw (objects, nodes, staged, is) counted';
     }
   where
     -- where writes are staged, they are these

@@ -19,6 +19,7 @@ use Rattle.hx_model.specs.contracts.config.RunConfig as run_config
 use Rattle.hx_model.specs.contracts.key.Write as write
 use Rattle.hx_model.specs.declared.config.RunConfig.{RunConfig}
 use Rattle.hx_model.specs.declared.key.Write.{Write}
+use Rattle.hx_quota.specs.SubtreeUsage.{UsageView, IsCounted}
 use Rattle.hx_store.specs.Kept.{StoreView}
 use Rattle.hx_admit.specs.Counting.{counts_of}
 use Rattle.hx_admit.specs.declared.limits.LimitCounts.{LimitCounts}
@@ -49,7 +50,9 @@ pub record Agrees (config : RunConfig) (objects : Objects) (last : ℕ) (counts 
   pub planted : nodes ≡ forest_in config.excluded objects
   pub owned : owners ≡ owners_in objects
 
--- the indexes agree with the objects, and where writes are staged, the changes that are ready agree with the objects after them
-pub record IsIndexed (config : RunConfig) (store : StoreView) (counts next : LimitCounts) (forest owners : ForestView) : Type 0 where
+-- the indexes agree with the objects, and where writes are staged, the changes that are ready agree with the objects after them; so does what is counted of the subtrees
+pub record IsIndexed (config : RunConfig) (store : StoreView) (counts next : LimitCounts) (forest owners : ForestView) (usage : UsageView) : Type 0 where
   pub now : Agrees config store.objects store.version counts forest.nodes owners.nodes
   pub then : store.staged ≢ [] → Agrees config (after_writes store.staged store.objects) (store.version + 1) next (changed_by_all forest.staged forest.nodes) (changed_by_all owners.staged owners.nodes)
+  pub counted : IsCounted store.objects forest.nodes usage.now
+  pub counted_then : store.staged ≢ [] → IsCounted (after_writes store.staged store.objects) (changed_by_all forest.staged forest.nodes) usage.next

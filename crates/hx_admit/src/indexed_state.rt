@@ -5,11 +5,13 @@ ghost use Rattle.hx_model.specs.State.{opening_state, state_after};
 ghost use Rattle.hx_model.specs.Subnamespaces.{owners_of};
 ghost use Rattle.hx_model.specs.Tree.{forest_of};
 ghost use Rattle.hx_model.specs.Writes.{MayWriteAll};
+ghost use Rattle.hx_quota.specs.SubtreeUsage.{IsCounted};
 
 use crate::limits::LimitCounts;
 use hx_forest::Forest;
 use hx_model::RunConfig;
 use hx_object::{NoMemory, Text};
+use hx_quota::Usage;
 use hx_store::{Change, Store};
 use std::alloc::Global;
 use std::hash::RandomState;
@@ -28,6 +30,8 @@ pub struct IndexedState {
     pub(crate) counts: LimitCounts,
     /// The numbers once the staged writes are made.
     pub(crate) next: LimitCounts,
+    /// What the objects of subtrees are charged.
+    pub(crate) usage: Usage,
     pub(crate) config: RunConfig,
 }
 
@@ -40,7 +44,7 @@ impl Model for IndexedState {
 
     ghost view = { λ s. record { state = state_in s.config s.store.objects s.store.version; staged = s.store.staged } };
 
-    ghost invariant = { λ s. IsIndexed s.config s.store s.counts s.next s.forest s.owners };
+    ghost invariant = { λ s. IsIndexed s.config s.store s.counts s.next s.forest s.owners s.usage };
 }
 
 impl IndexedState {
@@ -56,6 +60,7 @@ impl IndexedState {
             owners: Forest::new(alloc, keys),
             counts: LimitCounts::none(),
             next: LimitCounts::none(),
+            usage: Usage::new(alloc, keys),
             config,
         }
     }
@@ -87,6 +92,13 @@ impl IndexedState {
         ensures { result.now.nodes ≡ owners_of self.now.state }
     {
         &self.owners
+    }
+
+    /// What the objects of subtrees are charged.
+    pub fn usage(&self) -> &Usage
+        ensures { IsCounted self.now.state.objects (forest_of self.now.state) result.now.now }
+    {
+        &self.usage
     }
 
     /// What is fixed for the run.
@@ -125,6 +137,12 @@ impl IndexedState {
     {
         self.discard();
         let plan = self.plan(writes.as_slice())?;
+        self.usage.stage(
+            &self.store,
+            &self.forest,
+            writes.as_slice(),
+            plan.tree.as_slice(),
+        )?;
         self.forest.stage(plan.tree)?;
         self.owners.stage(plan.owners)?;
         self.next = plan.counts;
@@ -143,6 +161,7 @@ impl IndexedState {
         self.store.apply(version);
         self.forest.apply();
         self.owners.apply();
+        self.usage.apply();
         self.counts = self.next;
     }
 
@@ -154,5 +173,6 @@ impl IndexedState {
         self.store.discard();
         self.forest.discard();
         self.owners.discard();
+        self.usage.discard();
     }
 }

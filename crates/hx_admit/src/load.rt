@@ -31,6 +31,12 @@ impl IndexedState {
         self.discard();
         let writes = storing(self.store.allocator(), object)?;
         let plan = self.plan(writes.as_slice())?;
+        self.usage.stage(
+            &self.store,
+            &self.forest,
+            writes.as_slice(),
+            plan.tree.as_slice(),
+        )?;
         self.forest.stage(plan.tree)?;
         self.owners.stage(plan.owners)?;
         self.store.stage(writes)?;
@@ -38,6 +44,7 @@ impl IndexedState {
         self.store.apply(version);
         self.forest.apply();
         self.owners.apply();
+        self.usage.apply();
         self.counts = plan.counts;
         Ok(())
     }

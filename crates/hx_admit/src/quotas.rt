@@ -1,15 +1,13 @@
 // What quotas refuse.
-ghost use Rattle.std.specs.Prelude.{◌≡◌, ◌+◌, ◌&&◌, ◌||◌, nat_lt, flat_map, sum_by, IfOk, option_copied};
+ghost use Rattle.std.specs.Prelude.{◌≡◌, ◌+◌, ◌&&◌, ◌||◌, nat_lt, flat_map, IfOk, option_copied};
 ghost use Rattle.std.specs.List.{list_any};
 ghost use Rattle.hx_model.specs.Cases.{any_of};
 ghost use Rattle.hx_model.specs.First.{first_of};
-ghost use Rattle.hx_model.specs.Quotas.{quotas_in, quotas_for, charge_below, used, charge_before, rise_of, same_need, keeps_need, asks_anew, is_left_open, is_lacking_in, is_lacking, over_by, over_limit, over_quota, first_over, refused_by, refused_by_quotas};
-ghost use Rattle.hx_model.specs.Tree.{forest_of};
+ghost use Rattle.hx_model.specs.Quotas.{quotas_in, quotas_for, used, rise_of, same_need, keeps_need, asks_anew, is_left_open, is_lacking_in, is_lacking, over_by, over_limit, over_quota, first_over, refused_by, refused_by_quotas};
 ghost use Rattle.hx_admit.specs.Spending.{raises, may_refuse};
 
 use crate::indexed_state::IndexedState;
-use crate::rules::hard_of;
-use hx_charge::{charge, is_running, is_unstated, kind_for, resources_for};
+use hx_charge::{charge, charge_before, hard_of, is_running, is_unstated, resources_for};
 use hx_forest::Ancestors;
 use hx_model::{Refusal, Resource, Rule};
 use hx_object::{Id, Kind, Limit, NoMemory, Object, Payload, Shared, Text};
@@ -128,31 +126,7 @@ impl IndexedState {
     fn used(&self, ns: &Text, resource: Resource) -> Result<u128, NoMemory>
         ensures { IfOk result (λ sum. sum ≡ used self.now.state ns.now resource) }
     {
-        let charged = self.store.list(kind_for(resource), None)?;
-        self.sum_below(ns, resource, &charged)
-    }
-
-    /// What those of some objects are charged that lie in a subtree.
-    fn sum_below(&self, ns: &Text, resource: Resource, objects: &[Shared]) -> Result<u128, NoMemory>
-        ensures { IfOk result (λ sum. sum ≡ sum_by (charge_below (forest_of self.now.state) ns.now resource) objects.now) }
-    {
-        let mut sum = 0u128;
-        for object in objects {
-            let part = self.charge_below(ns, resource, object.object());
-            sum = sum.checked_add(part).ok_or(NoMemory)?;
-        }
-        Ok(sum)
-    }
-
-    /// What an object is charged, where it lies in a subtree.
-    fn charge_below(&self, ns: &Text, resource: Resource, object: &Object) -> u128
-        ensures { result ≡ charge_below (forest_of self.now.state) ns.now resource object.now }
-    {
-        if self.forest.in_chain(&object.id.ns, ns) {
-            charge(object, resource)
-        } else {
-            0
-        }
+        self.usage.used(&self.store, &self.forest, ns, resource)
     }
 }
 
@@ -177,16 +151,6 @@ fn rise_of(old: Option<&Object>, new: &Object, resource: Resource) -> u128
     ensures { result ≡ rise_of (option_copied old.entry) new.now resource }
 {
     charge(new, resource).saturating_sub(charge_before(old, resource))
-}
-
-/// What the object that is there is charged.
-fn charge_before(old: Option<&Object>, resource: Resource) -> u128
-    ensures { result ≡ charge_before (option_copied old.entry) resource }
-{
-    match old {
-        Some(object) => charge(object, resource),
-        None => 0,
-    }
 }
 
 /// Whether a Pod is given that hasn't finished, and asks for something else than the one that is there.

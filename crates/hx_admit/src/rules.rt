@@ -21,7 +21,6 @@ pub(crate) use copies::{has_invalid_exceptions, is_any_copy};
 pub(crate) use hierarchy::{closes_cycle, parent_after};
 use hx_model::{Denial, Rule};
 use hx_object::Kind;
-pub(crate) use quota::hard_of;
 
 /// Finds the first rule of admission that a write or a removal breaks.
 pub fn check_rules(case: &Case) -> Result<(), Denial>

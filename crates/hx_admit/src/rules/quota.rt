@@ -1,7 +1,6 @@
 // The rules on HierarchicalResourceQuotas.
 ghost use Rattle.std.specs.Prelude.{◌≡◌, option_copied};
 ghost use Rattle.hx_model.specs.Cases.{any_of};
-ghost use Rattle.hx_model.specs.Charges.{hard_of};
 ghost use Rattle.hx_model.specs.First.{first};
 ghost use Rattle.hx_model.specs.RulesQuotas.{is_unknown, limits_unknown, quota_rules};
 ghost use Rattle.hx_admit.specs.Refusing.{fault_in};
@@ -9,8 +8,9 @@ ghost use Rattle.hx_admit.specs.Ruling.{case_of};
 
 use super::check_rule;
 use crate::case::Case;
+use hx_charge::hard_of;
 use hx_model::{Denial, Resource, Rule};
-use hx_object::{Limit, Object, Payload};
+use hx_object::{Limit, Object};
 
 /// Finds the rule on a quota that a write breaks.
 pub fn check_rules(case: &Case) -> Result<(), Denial>
@@ -42,14 +42,4 @@ fn is_unknown(limit: &Limit) -> bool
     ensures { result ≡ is_unknown limit.now }
 {
     Resource::of_name(limit.resource.as_str()).is_none()
-}
-
-/// The limits of a quota, in order of their names.
-pub fn hard_of(payload: &Payload) -> &[Limit]
-    ensures { result.now ≡ hard_of payload.now }
-{
-    match payload {
-        Payload::Quota { hard, .. } => hard.as_slice(),
-        _ => &[],
-    }
 }
