@@ -19,10 +19,11 @@ use Rattle.hx_model.specs.Cases.{is_leaving}
 use Rattle.hx_model.specs.Forest.{Forest, node_of, is_live, is_excluded, halt_of, chain_of}
 use Rattle.hx_model.specs.Keys.{is_among}
 use Rattle.hx_model.specs.Moves.{is_calm}
-use Rattle.hx_model.specs.State.{State, Objects}
+use Rattle.hx_model.specs.Quotas.{used}
+use Rattle.hx_model.specs.State.{State, Objects, object_at}
 use Rattle.hx_model.specs.Tree.{forest_of, namespaces_in, node_in}
 use Rattle.hx_model.specs.TreeLabels.{is_open}
-use Rattle.hx_model.specs.Wanted.{wanted_write, guards_of}
+use Rattle.hx_model.specs.Wanted.{wanted_write, guards_of, quota_id, sums_of}
 use Rattle.hx_model.specs.declared.key.Key.{Key}
 use Rattle.hx_model.specs.declared.key.Key.TheVariants as key
 use Rattle.hx_model.specs.declared.key.Write.{Write}
@@ -33,13 +34,21 @@ use Rattle.hx_marks.proofs.Reporting.{own_report}
 use Rattle.hx_marks.proofs.Wanting.{all_known}
 use Rattle.hx_marks.specs.Law.{all_of, known_of, leaving_keys, status_keys}
 use Rattle.hx_marks.specs.Reports.{report_keys}
+use Rattle.hx_marks.specs.Usage.{usage_keys}
 use Rattle.hx_rules.specs.Briefs.{StandsFor, facts_of, planned, planned_by}
 use Rattle.hx_rules.specs.declared.brief.Brief.{Brief}
 use Rattle.hx_rules.specs.declared.brief.Facts.{Facts}
-use Rattle.hx_briefs.specs.Briefing.{facts_by, guards_by}
+use Rattle.hx_rules.specs.declared.brief.Facts.TheVariants as found
+use Rattle.hx_briefs.specs.Briefing.{facts_by, guards_by, sums_by}
 use Rattle.hx_briefs.specs.Wants.{HasTree, namespaces, wants_by}
 
 -- ---- what is copied out
+
+-- the sums of a quota
+sums_here : (s : State) (n : List ℕ) (quota : Option Object) → sums_by s.objects (forest_of s) n quota ≡ sums_of s n quota
+unfolding used
+sums_here s n None = refl
+sums_here s n (Some x) = refl
 
 facts_here : (s : State) (k : Key) → facts_by s.config.excluded s.objects (forest_of s) k ≡ facts_of s k
 facts_here s (key.Copy n kind name) = refl
@@ -47,7 +56,7 @@ facts_here s (key.Tree n) = refl
 facts_here s (key.Report n) = refl
 facts_here s (key.Child n name) = refl
 facts_here s (key.Anchor n name) = refl
-facts_here s (key.Used n name) = refl
+facts_here s (key.Used n name) = ap (found.Used (is_live (forest_of s) n) (object_at s.objects (quota_id n name))) (sums_here s n (object_at s.objects (quota_id n name)))
 facts_here s (key.Purge n) = refl
 
 guards_here : (s : State) (k : Key) → guards_by s.objects k ≡ guards_of s k
@@ -146,16 +155,20 @@ module _ (s : State) where
         ap (λ (xs : List Object). list_any (λ (x : Object). is_among k (known_of s.objects (forest_of s) x.id.name)) xs) (namespaces_are s.objects)
         ∙ listed_passes (node_in s.config.excluded s.objects) (λ n. is_among k (known_of s.objects (forest_of s) n)) m (namespaces_in s.objects) there known
 
-    -- a report, a status or a removal
+    -- those that may be wanted though the namespace takes no part
     abbrev others : List Key
-    others = report_keys (forest_of s) m ++ (status_keys s.objects m ++ leaving_keys (forest_of s) m)
+    others = report_keys (forest_of s) m ++ (status_keys s.objects m ++ (usage_keys s.objects m ++ leaving_keys (forest_of s) m))
 
     beside : is_among k others ≡ true → is_among k (known_of s.objects (forest_of s) m) ≡ true
     beside mem = among_append k (open_keys m) others ∙ or_right (is_among k (open_keys m)) (is_among k others) mem
 
-    -- a status or a removal
-    behind : is_among k (status_keys s.objects m ++ leaving_keys (forest_of s) m) ≡ true → is_among k (known_of s.objects (forest_of s) m) ≡ true
-    behind mem = beside (among_append k (report_keys (forest_of s) m) (status_keys s.objects m ++ leaving_keys (forest_of s) m) ∙ or_right (is_among k (report_keys (forest_of s) m)) _ mem)
+    -- a status, a usage or a removal
+    behind : is_among k (status_keys s.objects m ++ (usage_keys s.objects m ++ leaving_keys (forest_of s) m)) ≡ true → is_among k (known_of s.objects (forest_of s) m) ≡ true
+    behind mem = beside (among_append k (report_keys (forest_of s) m) _ ∙ or_right (is_among k (report_keys (forest_of s) m)) _ mem)
+
+    -- a usage or a removal
+    last : is_among k (usage_keys s.objects m ++ leaving_keys (forest_of s) m) ≡ true → is_among k (known_of s.objects (forest_of s) m) ≡ true
+    last mem = behind (among_append k (status_keys s.objects m) _ ∙ or_right (is_among k (status_keys s.objects m)) _ mem)
 
     open_listed : is_open (forest_of s) m ≡ true → is_among k (all_of s.objects (chain_of (forest_of s) m) m) ≡ true → IsListed k
     open_listed acts mem =
@@ -166,21 +179,26 @@ module _ (s : State) where
     status_listed : is_live (forest_of s) m ≡ true → is_among k (status_keys s.objects m) ≡ true → IsListed k
     status_listed live mem =
         listed (live_there (node_of (forest_of s) m) live)
-        (behind (among_append k (status_keys s.objects m) (leaving_keys (forest_of s) m) ∙ or_left (is_among k (status_keys s.objects m)) (is_among k (leaving_keys (forest_of s) m)) mem))
+        (behind (among_append k (status_keys s.objects m) (usage_keys s.objects m ++ leaving_keys (forest_of s) m) ∙ or_left (is_among k (status_keys s.objects m)) _ mem))
+
+    usage_listed : is_live (forest_of s) m ≡ true → is_among k (usage_keys s.objects m) ≡ true → IsListed k
+    usage_listed live mem =
+        listed (live_there (node_of (forest_of s) m) live)
+        (last (among_append k (usage_keys s.objects m) (leaving_keys (forest_of s) m) ∙ or_left (is_among k (usage_keys s.objects m)) _ mem))
 
   report_listed : (m : List ℕ) → is_calm (forest_of s) m ≡ true → IsListed (key.Report m)
   report_listed m calm =
       let k = key.Report m in
       listed k m (live_there (node_of (forest_of s) m) (and_parts (is_live (forest_of s) m) (not (is_excluded (forest_of s) m)) calm).0)
-      (beside k m (among_append k (report_keys (forest_of s) m) (status_keys s.objects m ++ leaving_keys (forest_of s) m) ∙ or_left (is_among k (report_keys (forest_of s) m)) _ (own_report (forest_of s) m calm)))
+      (beside k m (among_append k (report_keys (forest_of s) m) (status_keys s.objects m ++ (usage_keys s.objects m ++ leaving_keys (forest_of s) m)) ∙ or_left (is_among k (report_keys (forest_of s) m)) _ (own_report (forest_of s) m calm)))
 
   removal_listed : (m : List ℕ) → is_leaving (forest_of s) m ≡ true → IsListed (key.Purge m)
   removal_listed m leaves =
       let k = key.Purge m in
       listed k m (leaving_there (node_of (forest_of s) m) leaves)
-      (behind k m
-      (among_append k (status_keys s.objects m) (leaving_keys (forest_of s) m)
-      ∙ or_right (is_among k (status_keys s.objects m)) (is_among k (leaving_keys (forest_of s) m)) (ap (λ b. is_among k (if b then k ∷ [] else [])) leaves ∙ among_here k [])))
+      (last k m
+      (among_append k (usage_keys s.objects m) (leaving_keys (forest_of s) m)
+      ∙ or_right (is_among k (usage_keys s.objects m)) (is_among k (leaving_keys (forest_of s) m)) (ap (λ b. is_among k (if b then k ∷ [] else [])) leaves ∙ among_here k [])))
 
   pub known_listed : (k : Key) → wanted_write s k ≢ None → IsListed k
   known_listed (key.Copy n kind name) wants = let known = all_known s (key.Copy n kind name) wants in open_listed (key.Copy n kind name) known.0 known.1 known.2
@@ -188,5 +206,5 @@ module _ (s : State) where
   known_listed (key.Report n) wants = report_listed n (all_known s (key.Report n) wants)
   known_listed (key.Child n name) wants = let known = all_known s (key.Child n name) wants in open_listed (key.Child n name) known.0 known.1 known.2
   known_listed (key.Anchor n name) wants = let known = all_known s (key.Anchor n name) wants in status_listed (key.Anchor n name) n known.0 known.1
-  known_listed (key.Used n name) wants = absurd (wants refl)
+  known_listed (key.Used n name) wants = let known = all_known s (key.Used n name) wants in usage_listed (key.Used n name) n known.0 known.1
   known_listed (key.Purge n) wants = removal_listed n (all_known s (key.Purge n) wants)

@@ -1,23 +1,27 @@
 -- What a brief is copied out of.
 --     facts_by excluded objects f k   the facts of a key, by objects and their tree, where these names are excluded
---     copy_facts, tree_facts, report_facts, child_facts, anchor_facts, purge_facts   by the kind of key
+--     copy_facts, tree_facts, report_facts, child_facts, anchor_facts, used_facts, purge_facts   by the kind of key
 --     guards_by objects k    what its write rests on
 --     nearest_first          the sources of a kind and name in the namespaces of a chain, the nearest first
-use Rattle.std.specs.Prelude.{ℕ, ◌||◌, is_some, List, [], ◌∷◌, ◌++◌, Option, Some, None, option_map}
+use Rattle.std.specs.Prelude.{ℕ, ◌||◌, is_some, List, [], ◌∷◌, ◌++◌, map, sum_by, Option, Some, None, option_map}
+use Rattle.std.specs.Option.{option_map_or}
 use Rattle.hx_object.specs.declared.kind.Kind.{Kind}
 use Rattle.hx_object.specs.declared.object.Id.{Id}
+use Rattle.hx_object.specs.declared.object.Limit.{Limit}
 use Rattle.hx_object.specs.declared.object.Object.{Object}
 use Rattle.hx_model.specs.Cases.{is_leaving}
+use Rattle.hx_model.specs.Charges.{hard_of, resource_named}
 use Rattle.hx_model.specs.Forest.{Forest, chain_of, children_of, is_in, is_live, tail_of}
 use Rattle.hx_model.specs.Modes.{config_id, mode_in}
 use Rattle.hx_model.specs.Moves.{is_calm}
 use Rattle.hx_model.specs.Propagation.{as_list, id_in, source_at, sources_along}
+use Rattle.hx_model.specs.Quotas.{charge_below}
 use Rattle.hx_model.specs.Reports.{conditions_in}
 use Rattle.hx_model.specs.State.{Objects, object_at, namespace_id, least_in}
 use Rattle.hx_model.specs.Subnamespaces.{anchor_id}
 use Rattle.hx_model.specs.Tree.{hierarchy_id}
 use Rattle.hx_model.specs.TreeLabels.{is_open}
-use Rattle.hx_model.specs.Wanted.{status_by}
+use Rattle.hx_model.specs.Wanted.{quota_id, status_by}
 use Rattle.hx_model.specs.declared.key.Guard.{Guard}
 use Rattle.hx_model.specs.declared.key.Key.{Key}
 use Rattle.hx_model.specs.declared.key.Key.TheVariants as key
@@ -56,6 +60,18 @@ abbrev pub anchor_facts : List (List ℕ) → Objects → Forest → List ℕ �
 anchor_facts excluded objects f n name =
     facts.Anchor (is_live f n) (object_at objects (anchor_id n name)) (status_by (is_in n excluded || is_in name excluded) n (object_at objects (namespace_id name)))
 
+-- what is used of each limit of a quota, by objects and their tree
+abbrev pub used_by : Objects → Forest → List ℕ → Limit → ℕ
+used_by objects f n limit = option_map_or (λ r. sum_by (charge_below f n r) objects) (resource_named limit.resource) 0
+
+abbrev pub sums_by : Objects → Forest → List ℕ → Option Object → List ℕ
+sums_by objects f n None = []
+sums_by objects f n (Some x) = map (used_by objects f n) (hard_of x.payload)
+
+-- of the status of a quota
+abbrev pub used_facts : Objects → Forest → List ℕ → List ℕ → Facts
+used_facts objects f n name = facts.Used (is_live f n) (object_at objects (quota_id n name)) (sums_by objects f n (object_at objects (quota_id n name)))
+
 -- of a removal
 abbrev pub purge_facts : Forest → Option Id → List ℕ → Facts
 purge_facts f least n = facts.Purge (is_leaving f n) least
@@ -67,8 +83,8 @@ facts_by excluded objects f (key.Tree n) = tree_facts objects f n
 facts_by excluded objects f (key.Report n) = report_facts objects f n
 facts_by excluded objects f (key.Child n name) = child_facts excluded objects f n name
 facts_by excluded objects f (key.Anchor n name) = anchor_facts excluded objects f n name
+facts_by excluded objects f (key.Used n name) = used_facts objects f n name
 facts_by excluded objects f (key.Purge n) = purge_facts f (least_by objects n) n
-facts_by excluded objects f _ = facts.Unserved
 
 -- ---- guards
 
@@ -88,8 +104,8 @@ guards_by objects (key.Tree n) = guard_in objects (namespace_id n) ∷ []
 guards_by objects (key.Report n) = guard_in objects (hierarchy_id n) ∷ guard_in objects (namespace_id n) ∷ []
 guards_by objects (key.Child n name) = guard_in objects (anchor_id n name) ∷ guard_in objects (namespace_id n) ∷ guard_in objects (namespace_id name) ∷ []
 guards_by objects (key.Anchor n name) = guard_in objects (anchor_id n name) ∷ guard_in objects (namespace_id n) ∷ []
+guards_by objects (key.Used n name) = guard_in objects (quota_id n name) ∷ guard_in objects (namespace_id n) ∷ []
 guards_by objects (key.Purge n) = purge_guards_by objects (least_by objects n) n
-guards_by objects _ = []
 
 -- ---- sources
 

@@ -1,6 +1,7 @@
 // What plans are made from, copied out of a state.
 ghost use Rattle.std.specs.Prelude.{◌≡◌, IfOk};
 ghost use Rattle.hx_model.specs.declared.key.Key.TheVariants as key;
+ghost use Rattle.hx_quota.specs.SubtreeUsage.{IsCounted};
 ghost use Rattle.hx_briefs.specs.Briefing.{facts_by, guards_by};
 
 use crate::facts::{facts_of, purge_facts};
@@ -8,6 +9,7 @@ use crate::guards::{guards_of, purge_guards};
 use hx_forest::Forest;
 use hx_model::{Key, RunConfig};
 use hx_object::{NoMemory, Text};
+use hx_quota::Usage;
 use hx_rules::Brief;
 use hx_store::Store;
 
@@ -15,9 +17,11 @@ use hx_store::Store;
 pub fn brief_of(
     store: &Store,
     forest: &Forest,
+    usage: &Usage,
     config: &RunConfig,
     key: &Key,
 ) -> Result<Brief, NoMemory>
+    requires counted { IsCounted store.now.objects forest.now.nodes usage.now.now }
     ensures { IfOk result (λ b. (b.key ≡ key.now) × (b.seen ≡ store.now.version) × (b.guards ≡ guards_by store.now.objects key.now) × (b.facts ≡ facts_by config.now.excluded store.now.objects forest.now.nodes key.now)) }
 {
     if let Key::Purge { ns } = key {
@@ -27,7 +31,7 @@ pub fn brief_of(
         key: copy_of(key)?,
         seen: store.version(),
         guards: guards_of(store, key)?,
-        facts: facts_of(store, forest, config, key)?,
+        facts: facts_of(store, forest, usage, config, key)?,
     })
 }
 

@@ -3,14 +3,17 @@ ghost use Rattle.std.specs.Prelude.{◌≡◌, ◌||◌, IfOk, option_copied};
 ghost use Rattle.hx_model.specs.Forest.{is_in};
 ghost use Rattle.hx_model.specs.State.{object_at, namespace_id};
 ghost use Rattle.hx_model.specs.Wanted.{status_by};
-ghost use Rattle.hx_briefs.specs.Briefing.{anchor_facts, child_facts, copy_facts, facts_by, id_found, purge_facts, report_facts, tree_facts};
+ghost use Rattle.hx_quota.specs.SubtreeUsage.{IsCounted};
+ghost use Rattle.hx_briefs.specs.Briefing.{anchor_facts, child_facts, copy_facts, facts_by, id_found, purge_facts, report_facts, tree_facts, used_facts};
 
 use crate::conditions::conditions_of;
-use crate::lookups::{anchor, hierarchy, mode_of, namespace, share};
+use crate::lookups::{anchor, hierarchy, mode_of, namespace, quota, share};
 use crate::sources::sources_above;
+use crate::usage::sums_of;
 use hx_forest::Forest;
 use hx_model::{Key, RunConfig, is_owned_by};
 use hx_object::{AnchorStatus, Id, Kind, List, NoMemory, Shared, Text};
+use hx_quota::Usage;
 use hx_rules::Facts;
 use hx_store::Store;
 use std::alloc::Global;
@@ -19,9 +22,11 @@ use std::alloc::Global;
 pub fn facts_of(
     store: &Store,
     forest: &Forest,
+    usage: &Usage,
     config: &RunConfig,
     key: &Key,
 ) -> Result<Facts, NoMemory>
+    requires counted { IsCounted store.now.objects forest.now.nodes usage.now.now }
     ensures { IfOk result (λ facts. facts ≡ facts_by config.now.excluded store.now.objects forest.now.nodes key.now) }
 {
     match key {
@@ -30,8 +35,8 @@ pub fn facts_of(
         Key::Report { ns } => report_facts(store, forest, ns),
         Key::Child { ns, name } => Ok(child_facts(store, forest, config, ns, name)),
         Key::Anchor { ns, name } => anchor_facts(store, forest, config, ns, name),
+        Key::Used { ns, name } => used_facts(store, forest, usage, ns, name),
         Key::Purge { ns } => purge_facts(forest, store.least(ns), ns),
-        Key::Used { .. } => Ok(Facts::Unserved),
     }
 }
 
@@ -103,6 +108,25 @@ fn anchor_facts(
         is_live: forest.is_live(ns),
         anchor: share(anchor(store, ns, name))?,
         status: status_of(store, config, ns, name),
+    })
+}
+
+/// What the status of a quota depends on.
+fn used_facts(
+    store: &Store,
+    forest: &Forest,
+    usage: &Usage,
+    ns: &Text,
+    name: &Text,
+) -> Result<Facts, NoMemory>
+    requires counted { IsCounted store.now.objects forest.now.nodes usage.now.now }
+    ensures { IfOk result (λ made. made ≡ used_facts store.now.objects forest.now.nodes ns.now name.now) }
+{
+    let found = quota(store, ns, name);
+    Ok(Facts::Used {
+        is_live: forest.is_live(ns),
+        quota: share(found)?,
+        sums: List::of(sums_of(store, forest, usage, ns, found)?),
     })
 }
 

@@ -34,8 +34,11 @@ pub fn guards_of(store: &Store, key: &Key) -> Result<List<Guard>, NoMemory>
             guards.push(inner_guard(store, Kind::SubnamespaceAnchor, ns, name)?)?;
             guards.push(namespace_guard(store, ns)?)?;
         }
+        Key::Used { ns, name } => {
+            guards.push(inner_guard(store, Kind::HierarchicalResourceQuota, ns, name)?)?;
+            guards.push(namespace_guard(store, ns)?)?;
+        }
         Key::Purge { ns } => return purge_guards(store, store.least(ns), ns),
-        Key::Used { .. } => {}
     }
     Ok(List::of(guards))
 }

@@ -8,6 +8,7 @@ mod guards;
 mod lookups;
 mod marking;
 mod sources;
+mod usage;
 
 pub use briefs::brief_of;
 pub use facts::facts_of;

@@ -4,6 +4,7 @@ ghost use Rattle.hx_model.specs.Modes.{config_id, mode_in};
 ghost use Rattle.hx_model.specs.State.{object_at, namespace_id};
 ghost use Rattle.hx_model.specs.Subnamespaces.{anchor_id};
 ghost use Rattle.hx_model.specs.Tree.{hierarchy_id};
+ghost use Rattle.hx_model.specs.Wanted.{quota_id};
 
 use hx_model::mode_in;
 use hx_object::well_known::{CONFIG, HIERARCHY};
@@ -29,6 +30,13 @@ pub(crate) fn anchor<'a>(store: &'a Store, ns: &Text, name: &Text) -> Option<&'a
     ensures { option_copied result ≡ object_at store.now.objects (anchor_id ns.now name.now) }
 {
     store.find(Kind::SubnamespaceAnchor, ns.as_str(), name.as_str())
+}
+
+/// The quota of a name in a namespace.
+pub(crate) fn quota<'a>(store: &'a Store, ns: &Text, name: &Text) -> Option<&'a Shared>
+    ensures { option_copied result ≡ object_at store.now.objects (quota_id ns.now name.now) }
+{
+    store.find(Kind::HierarchicalResourceQuota, ns.as_str(), name.as_str())
 }
 
 /// The mode of a kind, by the HNCConfiguration that is stored.

@@ -3,6 +3,7 @@ ghost use Rattle.std.specs.Prelude.{◌≡◌, ◌++◌, OnOk, IfOk, filter, is_
 ghost use Rattle.hx_model.specs.State.{State};
 ghost use Rattle.hx_model.specs.Wanted.{wanted_write};
 ghost use Rattle.hx_queue.specs.Workers.{no_work};
+ghost use Rattle.hx_quota.specs.SubtreeUsage.{IsCounted};
 ghost use Rattle.hx_rules.specs.Briefs.{planned};
 ghost use Rattle.hx_briefs.specs.Briefing.{facts_by};
 ghost use Rattle.hx_briefs.specs.Wants.{HasTree, AreMarked, namespaces, wants_by, wanting_of, wanting_in};
@@ -14,6 +15,7 @@ use hx_marks::keys_of;
 use hx_model::{Key, RunConfig};
 use hx_object::{Kind, List, NoMemory, Shared, Text};
 use hx_queue::Workers;
+use hx_quota::Usage;
 use hx_rules::{Brief, Plan, SharedBrief, plan};
 use hx_store::Store;
 
@@ -21,25 +23,40 @@ use hx_store::Store;
 pub fn mark_wanting(
     store: &Store,
     forest: &Forest,
+    usage: &Usage,
     config: &RunConfig,
     workers: &mut Workers,
 ) -> Result<(), NoMemory>
-    requires { workers.old.seen ≡ no_work }
+    requires idle { workers.old.seen ≡ no_work }
+    requires counted { IsCounted store.now.objects forest.now.nodes usage.now.now }
     ensures { OnOk result ((s : State) → HasTree config.now.excluded store.now.objects forest.now.nodes s → AreMarked s workers.new.seen) }
 {
-    let wanting = wanting_keys(store, forest, config)?;
+    let wanting = wanting_keys(store, forest, usage, config)?;
     workers.reserve(wanting.len())?;
     workers.mark_all(wanting);
     Ok(())
 }
 
 /// The keys that want a write.
-fn wanting_keys(store: &Store, forest: &Forest, config: &RunConfig) -> Result<Vec<Key>, NoMemory>
+fn wanting_keys(
+    store: &Store,
+    forest: &Forest,
+    usage: &Usage,
+    config: &RunConfig,
+) -> Result<Vec<Key>, NoMemory>
+    requires counted { IsCounted store.now.objects forest.now.nodes usage.now.now }
     ensures { IfOk result (λ keys. keys.items ≡ wanting_in config.now.excluded store.now.objects forest.now.nodes (namespaces store.now.objects)) }
 {
     let mut wanting = Vec::new(store.allocator());
     let namespaces = store.list(Kind::Namespace, None)?;
-    push_all(&mut wanting, store, forest, config, namespaces.as_slice())?;
+    push_all(
+        &mut wanting,
+        store,
+        forest,
+        usage,
+        config,
+        namespaces.as_slice(),
+    )?;
     Ok(wanting)
 }
 
@@ -48,13 +65,22 @@ fn push_all(
     wanting: &mut Vec<Key>,
     store: &Store,
     forest: &Forest,
+    usage: &Usage,
     config: &RunConfig,
     namespaces: &[Shared],
 ) -> Result<(), NoMemory>
+    requires counted { IsCounted store.now.objects forest.now.nodes usage.now.now }
     ensures { OnOk result (wanting.new.items ≡ wanting.old.items ++ wanting_in config.now.excluded store.now.objects forest.now.nodes namespaces.now) }
 {
     for namespace in namespaces {
-        push_wanting(wanting, store, forest, config, &namespace.object().id.name)?;
+        push_wanting(
+            wanting,
+            store,
+            forest,
+            usage,
+            config,
+            &namespace.object().id.name,
+        )?;
     }
     Ok(())
 }
@@ -64,13 +90,15 @@ fn push_wanting(
     wanting: &mut Vec<Key>,
     store: &Store,
     forest: &Forest,
+    usage: &Usage,
     config: &RunConfig,
     name: &Text,
 ) -> Result<(), NoMemory>
+    requires counted { IsCounted store.now.objects forest.now.nodes usage.now.now }
     ensures { OnOk result (wanting.new.items ≡ wanting.old.items ++ wanting_of config.now.excluded store.now.objects forest.now.nodes name.now) }
 {
     let known = keys_of(store, forest, name)?;
-    keep_wanting(wanting, store, forest, config, known)
+    keep_wanting(wanting, store, forest, usage, config, known)
 }
 
 /// Adds those of some keys that want a write.
@@ -78,13 +106,15 @@ fn keep_wanting(
     wanting: &mut Vec<Key>,
     store: &Store,
     forest: &Forest,
+    usage: &Usage,
     config: &RunConfig,
     keys: Vec<Key>,
 ) -> Result<(), NoMemory>
+    requires counted { IsCounted store.now.objects forest.now.nodes usage.now.now }
     ensures { OnOk result (wanting.new.items ≡ wanting.old.items ++ filter (wants_by config.now.excluded store.now.objects forest.now.nodes) keys.items) }
 {
     for key in keys {
-        if wants(store, forest, config, &key)? {
+        if wants(store, forest, usage, config, &key)? {
             wanting.push(key)?;
         }
     }
@@ -95,21 +125,33 @@ fn keep_wanting(
 pub fn wants(
     store: &Store,
     forest: &Forest,
+    usage: &Usage,
     config: &RunConfig,
     key: &Key,
 ) -> Result<bool, NoMemory>
+    requires counted { IsCounted store.now.objects forest.now.nodes usage.now.now }
     ensures by { IfOk result (λ wants. wants ≡ wants_by config.now.excluded store.now.objects forest.now.nodes key.now) }
     ensures of_states { IfOk result (λ wants. (s : State) → HasTree config.now.excluded store.now.objects forest.now.nodes s → wants ≡ is_some (wanted_write s key.now)) }
 {
-    let made = plan_of(store, forest, config, key)?;
+    let made = plan_of(store, forest, usage, config, key)?;
     Ok(does_write(&made))
 }
 
 /// What a key's plan writes now. It has no guards, since it is looked at alone.
-fn plan_of(store: &Store, forest: &Forest, config: &RunConfig, key: &Key) -> Result<Plan, NoMemory>
+fn plan_of(
+    store: &Store,
+    forest: &Forest,
+    usage: &Usage,
+    config: &RunConfig,
+    key: &Key,
+) -> Result<Plan, NoMemory>
+    requires counted { IsCounted store.now.objects forest.now.nodes usage.now.now }
     ensures { IfOk result (λ made. made.write ≡ planned key.now (facts_by config.now.excluded store.now.objects forest.now.nodes key.now)) }
 {
-    let brief = SharedBrief::new(store.allocator(), bare_brief(store, forest, config, key)?)?;
+    let brief = SharedBrief::new(
+        store.allocator(),
+        bare_brief(store, forest, usage, config, key)?,
+    )?;
     match plan(store.allocator(), brief) {
         Ok(made) => Ok(made),
         Err(_brief) => Err(NoMemory),
@@ -120,9 +162,11 @@ fn plan_of(store: &Store, forest: &Forest, config: &RunConfig, key: &Key) -> Res
 fn bare_brief(
     store: &Store,
     forest: &Forest,
+    usage: &Usage,
     config: &RunConfig,
     key: &Key,
 ) -> Result<Brief, NoMemory>
+    requires counted { IsCounted store.now.objects forest.now.nodes usage.now.now }
     ensures key { IfOk result (λ b. b.key ≡ key.now) }
     ensures facts { IfOk result (λ b. b.facts ≡ facts_by config.now.excluded store.now.objects forest.now.nodes key.now) }
 {
@@ -130,7 +174,7 @@ fn bare_brief(
         key: copy_of(key)?,
         seen: store.version(),
         guards: List::of(Vec::new(store.allocator())),
-        facts: facts_of(store, forest, config, key)?,
+        facts: facts_of(store, forest, usage, config, key)?,
     })
 }
 

@@ -31,7 +31,7 @@ use Rattle.hx_core.specs.Inside.{IsSound, view_of}
 use Rattle.hx_core.specs.Refinement.{ClusterView, HasWorld, Simulates}
 use Rattle.hx_core.specs.Turns.{IsOf}
 use Rattle.hx_queue.specs.Workers.{WorkersView, AreApart, IsTakenBy, IsLetGo}
-use Rattle.hx_core.specs.Working.{IsDone, IsGivenBy, IsJob, IsLet, IsReleased, IsSameKeeping, chain_in}
+use Rattle.hx_core.specs.Working.{IsDone, IsGivenBy, IsJob, IsLet, IsReleased, IsSameKeeping, chain_in, sums_in}
 use Rattle.hx_core.specs.declared.turns.Take.{Take}
 use Rattle.hx_core.specs.declared.turns.Take.TheVariants as take
 use Rattle.hx_core.proofs.Covering.{again_held, covered_taken, covered_let, waits_each}
@@ -74,16 +74,17 @@ sound_taken s v v' k staged worker brief sound taken stands short none free apar
     job : IsJob worker brief.key (view_of s v k) brief (view_of s v' k)
     job = record { same = record { state = refl; keeper = refl }; key = refl; stands = stands; short = short; taken = taken }
 
--- a chain is short where the facts have one
-pub short_by : (facts : Facts) (write : Option Write) → length (chain_in facts) < 2 ^ 64 → IsShort facts write
-short_by (found.Tree ns takes_part chain) None short = tt
-short_by (found.Tree ns takes_part chain) (Some write) short = short
-short_by (found.Copy ns takes_part place mode sources) write short = tt
-short_by (found.Report takes hierarchy children conditions) write short = tt
-short_by (found.Child takes_part anchored excluded taken) write short = tt
-short_by (found.Anchor live anchor status) write short = tt
-short_by (found.Purge leaving least) write short = tt
-short_by found.Unserved write short = tt
+-- a chain is short where the facts have one, and sums fit where they have some
+pub short_by : (facts : Facts) (write : Option Write) → length (chain_in facts) < 2 ^ 64 → AllByRecursion (λ sum. sum < 2 ^ 128) (sums_in facts) → IsShort facts write
+short_by (found.Tree ns takes_part chain) None short fit = tt
+short_by (found.Tree ns takes_part chain) (Some write) short fit = short
+short_by (found.Used live quota sums) None short fit = tt
+short_by (found.Used live quota sums) (Some write) short fit = fit
+short_by (found.Copy ns takes_part place mode sources) write short fit = tt
+short_by (found.Report takes hierarchy children conditions) write short fit = tt
+short_by (found.Child takes_part anchored excluded taken) write short fit = tt
+short_by (found.Anchor live anchor status) write short fit = tt
+short_by (found.Purge leaving least) write short fit = tt
 
 -- a brief was given, and the worker has the same one
 pub given_job : (s : State) (v mid v' : WorkersView) (worker : ℕ) (key : Key) (brief shared : Brief) → mid ≡ v → shared ≡ brief → brief.key ≡ key → StandsFor brief s → IsShort brief.facts (planned_by brief) → IsTakenBy (hand_by worker brief) mid v'

@@ -31,7 +31,7 @@ use Rattle.hx_model.specs.Subnamespaces.{anchor_id}
 use Rattle.hx_model.specs.Tree.{forest_of, hierarchy_id, is_terminating}
 use Rattle.hx_model.specs.TreeLabels.{is_open}
 use Rattle.hx_model.specs.Valid.{IsValid, IsStored}
-use Rattle.hx_model.specs.Wanted.{anchor_status, anchor_write, child_write, copied_in, copy_write, guard_at, guards_of, labelled, least_id, next_to_go, placed, purge_guards, subnamespace, tree_write, wanted_anchor, wanted_child, wanted_copy, wanted_purge, wanted_report, wanted_tree, wanted_write, with_status_of, without_copy}
+use Rattle.hx_model.specs.Wanted.{anchor_status, anchor_write, child_write, copied_in, copy_write, guard_at, guards_of, labelled, least_id, next_to_go, placed, purge_guards, subnamespace, tree_write, wanted_anchor, wanted_child, wanted_copy, wanted_purge, wanted_report, wanted_tree, wanted_write, with_status_of, without_copy, quota_id, sums_of, used_write, wanted_used, with_sums}
 use Rattle.hx_model.specs.Writes.{HasPlace, MayLeave, MayWrite, MayWriteAll, id_written}
 use Rattle.hx_model.specs.declared.key.Key.{Key}
 use Rattle.hx_model.specs.declared.key.Key.TheVariants as key
@@ -149,6 +149,17 @@ anchor_place s n m write e =
     let known = anchor_is (is_live (forest_of s) n) (anchor_status s n m) (object_at s.objects (anchor_id n m)) write e in
     (ap id_written known.2 ∙ sym (found_id s.objects (anchor_id n m) known.0 known.1), ap is_some known.1)
 
+used_is : (live : Bool) (sums : List ℕ) (found : Option Object) (write : Write) → used_write live sums found ≡ Some write → (x : Object) × (found ≡ Some x) × (write ≡ Put (with_sums sums x))
+used_is live sums None write e = no_write write e
+used_is true sums (Some x) write e = (x, refl, placed_is (with_sums sums x) (Some x) write e)
+used_is false sums (Some x) write e = no_write write e
+
+-- the write of a quota's status is of the quota, which is there
+used_place : (s : State) (n m : List ℕ) (write : Write) → wanted_used s n m ≡ Some write → (id_written write ≡ quota_id n m) × (is_some (object_at s.objects (quota_id n m)) ≡ true)
+used_place s n m write e =
+    let known = used_is (is_live (forest_of s) n) (sums_of s n (object_at s.objects (quota_id n m))) (object_at s.objects (quota_id n m)) write e in
+    (ap id_written known.2 ∙ sym (found_id s.objects (quota_id n m) known.0 known.1), ap is_some known.1)
+
 purge_is : (s : State) (n : List ℕ) (write : Write) → wanted_purge s n ≡ Some write → write ≡ Cut (next_to_go (least_id s n) n)
 purge_is s n write e = (so_is (is_leaving (forest_of s) n) (Cut (next_to_go (least_id s n) n)) write e).1
 
@@ -250,6 +261,21 @@ module _ (was s : State) (write : Write) (valid : IsValid was) (since : IsSince 
         out = out_by s write (subst (IsOutOrThere s) (sym at.0) (λ home inside there ends. ap is_some same ∙ at.1));
       }
 
+  used_stays : (n m : List ℕ) → wanted_used was n m ≡ Some write → are_met s (guards_of was (key.Used n m)) ≡ true → Stays was s write
+  used_stays n m wants met =
+      let parts = and_parts (is_met s (guard_at was (quota_id n m))) _ met in
+      let more = and_parts (is_met s (guard_at was (namespace_id n))) true parts.1 in
+      let sums = sums_of was n (object_at was.objects (quota_id n m)) in
+      let known = used_is (is_live (forest_of was) n) sums (object_at was.objects (quota_id n m)) write wants in
+      let at = used_place was n m write wants in
+      let same : object_at s.objects (quota_id n m) ≡ object_at was.objects (quota_id n m) = place_same was s (quota_id n m) valid since parts.0 in
+      record {
+        place = subst (λ (q : Id). object_at s.objects q ≡ object_at was.objects q) (sym at.0) same;
+        home = subst (λ (q : Id). has_home s.objects q ≡ has_home was.objects q) (sym at.0) (same_home was s (quota_id n m) (λ e. place_same was s (namespace_id n) valid since more.0));
+        leaves = λ q cuts is may. never_cut (with_sums sums known.0) q write known.2 cuts;
+        out = out_by s write (subst (IsOutOrThere s) (sym at.0) (λ home inside there ends. ap is_some same ∙ at.1));
+      }
+
   -- a report is of a namespace that isn't on its way out
   report_stays : (n : List ℕ) → wanted_report was n ≡ Some write → are_met s (guards_of was (key.Report n)) ≡ true → Stays was s write
   report_stays n wants met =
@@ -321,7 +347,7 @@ stays was s (key.Tree n) write valid since wants met = tree_stays was s write va
 stays was s (key.Report n) write valid since wants met = report_stays was s write valid since n wants met
 stays was s (key.Child n name) write valid since wants met = child_stays was s write valid since n name wants met
 stays was s (key.Anchor n name) write valid since wants met = anchor_stays was s write valid since n name wants met
-stays was s (key.Used n name) write valid since wants met = no_write write wants
+stays was s (key.Used n name) write valid since wants met = used_stays was s write valid since n name wants met
 stays was s (key.Purge n) write valid since wants met = purge_stays was s write valid since n wants met
 
 -- ---- the write may be made
@@ -429,7 +455,7 @@ module _ (was s : State) (write : Write) (valid : IsValid was) (later : was.last
       let puts : write ≡ Put (subnamespace n m) = child_is (is_open (forest_of was) n) (is_some (object_at was.objects (anchor_id n m))) (is_in m was.config.excluded) (is_some (object_at was.objects (namespace_id m))) n m write wants in
       second_out (is_met new (guard_at was (anchor_id n m))) _ (second_out (is_met new (guard_at was (namespace_id n))) _ (first_out (is_met new (guard_at was (namespace_id m))) true (unmet was s (namespace_id m) write valid later (ap id_written puts) may)))
   unmet_all (key.Anchor n m) wants = first_out (is_met new (guard_at was (anchor_id n m))) _ (unmet was s (anchor_id n m) write valid later (anchor_place was n m write wants).0 may)
-  unmet_all (key.Used n name) wants = no_write write wants
+  unmet_all (key.Used n m) wants = first_out (is_met new (guard_at was (quota_id n m))) _ (unmet was s (quota_id n m) write valid later (used_place was n m write wants).0 may)
   unmet_all (key.Purge n) wants = purge_unmet n wants
 
 pub past_write : (s : State) (hand : Hand) (write : Write) → IsOf s hand → hand.write ≡ Some write → s.last < greatest_version → are_met (state_after s (versioned (s.last + 1) write ∷ [])) hand.guards ≡ false

@@ -7,7 +7,7 @@
 --     IsTried hand write old end new   a hand's write was made, or nothing was
 --     is_written                  a turn ended with its write
 --     IsKept                      what a worker is answered that holds a brief already
---     chain_in                    the chain of facts that have one
+--     chain_in, sums_in           the chain of facts that have one;  the sums of those that have some
 --     is_removal                  the key of a removal: once its write is made it may want the next one
 use Rattle.std.specs.Prelude.{◌≡◌, ◌<◌, ◌+◌, ℕ, Bool, true, false, List, [], ◌∷◌, Option, Some, None}
 use Rattle.hx_model.specs.Hands.{Hand, hand_of, are_met, may_write, versioned}
@@ -128,6 +128,11 @@ IsKept brief other = ⊥
 abbrev pub chain_in : Facts → List (List ℕ)
 chain_in (facts.Tree ns takes_part chain) = chain
 chain_in _ = []
+
+-- the sums of the facts of a quota's status
+abbrev pub sums_in : Facts → List ℕ
+sums_in (facts.Used live quota sums) = sums
+sums_in _ = []
 
 -- the key of a removal: once its write is made it may want the next one
 abbrev pub is_removal : Key → Bool

@@ -12,5 +12,11 @@ pub fn brief_of(state: &IndexedState, key: &Key) -> Result<Brief, NoMemory>
     ensures key { IfOk result (λ brief. brief.key ≡ key.now) }
     ensures stands { IfOk result (λ brief. StandsFor brief state.now.state) }
 {
-    hx_briefs::brief_of(state.store(), state.forest(), state.config(), key)
+    hx_briefs::brief_of(
+        state.store(),
+        state.forest(),
+        state.usage(),
+        state.config(),
+        key,
+    )
 }

@@ -18,5 +18,11 @@ pub fn mark_wanting(state: &IndexedState, workers: &mut Workers) -> Result<(), N
     ensures hands { OnOk result (workers.new.seen.hands ≡ []) }
     ensures again { OnOk result (workers.new.seen.again ≡ []) }
 {
-    hx_briefs::mark_wanting(state.store(), state.forest(), state.config(), workers)
+    hx_briefs::mark_wanting(
+        state.store(),
+        state.forest(),
+        state.usage(),
+        state.config(),
+        workers,
+    )
 }

@@ -6,7 +6,7 @@ ghost use Rattle.hx_model.specs.Machine.{Checked, Dropped, Finished};
 ghost use Rattle.hx_rules.specs.Briefs.{IsShort, StandsFor, hand_by, planned_by};
 ghost use Rattle.hx_core.specs.Refinement.{Simulates};
 ghost use Rattle.hx_core.specs.Turns.{IsInHand, IsOfKey, take_entry, take_key_entry};
-ghost use Rattle.hx_core.specs.Working.{IsDone, IsGiven, IsGivenBy, IsKept, IsReleased, IsTake, IsTakeOf, chain_in};
+ghost use Rattle.hx_core.specs.Working.{IsDone, IsGiven, IsGivenBy, IsKept, IsReleased, IsTake, IsTakeOf, chain_in, sums_in};
 
 use crate::briefs::brief_of;
 use crate::cluster::Cluster;
@@ -17,7 +17,7 @@ use hx_model::{Finish, Key};
 use hx_object::{NoMemory, Shared, Text};
 use hx_ports::Keeper;
 use hx_queue::Workers;
-use hx_rules::{Brief, Facts, Plan, SharedBrief, plan};
+use hx_rules::{Brief, Facts, Plan, SharedBrief, law_of_sums, plan};
 use std::alloc::Global;
 
 impl<K: Keeper> Cluster<K> {
@@ -247,11 +247,12 @@ fn job_of(state: &IndexedState, key: &Key) -> Result<(SharedBrief, SharedBrief),
     Ok((first, second))
 }
 
-/// A theorem, not to be called for what it does: a chain is no longer than a machine counts.
+/// A theorem, not to be called for what it does: a chain is no longer than a machine counts, and so are sums.
 fn law_of_facts(brief: &Brief)
     ensures { IsShort brief.now.facts (planned_by brief.now) }
 {
     law_of_chain(chain_in(&brief.facts));
+    law_of_sums(sums_in(&brief.facts));
 }
 
 /// The chain of facts that have one.
@@ -260,6 +261,16 @@ fn chain_in(facts: &Facts) -> &[Text]
 {
     match facts {
         Facts::Tree { chain, .. } => chain.as_slice(),
+        _ => &[],
+    }
+}
+
+/// The sums of facts that have some.
+fn sums_in(facts: &Facts) -> &[u128]
+    ensures { result.now ≡ sums_in facts.now }
+{
+    match facts {
+        Facts::Used { sums, .. } => sums.as_slice(),
         _ => &[],
     }
 }

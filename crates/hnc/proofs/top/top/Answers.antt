@@ -36,3 +36,6 @@ pub returns-clause-too_long : goal.returns-clause-too_long
 returns-clause-too_long g c = λ e.
     of_run-long _ c.in-Ok.run' (g.S.Source.shown c.args.source.now) (g.W.Sink.shown c.args.sink.now) (g.W.Sink.shown c.run_script-end.new.sink) (g.K.Keeper.shown c.args.keeper) (g.K.Keeper.shown c.end_with-in-Ok-start.result.keeper) c.in-Ok-start.cluster c.run_script-end.new.cluster
     c.in-Ok.ensures.words (started g c) c.close.ensures.valid (ap g.K.Keeper.shown c.end_with-in-Ok-start.ensures.1 ∙ c.close.ensures.keeper) (c.run_script-end.ensures.too_long (c.status_of_end.ensures.too_long (sym c.end_with-in-Ok-start.ensures.0 ∙ e)))
+
+pub returns-clause-write_fault : goal.returns-clause-write_fault
+returns-clause-write_fault g c = λ e. c.run_script-end.ensures.write_fault (c.status_of_end.ensures.write_fault (sym c.end_with-in-Ok-start.ensures.0 ∙ e))
