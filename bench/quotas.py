@@ -7,12 +7,14 @@ Prints one line per comparison: the time per request at each size, and their rat
 of the next one. A Pod is made in a leaf and removed again, and both requests count: under a quota in each namespace of its chain, in 1,025
 namespaces of depth 8 and of depth 64; under a quota in the root and one in the leaf's column, beside Pods in all namespaces, at 4,096 namespaces
 and 60,960 Pods against a sixteenth of both; and there without quotas. They come in shuffled order and in parts of 62 requests, in turns at the
-small and the large size. The least of 16 parts counts. Everything runs on one processor.
+small and the large size. There too a namespace at half the depth gets a parent in another column, with five namespaces and their Pods below it and
+a quota above it before and after; and what quotas tell is settled behind each part, of which the time of a turn is printed. The least of 16 parts
+counts. Everything runs on one processor.
 """
 import os
 import sys
 
-from program import Kind, compare, remove
+from program import Kind, compare, parts, remove, report
 from trees import Columns
 
 POD = Kind("v1", "Pod", "pods")
@@ -25,6 +27,7 @@ SIZES = (256, 4_096)
 # In so many namespaces of each tree.
 FILLED = (254, 4_064)
 PODS = 15
+PART, COUNT = 62, 16
 
 
 def pod(ns, name):
@@ -43,24 +46,43 @@ def comes_and_goes(tree):
         yield remove(ns, name, POD)
 
 
+class Telling(Columns):
+    """A run in which Pods come and go, whose quotas then tell what is used."""
+
+    def __init__(self, *words):
+        super().__init__(*words)
+        self.steps = parts(comes_and_goes(self), PART)
+
+    def turn(self):
+        """The time of a turn, once Pods have come and gone."""
+        self.ask(next(self.steps))
+        before = self.used()
+        turns = len(self.settle())
+        return (self.used() - before) / turns * PART
+
+
 def along_chains(program):
     trees = [Columns(program, 1_024 // depth, depth) for depth in DEPTHS]
     for tree in trees:
         tree.ask([quota(f"n{i}") for i in range(1_025)])
-    compare("POST and DELETE of a Pod under a quota at each level", [f"depth {depth}" for depth in DEPTHS], trees, comes_and_goes, 62, 16)
+    compare("POST and DELETE of a Pod under a quota at each level", [f"depth {depth}" for depth in DEPTHS], trees, comes_and_goes, PART, COUNT)
     for tree in trees:
         tree.close()
 
 
 def in_large_trees(program):
-    trees = [Columns(program, (namespaces - 1) // DEPTH, DEPTH, namespaces) for namespaces in SIZES]
+    trees = [Telling(program, (namespaces - 1) // DEPTH, DEPTH, namespaces) for namespaces in SIZES]
     names = [f"{namespaces:,} namespaces" for namespaces in SIZES]
     for tree, filled in zip(trees, FILLED):
         tree.ask([pod(f"n{i}", f"q{at}") for i in range(filled) for at in range(PODS)])
-    compare("POST and DELETE of a Pod without quotas", names, trees, comes_and_goes, 62, 16)
+    compare("POST and DELETE of a Pod without quotas", names, trees, comes_and_goes, PART, COUNT)
     for tree in trees:
         tree.ask([quota("n0")] + [quota(f"n{i * DEPTH + 1}") for i in tree.columns])
-    compare("POST and DELETE of a Pod under two quotas", names, trees, comes_and_goes, 62, 16)
+    compare("POST and DELETE of a Pod under two quotas", names, trees, comes_and_goes, PART, COUNT)
+    compare("PUT of a parent that moves an inner subtree of five with 75 Pods", names, trees, lambda tree: tree.moves(DEPTH // 2), PART, COUNT)
+    for tree in trees:
+        tree.settle()
+    report("a turn that tells what is used", names, [[tree.turn() for tree in trees] for _ in range(COUNT)], PART)
     for tree in trees:
         tree.close()
 

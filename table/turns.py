@@ -1,16 +1,17 @@
-"""The machine of reconcilers in plain Python, for namespaces, their parents, anchors and Roles; and scripts in which two workers take and finish at each place among a user's writes.
+"""The machine of reconcilers in plain Python, for namespaces, their parents, anchors, quotas of Pods, Roles and Pods; and scripts in which two workers take and finish at each place among a user's writes.
 
 It is written from the words of docs/BEHAVIOUR.md. A user's requests on HierarchyConfigurations and Roles skip the rules that can be skipped; takes name
 their keys. An object lies under its kind, its namespace and its name, with a value and a version: the value is its labels, its content (of a namespace
-the parent that its annotation names, of a HierarchyConfiguration its parent and whether it lets deletion cascade, of a Role its verb), its exception as
-`KEY=TEXT`, the namespace that a copy comes from, and its status (a namespace that is on its way out, what an anchor is told, or the children and the
-conditions that a HierarchyConfiguration tells, where there are any). Lines are in the short form of turns.txt.
+the parent that its annotation names, of a HierarchyConfiguration its parent and whether it lets deletion cascade, of a quota how many Pods it allows, of a
+Role its verb), its exception as
+`KEY=TEXT`, the namespace that a copy comes from, and its status (a namespace that is on its way out, what an anchor is told, the children and the
+conditions that a HierarchyConfiguration tells, where there are any, or how many Pods a quota tells, and its limit). Lines are in the short form of turns.txt.
 """
 import itertools
 from typing import NamedTuple, Optional
 
 # in the order of their numbers
-KINDS = ("namespace", "hierarchy", "anchor", "role")
+KINDS = ("namespace", "hierarchy", "anchor", "quota", "role", "pod")
 DEPTH = ".tree.hnc.x-k8s.io/depth"
 INCLUDED = "hnc.x-k8s.io/included-namespace"
 
@@ -109,6 +110,8 @@ class Machine:
             return self.wanted_status(ns, rest[0])
         if what == "report":
             return self.wanted_report(ns)
+        if what == "used":
+            return self.wanted_usage(ns, rest[0])
         if what not in ("copy", "tree", "child") or not self.is_open(ns):
             return None
         if what == "child":
@@ -137,6 +140,17 @@ class Machine:
             return None
         status = "Missing" if home is None else "Ok" if home.content == ns else "Conflict"
         return (place, there._replace(status=status)) if status != there.status else None
+
+    def used(self, ns):
+        """How many Pods lie in the subtree of a namespace."""
+        return sum(place[0] == "pod" and ns in self.chain(place[1]) for place in self.objects)
+
+    def wanted_usage(self, ns, name):
+        there = self.value(("quota", ns, name))
+        if there is None or not self.is_live(ns):
+            return None
+        status = str(self.used(ns)), there.content
+        return (("quota", ns, name), there._replace(status=status)) if status != there.status else None
 
     def reason(self, ns):
         """Why a namespace is halted, or none."""
@@ -169,6 +183,7 @@ class Machine:
             "child": [("anchor", ns, name), ("namespace", "", name)],
             "anchor": [("anchor", ns, name)],
             "report": [("hierarchy", ns, "hierarchy")],
+            "used": [("quota", ns, name)],
             "purge": [self.least(ns)],
         }
         return [(place, self.version(place)) for place in [*inner[what], ("namespace", "", ns)]]
@@ -202,7 +217,14 @@ class Machine:
                 return "N1"
             if self.reach(name) != {name} and not self.cascades(name):
                 return "N2"
+        if kind == "pod" and not there and self.passes_limit(ns):
+            return "Q1"
         return None
+
+    def passes_limit(self, ns):
+        """Whether one Pod more would pass a limit of a quota of a namespace, or of one above it."""
+        quotas = [(place[1], value) for place, (value, _) in self.objects.items() if place[0] == "quota" and place[1] in self.chain(ns)]
+        return any(self.used(home) + 1 > int(value.content) for home, value in quotas)
 
     def ending(self, ns):
         """What puts a namespace on its way out, and all that go with it."""
@@ -273,7 +295,7 @@ class Machine:
         place = {"namespace": ("namespace", "", at), "hierarchy": ("hierarchy", at, "hierarchy")}.get(kind) or (kind, *at.split("/"))
         told = dict(each.split("=", 1) for each in said)
         labels = frozenset((key[6:], text) for key, text in told.items() if key.startswith("label:"))
-        content = {"hierarchy": (told.get("parent", ""), "cascade" in told), "role": told.get("verb")}.get(kind)
+        content = {"hierarchy": (told.get("parent", ""), "cascade" in told), "quota": told.get("pods"), "role": told.get("verb")}.get(kind)
         rule = next((f"{key}={told[key]}" for key in ("none", "select", "treeSelect") if key in told), None)
         return self.request(word.rstrip("!"), place, None if word.startswith("DELETE") else Value(labels, content, rule), word.endswith("!"))
 
@@ -289,6 +311,7 @@ class Machine:
         anchors = [place[1:] for place in self.objects if place[0] == "anchor"]
         keys = [f"{what} {ns}" for ns in names for what in ("tree", "report", "purge")] + [f"copy {ns} roles {role}" for ns in names for role in roles]
         keys += [f"{what} {ns} {name}" for ns, name in anchors for what in ("child", "anchor")]
+        keys += [f"used {ns} {name}" for kind, ns, name in self.objects if kind == "quota"]
         todo, seen, ends = [self.objects], set(), set()
         while todo:
             self.objects = todo.pop()
@@ -311,6 +334,7 @@ SOURCE = ["POST! role a/r verb=get"]
 LABELLED = ["take 1 tree a", "finish 1", "take 1 tree b", "finish 1"]
 COPIED = ["take 1 copy b roles r", "finish 1"]
 ASKED = ["POST! namespace a", "POST anchor a/b"]
+COUNTED = [*TREE, "POST! quota a/q pods=2", "POST! pod b/x"]
 SUBNAMESPACE = [*ASKED, "take 1 child a b", "finish 1", "take 1 anchor a b", "finish 1"]
 
 # Of each story: its title, what stands before, the keys of the two workers, how the second one ends, and the user's writes.
@@ -342,6 +366,11 @@ STORIES = [
     ("a parent that leaves is told", [*TREE, "POST! namespace c", "POST! hierarchy c parent=b"], ("report b", "report c"), "finish", ["DELETE namespace a", "PUT! namespace c label:tier=x", "DELETE! hierarchy b"]),
     ("a missing anchor is told", SUBNAMESPACE, ("report b", "report a"), "finish", ["DELETE! anchor a/b", "POST anchor a/b", "DELETE namespace a"]),
     ("a parent that goes is told", [*TREE, "DELETE namespace a"], ("report b", "purge a"), "finish", ["POST! role b/r verb=get", "PUT! hierarchy b", "POST! namespace a"]),
+    ("what is used changes", COUNTED, ("used a q", "used a q"), "finish", ["POST! pod b/y", "DELETE! pod b/x", "PUT! quota a/q pods=1"]),
+    ("what is used is passed", [*COUNTED, "POST! quota b/q pods=1"], ("used a q", "used b q"), "drop", ["POST! pod b/y", "POST! pod a/y", "POST! pod a/z"]),
+    ("what is used moves", COUNTED, ("used a q", "report a"), "finish", ["DELETE! hierarchy b", "POST! pod b/y", "POST! hierarchy b parent=a"]),
+    ("what is used leaves", [*COUNTED, "POST! quota b/q pods=1"], ("used b q", "purge b"), "finish", ["DELETE namespace b", "PUT! quota b/q pods=9", "DELETE! pod b/x"]),
+    ("what is used comes below", ["POST! namespace a", "POST! quota a/q pods=0", "POST! namespace c", "POST! hierarchy c parent=b", "POST! pod c/x"], ("used a q", "report c"), "finish", ["POST anchor a/b", "POST! namespace b", "POST! hierarchy b parent=a"]),
     ("the parent goes missing", [*TREE, *SOURCE], ("copy b roles r", "tree b"), "finish", ["PUT! hierarchy b parent=gone", "POST! namespace gone", "PUT! role a/r verb=list"]),
 ]
 

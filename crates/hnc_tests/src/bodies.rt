@@ -1,10 +1,9 @@
 // A body that is read and written again, with ample memory. The faults of bodies and the texts of all answers stand in the table of requests.
-ghost use Rattle.std.specs.Prelude.{◌≡◌, IfOk};
-ghost use Rattle.hx_json.specs.Rows.{is_told};
+ghost use Rattle.std.specs.Prelude.{IfOk};
 ghost use Rattle.hx_object.specs.Faults.{IsLegal};
 
 use hx_json::{BodyReader, JsonFault, Read, law_of_texts, write_object};
-use hx_object::{Kind, Object, Payload, Text};
+use hx_object::{Kind, Object, Text};
 use std::alloc::Global;
 
 /// What a PUT of the ConfigMap `a/x` says.
@@ -20,24 +19,12 @@ fn read(alloc: Global) -> Result<Read, JsonFault>
     BodyReader::new(alloc).read_object(SAID.as_bytes(), Kind::ConfigMap, &ns, Some(&name))
 }
 
-/// Whether a text tells a payload whole: what is reported of a quota isn't written yet.
-fn is_told(payload: &Payload) -> bool
-    ensures { result ≡ is_told payload.now }
-{
-    match payload {
-        Payload::Quota { status, .. } => status.as_slice().is_empty(),
-        _ => true,
-    }
-}
-
 /// Whether the two are one object. Where their texts are the same, a theorem says so.
 fn are_same(one: &Object, other: &Object) -> bool
     requires one { IsLegal one.now }
     requires other { IsLegal other.now }
 {
-    if is_told(&one.payload) && is_told(&other.payload) {
-        law_of_texts(one, other);
-    }
+    law_of_texts(one, other);
     one.is_same(other)
 }
 

@@ -2,7 +2,7 @@
 ghost use Rattle.std.specs.Prelude.{◌<◌};
 
 use hx_object::{NoMemory, QuantityFault};
-use hx_quantity::{print, read};
+use hx_quantity::{print, read, read_printed};
 use std::alloc::Global;
 use std::test::Fail;
 
@@ -265,7 +265,7 @@ const ROWS: [&str; COUNT] = [
 ];
 
 /// How many amounts there are.
-const PRINTED_COUNT: usize = 20;
+const PRINTED_COUNT: usize = 21;
 
 /// Amounts in thousandths, each with its text.
 const PRINTED: [(u128, &str); PRINTED_COUNT] = [
@@ -287,6 +287,10 @@ const PRINTED: [(u128, &str); PRINTED_COUNT] = [
     (18_446_744_073_709_551_616, "18446744073709551616m"),
     (18_446_744_073_709_551_615, "18446744073709551615m"),
     (
+        170_141_183_460_469_231_731_687_303_715_884_105_728,
+        "170141183460469231731687303715884105728m",
+    ),
+    (
         170_141_183_460_469_231_731_687_303_715_884_105_736,
         "170141183460469231731687303715884105736m",
     ),
@@ -300,6 +304,25 @@ const PRINTED: [(u128, &str); PRINTED_COUNT] = [
     ),
 ];
 
+/// How many texts there are that no amount is printed as.
+const OTHER_COUNT: usize = 12;
+
+/// Texts that no amount is printed as.
+const OTHERS: [&str; OTHER_COUNT] = [
+    "",
+    "m",
+    "-1",
+    "+1",
+    " 1",
+    "1 ",
+    "1.5",
+    "1k",
+    "1mm",
+    "1m1",
+    "340282366920938463463374607431768211456m",
+    "340282366920938463463374607431768212",
+];
+
 /// The row at a place of the table.
 fn row(index: usize) -> &'static str
     requires { index < 238 }
@@ -308,9 +331,15 @@ fn row(index: usize) -> &'static str
 }
 
 fn printed(index: usize) -> (u128, &'static str)
-    requires { index < 20 }
+    requires { index < 21 }
 {
     PRINTED[index]
+}
+
+fn other(index: usize) -> &'static str
+    requires { index < 12 }
+{
+    OTHERS[index]
 }
 
 /// A row's text, and what it tells of that.
@@ -349,4 +378,20 @@ fn amounts_are_printed(rt: HostRuntime) -> Result<(), Fail> {
         assert_eq!(rt; text.as_str(), wanted);
     }
     Ok(())
+}
+
+/// Whether a text is read as an amount that was printed.
+fn is_read_as(text: &str, amount: u128) -> bool {
+    matches!(read_printed(text), Some(read) if read == amount)
+}
+
+#[test]
+fn printed_amounts_are_read(rt: HostRuntime) {
+    for index in 0..PRINTED_COUNT {
+        let (amount, text) = printed(index);
+        assert!(rt; is_read_as(text, amount), "{text}");
+    }
+    for index in 0..OTHER_COUNT {
+        assert!(rt; read_printed(other(index)).is_none());
+    }
 }
