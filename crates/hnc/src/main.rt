@@ -63,11 +63,11 @@ fn names_no_database(alloc: Global, words: &[String]) -> bool {
     }
 }
 
-/// Runs the command with the rows in a tree of the program's own memory, which is gone with it.
+/// Runs the command with the rows in a map of the program's own memory, which is gone with it.
 fn run_in_memory(rt: &HostRuntime, words: &[String], keys: RandomState) -> Outcome {
     let mut source = StdSource::new(rt.stdin());
     let mut sink = StdSink::new(rt.stdout());
-    let keeper = SureKeeper::new(Vec::new(rt.alloc()), NO_ROWS);
+    let keeper = SureKeeper::new(Vec::new(rt.alloc()), NO_ROWS, keys);
     let ended = top(rt.alloc(), words, &mut source, &mut sink, keeper, keys);
     Outcome {
         status: ended.status,

@@ -84,7 +84,7 @@ fn run_on(
     let mut sink = MemSink::new(room, setting.write_piece, fails);
     let commits = Vec::from_slice(alloc, &[setting.failing_commit])?;
     let fails = Vec::from_slice(alloc, &[setting.failing_keeper])?;
-    let keeper = MemKeeper::new(rows, setting.meta, commits, fails);
+    let keeper = MemKeeper::new(rows, setting.meta, commits, fails, setting.keys);
     let Ended {
         status,
         damaged_row,
@@ -110,7 +110,7 @@ fn sure_answers(alloc: Global, keys: RandomState, script: &[u8]) -> Result<SureS
     let words = split_words(alloc, "run")?;
     let mut source = SureSource::new(Vec::from_slice(alloc, script)?, 4096);
     let mut sink = SureSink::new(Vec::with_capacity(alloc, 8192)?);
-    let keeper = SureKeeper::new(Vec::new(alloc), NO_ROWS);
+    let keeper = SureKeeper::new(Vec::new(alloc), NO_ROWS, keys);
     let ended = top(
         alloc,
         words.as_slice(),

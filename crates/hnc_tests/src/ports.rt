@@ -4,6 +4,7 @@ ghost use Rattle.std.specs.Prelude.{◌≤◌, IfOk};
 use hx_object::List;
 use hx_ports::{Batch, Keeper, MemKeeper, Meta, Row, Sink, Source, StdSink, StdSource};
 use std::alloc::{AllocError, Global};
+use std::hash::RandomState;
 use std::io;
 use std::io::{Read, Write};
 use std::test::Fail;
@@ -99,14 +100,14 @@ fn row(alloc: Global, key: &str) -> Result<Row, AllocError> {
 }
 
 // A keeper of the rows b and d, of version 4, with e put and b cut.
-fn changed(alloc: Global) -> Result<MemKeeper, Fail> {
+fn changed(alloc: Global, keys: RandomState) -> Result<MemKeeper, Fail> {
     let meta = Meta {
         schema: 1,
         version: 4,
         rows: 2,
     };
     let rows = Vec::from_array(alloc, [row(alloc, "b")?, row(alloc, "d")?])?;
-    let mut keeper = MemKeeper::new(rows, meta, Vec::new(alloc), Vec::new(alloc));
+    let mut keeper = MemKeeper::new(rows, meta, Vec::new(alloc), Vec::new(alloc), keys);
     keeper.attach("")?;
     let batch = Batch {
         version: 5,
@@ -119,7 +120,7 @@ fn changed(alloc: Global) -> Result<MemKeeper, Fail> {
 
 #[test]
 fn keeps_rows(rt: HostRuntime) -> Result<(), Fail> {
-    let mut keeper = changed(rt.alloc())?;
+    let mut keeper = changed(rt.alloc(), RandomState::new(&rt)?)?;
     let meta = keeper.meta()?;
     assert!(rt; meta.version == 5 && meta.rows == 2);
     for (after, wanted) in [("", "d"), ("c", "d"), ("d", "e"), ("e", "")] {

@@ -22,7 +22,7 @@ pub fn answers(
         version: 0,
         rows: 0,
     };
-    let mut keeper = SureKeeper::new(Vec::new(alloc), meta);
+    let mut keeper = SureKeeper::new(Vec::new(alloc), meta, keys);
     if keeper.attach("").is_err() {
         return Err(AllocError);
     }

@@ -1,33 +1,30 @@
 -- How rows by their keys change where a row is put or cut, as their map does, and when rows in a list ascend.
-use Rattle.std.proofs.Common.{◌≡◌, ℕ, suc, ◌+◌, ◌-◌, ◌<◌, ◌≤◌, Bool, true, false, cond, List, [], ◌∷◌, ◌++◌, map, length, get_or, take, drop, None, Some, refl, sym, ap, subst, ◌∙◌, arith, add-one}
-use Rattle.std.proofs.lemmas.List.{length-map, take_at as take_at_seam, take-append-drop, length-take, length-drop, drop-drop, map-append, append-nil}
+use Rattle.std.proofs.Common.{◌≡◌, ℕ, suc, ◌+◌, ◌-◌, ◌<◌, ◌≤◌, Bool, true, false, cond, List, [], ◌∷◌, ◌++◌, map, length, get_or, take, drop, None, Some, refl, sym, ap, subst, ◌∙◌, arith}
+use Rattle.std.proofs.lemmas.List.{length-map, take_at as take_at_seam, take-append-drop, length-take, length-drop, drop-drop, map-append}
 use Rattle.std.proofs.Math.Seq.{drop-cons}
-use Rattle.std.specs.BTreeMap.{BTreeMap, is_at, get as held_at}
-use Rattle.std.specs.BTreeMap.Range.{entries_between}
-use Rattle.std.specs.Cmp.{eq_by_cmp_equiv, tied_itself}
-use Rattle.std.specs.Cmp.Lexicographic.{nat_list_cmp_total, slice_partial_cmp, lists_agrees}
-use Rattle.std.specs.FinMap.{IsAntisymmetric, nat_cmp-IsAntisymmetric, slice_cmp-IsAntisymmetric, same_map, get, contains_key, empty, get-from_entries, get-insert, get-remove, get-from_sorted, entries-from_sorted, len-entries, len, entries, is_sorted, from_sorted, from_entries, find, put, insert as map_insert, remove as map_remove}
+use Rattle.std.specs.Cmp.{tied_itself}
+use Rattle.std.specs.Cmp.Lexicographic.{nat_list_cmp_total, nat_list_eq_equiv, slice_partial_cmp, lists_agrees, texts_ties}
+use Rattle.std.specs.FinMap.{IsAntisymmetric, nat_cmp-IsAntisymmetric, slice_cmp-IsAntisymmetric, same_map, get, contains_key, empty, get-from_entries, get-insert, get-remove, get-from_sorted, entries-from_sorted, entries, is_sorted, from_sorted, from_entries, find, put, insert as map_insert, remove as map_remove}
 use Rattle.std.specs.FinMap.Entries.{by_order, below_all, is_sorted-put}
-use Rattle.std.specs.List.{filter, drop-map, AllByRecursion}
+use Rattle.std.specs.HashMap.{get as held_at}
+use Rattle.std.specs.List.{drop-map, AllByRecursion}
 use Rattle.std.specs.List.Sorted.{IsStrictlySortedBy}
 use Rattle.std.specs.Map.{lookup, keys_of}
-use Rattle.std.specs.Option.{option_map}
 use Rattle.std.specs.Ordering.{eq_by_cmp, nat_cmp, is_eq, is_lt, is_ge, is_some_and}
-use Rattle.std.specs.Prelude.{T, Ok, Err, OnOk, OnErr, IfSome, find as find_first, ◌&&◌, is_some}
+use Rattle.std.specs.Prelude.{T, Ok, Err, OnOk, OnErr, ◌&&◌, is_some}
+use Rattle.std.specs.Str.{bytes_eq}
 use Rattle.std.specs.declared.cmp.Ordering.{Ordering}
 use Rattle.std.specs.declared.cmp.Ordering.TheVariants.{Less, Equal, Greater}
-use Rattle.std.specs.declared.ops.Bound.TheVariants.{Excluded, Unbounded}
 use Rattle.std.specs.declared.option.Option.{Option}
 use Rattle.std.specs.declared.result.Result.{Result}
 use Rattle.hx_object.specs.Texts.{bytes_cmp}
-use Rattle.hx_ports.specs.declared.keeper.Meta.{Meta}
 use Rattle.hx_ports.specs.declared.keeper.Row.{Row}
-use Rattle.hx_ports.specs.declared.sure.Before.{Before}
-use Rattle.hx_ports.specs.Keeping.{Kept, Rows, meta_of, first_behind, row_of_entry, with_puts, with_cuts}
-use Rattle.hx_ports.specs.Rows.{Entry, entry_of, entries_of, onto, rows_in, rows_of, rows_over}
+use Rattle.hx_ports.specs.declared.row_map.Before.{Before}
+use Rattle.hx_ports.specs.Keeping.{Rows, with_puts}
+use Rattle.hx_ports.specs.Rows.{Entry, HeldRows, entry_of, entries_of, onto, rows_in, rows_of, rows_over}
 use Rattle.hx_ports.specs.Undone.{had_back, put_back, all_put_back}
 
-same_bytes : IsAntisymmetric bytes_cmp
+pub same_bytes : IsAntisymmetric bytes_cmp
 same_bytes = slice_cmp-IsAntisymmetric nat_cmp-IsAntisymmetric
 
 both : (a b : Bool) → T a → T b → T (a && b)
@@ -40,29 +37,37 @@ tied Equal e = refl
 tied Greater e = cc
 
 -- a look-up among the entries is one in the map
-pub found : (q : List ℕ) (es : List Entry) → find bytes_cmp q es ≡ lookup (is_at (bytes_cmp q)) es
+pub found : (q : List ℕ) (es : List Entry) → find bytes_cmp q es ≡ lookup (bytes_eq q) es
 found q [] = refl
-found q (e ∷ es) = ap (cond (eq_by_cmp bytes_cmp q e.0) (Some e.1)) (found q es)
+found q (e ∷ es) = λ i. cond (sym (texts_ties q e.0) i) (Some e.1) (found q es i)
 
-pub get-rows_in : (held : BTreeMap (List ℕ) (ℕ × List ℕ)) (q : List ℕ) → get (rows_in held) q ≡ held_at bytes_cmp held q
+pub get-rows_in : (held : HeldRows) (q : List ℕ) → get (rows_in held) q ≡ held_at bytes_eq held q
 get-rows_in held q = get-from_entries nat_list_cmp_total held.entries q ∙ found q held.entries
 
 -- each key has what it had, but that one key has a row, or has none
-abbrev pub Changes : BTreeMap (List ℕ) (ℕ × List ℕ) → BTreeMap (List ℕ) (ℕ × List ℕ) → List ℕ → Option (ℕ × List ℕ) → Type 0
-Changes old new key had = (q : List ℕ) → held_at bytes_cmp new q ≡ cond (is_at (bytes_cmp key) q) had (held_at bytes_cmp old q)
+abbrev pub Changes : HeldRows → HeldRows → List ℕ → Option (ℕ × List ℕ) → Type 0
+Changes old new key had = (q : List ℕ) → held_at bytes_eq new q ≡ cond (bytes_eq key q) had (held_at bytes_eq old q)
 
-turned : (q key : List ℕ) → is_at (bytes_cmp key) q ≡ eq_by_cmp bytes_cmp q key
-turned q key = (eq_by_cmp_equiv nat_list_cmp_total).symm key q
+turned : (q key : List ℕ) → bytes_eq key q ≡ eq_by_cmp bytes_cmp q key
+turned q key = nat_list_eq_equiv.symm key q ∙ texts_ties q key
 
-get-changed : (old new : BTreeMap (List ℕ) (ℕ × List ℕ)) (key : List ℕ) (had : Option (ℕ × List ℕ)) → Changes old new key had → (q : List ℕ) → get (rows_in new) q ≡ cond (eq_by_cmp bytes_cmp q key) had (get (rows_in old) q)
+get-changed : (old new : HeldRows) (key : List ℕ) (had : Option (ℕ × List ℕ)) → Changes old new key had → (q : List ℕ) → get (rows_in new) q ≡ cond (eq_by_cmp bytes_cmp q key) had (get (rows_in old) q)
 get-changed old new key had is q = get-rows_in new q ∙ is q ∙ (λ i. cond (turned q key i) had (sym (get-rows_in old q) i))
 
+-- of a key that is another's
+pub changes-at : (old new : HeldRows) (key is : List ℕ) (had : Option (ℕ × List ℕ)) → is ≡ key → Changes old new is had → Changes old new key had
+changes-at old new key is had same h = subst (λ (k : List ℕ). Changes old new k had) same h
+
+-- the rows lie in another order
+pub same-rows_in : (old new : HeldRows) → ((q : List ℕ) → held_at bytes_eq new q ≡ held_at bytes_eq old q) → rows_in new ≡ rows_in old
+same-rows_in old new is = same_map nat_list_cmp_total same_bytes _ _ (λ q. get-rows_in new q ∙ is q ∙ sym (get-rows_in old q))
+
 -- a row is put
-pub put-rows_in : (old new : BTreeMap (List ℕ) (ℕ × List ℕ)) (key : List ℕ) (row : ℕ × List ℕ) → Changes old new key (Some row) → rows_in new ≡ map_insert (rows_in old) key row
+pub put-rows_in : (old new : HeldRows) (key : List ℕ) (row : ℕ × List ℕ) → Changes old new key (Some row) → rows_in new ≡ map_insert (rows_in old) key row
 put-rows_in old new key row is = same_map nat_list_cmp_total same_bytes _ _ (λ q. get-changed old new key (Some row) is q ∙ sym (get-insert nat_list_cmp_total (rows_in old) key row q))
 
 -- a row is cut
-pub cut-rows_in : (old new : BTreeMap (List ℕ) (ℕ × List ℕ)) (key : List ℕ) → Changes old new key None → rows_in new ≡ map_remove (rows_in old) key
+pub cut-rows_in : (old new : HeldRows) (key : List ℕ) → Changes old new key None → rows_in new ≡ map_remove (rows_in old) key
 cut-rows_in old new key is = same_map nat_list_cmp_total same_bytes _ _ (λ q. get-changed old new key None is q ∙ sym (get-remove nat_list_cmp_total (rows_in old) key q))
 
 -- a key has what it had once a row that was put there is taken back
@@ -90,10 +95,10 @@ all_put_back-push [] before rows = refl
 all_put_back-push (b ∷ log) before rows = ap (put_back b) (all_put_back-push log before rows)
 
 -- what was noted of a put takes it back
-pub put_row-back : (old new : BTreeMap (List ℕ) (ℕ × List ℕ)) (log noted : List Before) (before : Before) (key : List ℕ) (row : ℕ × List ℕ) → noted ≡ log ++ before ∷ [] → before.key ≡ key → before.had ≡ held_at bytes_cmp old key → Changes old new key (Some row)
+pub put_row-back : (old new : HeldRows) (log noted : List Before) (before : Before) (key : List ℕ) (row : ℕ × List ℕ) → noted ≡ log ++ before ∷ [] → before.key ≡ key → before.had ≡ held_at bytes_eq old key → Changes old new key (Some row)
     → all_put_back noted (rows_in new) ≡ all_put_back log (rows_in old)
 put_row-back old new log noted before key row is same had put =
-    let back = (λ i. had_back (same i) (had i) (put-rows_in old new key row put i)) ∙ back_at (rows_in old) key row (held_at bytes_cmp old key) (get-rows_in old key) in
+    let back = (λ i. had_back (same i) (had i) (put-rows_in old new key row put i)) ∙ back_at (rows_in old) key row (held_at bytes_eq old key) (get-rows_in old key) in
     ap (λ l. all_put_back l (rows_in new)) is ∙ all_put_back-push log before (rows_in new) ∙ ap (all_put_back log) back
 
 -- the last of what is left is taken back
@@ -150,9 +155,17 @@ same_tests true false f g = absurd (f tt)
 same_tests false true f g = absurd (g tt)
 same_tests false false f g = refl
 
+first : (a b : Bool) → T (a && b) → T a
+first true b p = tt
+first false b p = p
+
 second : (a b : Bool) → T (a && b) → T b
 second true b p = p
 second false b p = absurd p
+
+pub so-true : (b : Bool) → T b → b ≡ true
+so-true true p = refl
+so-true false p = absurd p
 
 -- a list of two and more ascends where the rest does and its first key is less than the next one
 pub sorted-next : (e f : Entry) (es : List Entry) → bytes_cmp e.0 f.0 ≡ Less → is_sorted bytes_cmp (e ∷ f ∷ es) ≡ is_sorted bytes_cmp (f ∷ es)
@@ -171,12 +184,12 @@ sorted-short (e ∷ f ∷ es) h = absurd (omega arith)
 pub order-is : (test : Ordering → Bool) (b : Bool) (x y : List ℕ) → b ≡ is_some_and test (slice_partial_cmp (λ m n. Some (nat_cmp m n)) x y) → b ≡ test (bytes_cmp x y)
 order-is test b x y e = e ∙ ap (is_some_and test) (lists_agrees (λ m n. refl) x y)
 
-less-of : (r : Ordering) → is_ge r ≡ false → r ≡ Less
+pub less-of : (r : Ordering) → is_ge r ≡ false → r ≡ Less
 less-of Less e = refl
 less-of Equal e = cc
 less-of Greater e = cc
 
-not_less-of : (r : Ordering) → is_ge r ≡ true → is_lt r ≡ false
+pub not_less-of : (r : Ordering) → is_ge r ≡ true → is_lt r ≡ false
 not_less-of Less e = cc
 not_less-of Equal e = refl
 not_less-of Greater e = refl
@@ -211,53 +224,16 @@ ascends-next rows i e f b low h is_e is_f so_far is below =
 pub ascends-all : (rows : List Row) (i : ℕ) → length rows ≤ i → SoFar rows (i - 1) → true ≡ is_sorted bytes_cmp (entries_of rows)
 ascends-all rows i h so_far = sym (so_far ∙ sorted-short (drop (i - 1) (entries_of rows)) (simp (length-drop, length-map) (omega arith)))
 
--- the map of rows that are kept by their keys has their entries
-pub entries-rows_in : (held : BTreeMap (List ℕ) (ℕ × List ℕ)) → IsStrictlySortedBy bytes_cmp (keys_of held.entries) → entries (rows_in held) ≡ held.entries
-entries-rows_in held h = entries-from_entries held.entries (sorted-keys held.entries h)
-
-pub len-rows_in : (held : BTreeMap (List ℕ) (ℕ × List ℕ)) → IsStrictlySortedBy bytes_cmp (keys_of held.entries) → len (rows_in held) ≡ length held.entries
-len-rows_in held h = len-entries _ ∙ ap length (entries-rows_in held h)
-
--- the first of some entries
-abbrev pub first_of : List Entry → Option Entry
-first_of [] = None
-first_of (e ∷ es) = Some e
-
-find-filter : (p : Entry → Bool) (es : List Entry) → find_first p es ≡ first_of (filter p es)
-find-filter p [] = refl
-find-filter p (e ∷ es) = elim (p e) as (λ b. cond b (Some e) (find_first p es) ≡ first_of (cond b (e ∷ filter p es) (filter p es))) [ true ↦ refl | false ↦ find-filter p es ]
-
-and-true : (b : Bool) → b ≡ (b && true)
-and-true true = refl
-and-true false = refl
-
--- the first row behind a key is the first of those that lie there
-pub first_behind-is : (held : BTreeMap (List ℕ) (ℕ × List ℕ)) (after key : List ℕ) (there shown : List Entry) → IsStrictlySortedBy bytes_cmp (keys_of held.entries) → key ≡ after
-    → there ≡ entries_between bytes_cmp (Excluded key) Unbounded held.entries → there ≡ shown → first_behind after (rows_in held) ≡ option_map row_of_entry (first_of shown)
-first_behind-is held after key there shown h same between is =
-    let plain = ap (find_first (λ e. is_lt (bytes_cmp key e.0))) (entries-rows_in held h) ∙ (λ i. find_first (λ e. and-true (is_lt (bytes_cmp key e.0)) i) held.entries) in
-    ap (λ k. first_behind k (rows_in held)) (sym same) ∙ ap (option_map row_of_entry) (plain ∙ find-filter _ held.entries ∙ ap first_of (sym between ∙ is))
-
--- the copies of the entries so far, once none are left
-pub copied : (held : BTreeMap (List ℕ) (ℕ × List ℕ)) (rows : List Row) (rest : List Entry) → IsStrictlySortedBy bytes_cmp (keys_of held.entries) → entries_of rows ++ rest ≡ held.entries → rest ≡ [] → entries (rows_in held) ≡ entries_of rows
-copied held rows rest h so_far none = entries-rows_in held h ∙ sym so_far ∙ ap (λ l. entries_of rows ++ l) none ∙ append-nil (entries_of rows)
-
 -- the last of the rows that are left goes into the map
-pub lay_rows-step : (old new : List Row) (row : Row) (before after : BTreeMap (List ℕ) (ℕ × List ℕ)) (rows : Rows) → old ≡ new ++ row ∷ [] → Changes before after row.key (Some (row.version, row.body))
+pub lay_rows-step : (old new : List Row) (row : Row) (before after : HeldRows) (rows : Rows) → old ≡ new ++ row ∷ [] → Changes before after row.key (Some (row.version, row.body))
     → rows_over old (rows_in before) ≡ rows → rows_over new (rows_in after) ≡ rows
 lay_rows-step old new row before after rows is put so_far =
     ap (onto (entries_of new)) (put-rows_in before after row.key (row.version, row.body) put) ∙ sym (onto-push (entries_of new) (entry_of row) (rows_in before))
     ∙ ap (λ es. onto es (rows_in before)) (sym (map-append entry_of new (row ∷ [])) ∙ ap entries_of (sym is)) ∙ so_far
 
 -- rows over an empty map are their own map
-pub rows_over-empty : (rows : List Row) (held : BTreeMap (List ℕ) (ℕ × List ℕ)) → held.entries ≡ [] → rows_over rows (rows_in held) ≡ rows_of rows
+pub rows_over-empty : (rows : List Row) (held : HeldRows) → held.entries ≡ [] → rows_over rows (rows_in held) ≡ rows_of rows
 rows_over-empty rows held none = ap (λ es. onto (entries_of rows) (from_entries es)) none ∙ onto-empty (entries_of rows)
-
--- the next key is cut
-pub cut_rows-step : (keys : List (List ℕ)) (i : ℕ) (key : List ℕ) (rows : Rows) (before after : BTreeMap (List ℕ) (ℕ × List ℕ)) → i < length keys → key ≡ get_or keys i key → Changes before after key None
-    → with_cuts (drop i keys) (rows_in before) ≡ rows → with_cuts (drop (i + 1) keys) (rows_in after) ≡ rows
-cut_rows-step keys i key rows before after h is cut so_far =
-    rw (add-one i) (ap (with_cuts (drop (suc i) keys)) (cut-rows_in before after key cut) ∙ ap (λ ks. with_cuts ks (rows_in before)) (sym (drop-cons keys i key h ∙ ap (λ k. k ∷ drop (suc i) keys) (sym is))) ∙ so_far)
 
 -- a call that fails only where a key has nothing
 pub succeeded : {A E P : Type 0} (result : Result A E) (had : Option (ℕ × List ℕ)) → OnOk result P → OnErr result (had ≡ None) → is_some had ≡ true → P
@@ -265,28 +241,31 @@ succeeded (Ok a) had done absent there = done
 succeeded (Err e) had done absent there = absurd (subst T (sym there ∙ ap is_some absent) tt)
 
 -- a key has what was noted of it
-pub put_back-put : (old new : BTreeMap (List ℕ) (ℕ × List ℕ)) (before : Before) (row : ℕ × List ℕ) → before.had ≡ Some row → is_some (held_at bytes_cmp old before.key) ≡ true → Changes old new before.key (Some row) → rows_in new ≡ put_back before (rows_in old)
+pub put_back-put : (old new : HeldRows) (before : Before) (row : ℕ × List ℕ) → before.had ≡ Some row → is_some (held_at bytes_eq old before.key) ≡ true → Changes old new before.key (Some row) → rows_in new ≡ put_back before (rows_in old)
 put_back-put old new before row had there put =
     put-rows_in old new before.key row put
     ∙ sym (ap (λ h. had_back before.key h (rows_in old)) had ∙ ap (λ b. cond b (map_insert (rows_in old) before.key row) (rows_in old)) (ap is_some (get-rows_in old before.key) ∙ there))
 
-pub put_back-gone : (old : BTreeMap (List ℕ) (ℕ × List ℕ)) (before : Before) (row : ℕ × List ℕ) → before.had ≡ Some row → is_some (held_at bytes_cmp old before.key) ≡ false → rows_in old ≡ put_back before (rows_in old)
+pub put_back-gone : (old : HeldRows) (before : Before) (row : ℕ × List ℕ) → before.had ≡ Some row → is_some (held_at bytes_eq old before.key) ≡ false → rows_in old ≡ put_back before (rows_in old)
 put_back-gone old before row had gone =
     sym (ap (λ h. had_back before.key h (rows_in old)) had ∙ ap (λ b. cond b (map_insert (rows_in old) before.key row) (rows_in old)) (ap is_some (get-rows_in old before.key) ∙ gone))
 
-pub put_back-cut : (old new : BTreeMap (List ℕ) (ℕ × List ℕ)) (before : Before) → before.had ≡ None → Changes old new before.key None → rows_in new ≡ put_back before (rows_in old)
-put_back-cut old new before had cut = cut-rows_in old new before.key cut ∙ sym (ap (λ h. had_back before.key h (rows_in old)) had)
-
--- what is held where these are the rows
-abbrev held_kept : Meta → Rows → Kept
-held_kept meta rows = record { schema = meta.schema; version = meta.version; rows = rows }
+pub put_back-cut : (rows : Rows) (before : Before) → before.had ≡ None → map_remove rows before.key ≡ put_back before rows
+put_back-cut rows before had = sym (ap (λ h. had_back before.key h rows) had)
 
 -- once no rows lie outside of the map, it has them all
 pub laid_rows : (given left : List Row) (before after : Rows) → left ≡ [] → rows_over left after ≡ rows_over given before → after ≡ rows_over given before
 laid_rows given left before after none same = ap (λ l. rows_over l after) (sym none) ∙ same
 
--- what `meta` says of rows that are told
-pub meta-told : (tells : Bool) (held : BTreeMap (List ℕ) (ℕ × List ℕ)) (rows : Rows) (meta : Meta) → IsStrictlySortedBy bytes_cmp (keys_of held.entries) → rows_in held ≡ rows → (count : ℕ) → count ≡ length held.entries
-    → IfSome (cond tells (Some (held_kept meta rows)) None) (λ kept. ◌≡◌ {A = Meta} (record { schema = meta.schema; version = meta.version; rows = count }) (meta_of kept))
-meta-told false held rows meta h same count e = tt
-meta-told true held rows meta h same count e = λ i. record { schema = meta.schema; version = meta.version; rows = (e ∙ sym (len-rows_in held h) ∙ ap len same) i }
+-- rows ascend where one more behind them lets them
+pub sorted-front : (es : List Entry) (e : Entry) → T (is_sorted bytes_cmp (es ++ e ∷ [])) → T (is_sorted bytes_cmp es)
+sorted-front [] e h = tt
+sorted-front (f ∷ es) e h = both _ _ (below-front f.0 es (first _ _ h)) (sorted-front es e (second _ _ h))
+  where
+    below-front : (key : List ℕ) (fs : List Entry) → T (below_all bytes_cmp key (fs ++ e ∷ [])) → T (below_all bytes_cmp key fs)
+    below-front key [] h = tt
+    below-front key (f ∷ fs) h = both _ _ (first _ _ h) (below-front key fs (second _ _ h))
+
+-- the last of rows that ascend is taken
+pub ascends-popped : (old new : List Row) (row : Row) → old ≡ new ++ row ∷ [] → is_sorted bytes_cmp (entries_of old) ≡ true → is_sorted bytes_cmp (entries_of new) ≡ true
+ascends-popped old new row is h = so-true _ (sorted-front (entries_of new) (entry_of row) (subst T (sym h ∙ ap (is_sorted bytes_cmp) (ap entries_of is ∙ map-append entry_of new (row ∷ []))) tt))

@@ -18,7 +18,7 @@ use Rattle.hx_ports.specs.declared.mem.Plan.{Plan}
 use Rattle.hx_ports.specs.declared.keeper.Meta.{Meta}
 use Rattle.hx_ports.specs.declared.std_stream.StdSink.{StdSink}
 use Rattle.hx_ports.specs.declared.std_stream.StdSource.{StdSource}
-use Rattle.hx_ports.specs.declared.sure.SureKeeper.{SureKeeper}
+use Rattle.hx_ports.specs.declared.sure_keeper.SureKeeper.{SureKeeper}
 use Rattle.hx_ports.specs.declared.sure.SureSink.{SureSink}
 use Rattle.hx_ports.specs.declared.sure.SureSource.{SureSource}
 use Rattle.hx_ports.specs.Keeping.{Kept}

@@ -4,7 +4,7 @@
 use Rattle.std.specs.Prelude.{ℕ, List, [], ◌∷◌, Some, None, if◌then◌else◌}
 use Rattle.std.specs.declared.option.Option.{Option}
 use Rattle.std.specs.FinMap as map
-use Rattle.hx_ports.specs.declared.sure.Before.{Before}
+use Rattle.hx_ports.specs.declared.row_map.Before.{Before}
 use Rattle.hx_ports.specs.Keeping.{Rows}
 
 -- the rows once a key that has a row has the one from before, or has none again

@@ -5,14 +5,19 @@
 //! `Std..` ports stand on any reader and writer. `Sure..` ports are in memory and never fail by themselves, and `Mem..` ports fail at the calls that a test names.
 #![tactic(auto)]
 
+mod given_rows;
 mod keeper;
 mod mem;
+mod row_key;
+mod row_map;
 mod std_stream;
 mod stream;
 mod sure;
+mod sure_keeper;
 
 pub use keeper::{Batch, KeepFault, Keeper, Meta, Row};
 pub use mem::{FailCommit, MemKeeper, MemSink, MemSource};
 pub use std_stream::{StdSink, StdSource};
 pub use stream::{ReadFault, Sink, Source, WriteFault};
-pub use sure::{SureKeeper, SureSink, SureSource};
+pub use sure::{SureSink, SureSource};
+pub use sure_keeper::SureKeeper;

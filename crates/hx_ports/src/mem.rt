@@ -11,8 +11,10 @@ ghost use Rattle.hx_ports.specs.Rows.{told, kept_of, entries_of};
 
 use crate::keeper::{Batch, KeepFault, Keeper, Meta, Row};
 use crate::stream::{ReadFault, Sink, Source, WriteFault};
-use crate::sure::{SureKeeper, SureSink, SureSource};
+use crate::sure::{SureSink, SureSource};
+use crate::sure_keeper::SureKeeper;
 use hx_object::NoMemory;
+use std::hash::RandomState;
 
 /// The numbers of the calls that fail, and how many calls there were.
 #[derive(Drop)]
@@ -185,6 +187,7 @@ impl MemKeeper {
         meta: Meta,
         fail_commits: Vec<FailCommit>,
         fail_reads: Vec<u64>,
+        keys: RandomState,
     ) -> Self
         ensures shown { ⟦<MemKeeper as Keeper>⟧.shown result ≡ record { place = None; kept = told rows.items meta; broken = false; faults = 0 } }
         ensures held { held_by (kept_by result) ≡ kept_of rows.items meta }
@@ -194,7 +197,7 @@ impl MemKeeper {
         ensures commits { commits_of result ≡ 0 }
     {
         MemKeeper {
-            keeper: SureKeeper::new(rows, meta),
+            keeper: SureKeeper::new(rows, meta, keys),
             fail_commits,
             reads: Plan::new(fail_reads),
             commits: 0,

@@ -1,6 +1,0 @@
-use Rattle.std.proofs.Common.{◌-◌}
-use Rattle.hx_ports.proofs.Placed.{SoFar}
-use Rattle.hx_ports.proofs.sure.ascend.Given as goal
-
-abbrev pub invariant-loop-i : goal.invariant-loop-i
-invariant-loop-i l = SoFar l.rows (l.i - 1)

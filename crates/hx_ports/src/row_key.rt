@@ -1,0 +1,103 @@
+// The key of a row.
+ghost use Rattle.std.specs.Prelude.{◌≡◌, [], ◌∷◌, IfOk, nat_eq, refl, Some};
+ghost use Rattle.std.specs.Cmp as laws_of;
+ghost use Rattle.std.specs.Cmp.Lexicographic.{pointwise, slice_cmp, nat_list_eq_equiv, nat_list_cmp_total, texts_ties, texts_po};
+ghost use Rattle.std.specs.Cmp.Rules.{hashing};
+ghost use Rattle.std.specs.Ordering.{nat_cmp};
+ghost use Rattle.std.proofs.Common.{rules};
+
+use hx_object::{List, NoMemory};
+use std::cmp::Ordering;
+use std::hash::{Hash, Hasher};
+use std::marker::Model;
+
+/// The key of a row, which contracts see as its bytes.
+#[derive(Drop)]
+pub(crate) struct RowKey {
+    bytes: List<u8>,
+}
+
+impl Model for RowKey {
+    ghost use Rattle.std.specs.Prelude.{List, ℕ};
+
+    ghost Value = { List ℕ };
+
+    ghost view = { λ k. k.bytes };
+}
+
+impl RowKey {
+    pub(crate) fn of(bytes: List<u8>) -> RowKey
+        ensures { result ≡ bytes }
+    {
+        RowKey { bytes }
+    }
+
+    pub(crate) fn into_bytes(self) -> List<u8>
+        ensures { result ≡ self }
+    {
+        let RowKey { bytes } = self;
+        bytes
+    }
+
+    /// A copy of the bytes.
+    pub(crate) fn copy(&self) -> Result<List<u8>, NoMemory>
+        ensures { IfOk result (λ bytes. bytes ≡ self.now) }
+    {
+        Ok(self.bytes.clone()?)
+    }
+
+    pub(crate) fn as_slice(&self) -> &[u8]
+        ensures { result.now ≡ self.now }
+    {
+        self.bytes.as_slice()
+    }
+}
+
+impl PartialEq for RowKey {
+    ghost eq = { pointwise nat_eq };
+
+    ghost laws = { laws_of.partial_equiv_from_equiv nat_list_eq_equiv };
+
+    fn eq(&self, other: &Self) -> bool {
+        self.as_slice() == other.as_slice()
+    }
+}
+
+impl Eq for RowKey {
+    ghost laws = { nat_list_eq_equiv };
+}
+
+impl PartialOrd for RowKey {
+    ghost partial_cmp = { λ x y. Some (slice_cmp nat_cmp x y) };
+
+    ghost laws = { texts_po };
+
+    fn partial_cmp(&self, other: &Self) -> Option<Ordering> {
+        Some(self.cmp(other))
+    }
+}
+
+impl Ord for RowKey {
+    ghost cmp = { slice_cmp nat_cmp };
+
+    ghost total = { nat_list_cmp_total };
+
+    ghost matches_partial_cmp = { λ x y. refl };
+
+    ghost matches_eq = { texts_ties };
+
+    fn cmp(&self, other: &Self) -> Ordering {
+        self.as_slice().cmp(other.as_slice())
+    }
+}
+
+impl Hash for RowKey {
+    // The bytes are fed at once.
+    ghost hash_input = { λ k. k ∷ [] };
+
+    ghost respects_eq = { Prim.search (hashing, rules) };
+
+    fn hash<H: Hasher>(&self, state: &mut H) {
+        state.write(self.as_slice());
+    }
+}
