@@ -35,25 +35,68 @@ const CUT: &str = "DELETE FROM objects WHERE key = ?1";
 
 const END: &str = "UPDATE meta SET version = ?1 WHERE one = 1";
 
-/// The statements that read.
-#[derive(Drop)]
-struct Reads {
-    head: Statement,
+/// The statements that read `meta` and count rows.
+struct Heads {
     count: Statement,
-    load: Statement,
+    head: Statement,
 }
 
-/// The statements that write.
-#[derive(Drop)]
-struct Writes {
+// Each `drop` of this crate is written out, so that a function that lets a value go does not prove again how each part is dropped. For the same reason statements lie two by two.
+impl Drop for Heads {
+    fn drop(self) {
+        let Heads { count: _, head: _ } = self;
+    }
+}
+
+/// The statements that put a row.
+struct Puts {
     replace: Statement,
     add: Statement,
+}
+
+impl Drop for Puts {
+    fn drop(self) {
+        let Puts { replace: _, add: _ } = self;
+    }
+}
+
+/// The statements that cut a row, and set the version at the end of a batch.
+struct Ends {
     cut: Statement,
     end: Statement,
 }
 
+impl Drop for Ends {
+    fn drop(self) {
+        let Ends { cut: _, end: _ } = self;
+    }
+}
+
+/// The statements that read.
+struct Reads {
+    heads: Heads,
+    load: Statement,
+}
+
+impl Drop for Reads {
+    fn drop(self) {
+        let Reads { heads: _, load: _ } = self;
+    }
+}
+
+/// The statements that write.
+struct Writes {
+    puts: Puts,
+    ends: Ends,
+}
+
+impl Drop for Writes {
+    fn drop(self) {
+        let Writes { puts: _, ends: _ } = self;
+    }
+}
+
 /// A database that has the tables `objects` and `meta`, with the statements over them.
-#[derive(Drop)]
 pub struct Database<S: Alter> {
     connection: Connection<S>,
     reads: Reads,
@@ -61,16 +104,22 @@ pub struct Database<S: Alter> {
     ghost ended: { connection.in_transaction ≡ false },
 }
 
+impl<S: Alter + Drop> Drop for Database<S> {
+    fn drop(self) {
+        let Database {
+            connection: _,
+            reads: _,
+            writes: _,
+        } = self;
+    }
+}
+
 impl<S: Alter + Drop> Database<S> {
     /// Makes the tables where the database has none.
     pub fn over(mut connection: Connection<S>) -> Result<Self, Refusal>
         requires { connection.in_transaction ≡ false }
     {
-        if is_empty(&mut connection)? {
-            make_tables(&mut connection)?;
-        }
-        let reads = prepare_reads(&mut connection)?;
-        let writes = prepare_writes(&mut connection)?;
+        let (reads, writes) = ready(&mut connection)?;
         Ok(Database {
             connection,
             reads,
@@ -80,20 +129,8 @@ impl<S: Alter + Drop> Database<S> {
 
     /// The number of rows, and the schema and the version, which are both 0 where `meta` has no row.
     pub fn meta(&mut self) -> Result<Meta, Refusal> {
-        let count = self.reads.count.query_row(&mut self.connection, &[])?;
-        let rows = number_at(&count, 0)?;
-        let Some(head) = first_row(&mut self.connection, &self.reads.head, &[])? else {
-            return Ok(Meta {
-                schema: 0,
-                version: 0,
-                rows,
-            });
-        };
-        Ok(Meta {
-            schema: number_at(&head, 0)?,
-            version: number_at(&head, 1)?,
-            rows,
-        })
+        let rows = count(&mut self.connection, &self.reads.heads.count)?;
+        head(&mut self.connection, &self.reads.heads.head, rows)
     }
 
     /// The first row whose key is greater.
@@ -101,10 +138,8 @@ impl<S: Alter + Drop> Database<S> {
         ensures { IfOk result (λ row. IfSome row (λ r. IsUtf8 r.key × IsUtf8 r.body)) }
     {
         let after = [ValueRef::Text(after)];
-        match first_row(&mut self.connection, &self.reads.load, &after)? {
-            Some(found) => Ok(Some(row_of(alloc, &found)?)),
-            None => Ok(None),
-        }
+        let found = self.reads.load.query_row(&mut self.connection, &after);
+        row_in(alloc, &found)
     }
 
     /// Writes the batch in one transaction, which is rolled back where it fails.
@@ -116,11 +151,24 @@ impl<S: Alter + Drop> Database<S> {
     }
 }
 
+/// Makes the tables where there are none, and prepares the statements.
+fn ready<S: Alter>(connection: &mut Connection<S>) -> Result<(Reads, Writes), Refusal>
+    requires { connection.old.in_transaction ≡ false }
+    ensures { connection.new.in_transaction ≡ false }
+{
+    if is_empty(connection)? {
+        make_tables(connection)?;
+    }
+    let reads = prepare_reads(connection)?;
+    let writes = prepare_writes(connection)?;
+    Ok((reads, writes))
+}
+
 fn is_empty<S: Alter>(connection: &mut Connection<S>) -> Result<bool, Refusal>
     ensures { connection.old.in_transaction ≡ false → connection.new.in_transaction ≡ false }
 {
-    let tables = connection.query_row(TABLES, &[])?;
-    Ok(number_at(&tables, 0)? == 0)
+    let tables = connection.query_row(TABLES, &[]);
+    Ok(number_in(&tables)? == 0)
 }
 
 /// Makes the tables and the row of `meta` in one transaction.
@@ -129,10 +177,17 @@ fn make_tables<S: Alter>(connection: &mut Connection<S>) -> Result<(), Refusal>
     ensures { connection.new.in_transaction ≡ false }
 {
     let mut transaction = connection.transaction();
+    write_tables(&mut transaction)?;
+    transaction.commit()?;
+    Ok(())
+}
+
+fn write_tables<S: Alter>(transaction: &mut Transaction<'_, S>) -> Result<(), Refusal>
+    ensures { transaction.new.conn.ghost_name ≡ transaction.old.conn.ghost_name }
+{
     transaction.execute(OBJECTS, &[])?;
     transaction.execute(META, &[])?;
     transaction.execute(FIRST, &[])?;
-    transaction.commit()?;
     Ok(())
 }
 
@@ -140,9 +195,17 @@ fn prepare_reads<S: Alter>(connection: &mut Connection<S>) -> Result<Reads, Refu
     ensures { connection.old.in_transaction ≡ false → connection.new.in_transaction ≡ false }
 {
     Ok(Reads {
-        head: connection.prepare(HEAD)?,
-        count: connection.prepare(COUNT)?,
+        heads: prepare_heads(connection)?,
         load: connection.prepare(LOAD)?,
+    })
+}
+
+fn prepare_heads<S: Alter>(connection: &mut Connection<S>) -> Result<Heads, Refusal>
+    ensures { connection.old.in_transaction ≡ false → connection.new.in_transaction ≡ false }
+{
+    Ok(Heads {
+        count: connection.prepare(COUNT)?,
+        head: connection.prepare(HEAD)?,
     })
 }
 
@@ -150,25 +213,81 @@ fn prepare_writes<S: Alter>(connection: &mut Connection<S>) -> Result<Writes, Re
     ensures { connection.old.in_transaction ≡ false → connection.new.in_transaction ≡ false }
 {
     Ok(Writes {
+        puts: prepare_puts(connection)?,
+        ends: prepare_ends(connection)?,
+    })
+}
+
+fn prepare_puts<S: Alter>(connection: &mut Connection<S>) -> Result<Puts, Refusal>
+    ensures { connection.old.in_transaction ≡ false → connection.new.in_transaction ≡ false }
+{
+    Ok(Puts {
         replace: connection.prepare(REPLACE)?,
         add: connection.prepare(ADD)?,
+    })
+}
+
+fn prepare_ends<S: Alter>(connection: &mut Connection<S>) -> Result<Ends, Refusal>
+    ensures { connection.old.in_transaction ≡ false → connection.new.in_transaction ≡ false }
+{
+    Ok(Ends {
         cut: connection.prepare(CUT)?,
         end: connection.prepare(END)?,
     })
 }
 
-/// The first row that a statement shows, where it shows one.
-fn first_row<S: Alter>(
-    connection: &mut Connection<S>,
-    statement: &Statement,
-    params: &[ValueRef<'_>],
-) -> Result<Option<sqlite::Row>, Refusal>
+/// How many rows there are.
+fn count<S: Alter>(connection: &mut Connection<S>, statement: &Statement) -> Result<u64, Refusal>
     ensures { connection.old.in_transaction ≡ false → connection.new.in_transaction ≡ false }
 {
-    match statement.query_row(connection, params) {
-        Ok(row) => Ok(Some(row)),
+    let counted = statement.query_row(connection, &[]);
+    number_in(&counted)
+}
+
+/// The row of `meta`, beside the number of rows.
+fn head<S: Alter>(
+    connection: &mut Connection<S>,
+    statement: &Statement,
+    rows: u64,
+) -> Result<Meta, Refusal>
+    ensures { connection.old.in_transaction ≡ false → connection.new.in_transaction ≡ false }
+{
+    let found = statement.query_row(connection, &[]);
+    meta_in(&found, rows)
+}
+
+/// The integer that is the only column of a row.
+fn number_in(found: &Result<sqlite::Row, Error>) -> Result<u64, Refusal> {
+    match found {
+        Ok(row) => number_at(row, 0),
+        Err(error) => Err(Refusal::from(*error)),
+    }
+}
+
+/// The schema and the version, which are both 0 where no row was found.
+fn meta_in(found: &Result<sqlite::Row, Error>, rows: u64) -> Result<Meta, Refusal> {
+    match found {
+        Ok(row) => Ok(Meta {
+            schema: number_at(row, 0)?,
+            version: number_at(row, 1)?,
+            rows,
+        }),
+        Err(Error::QueryReturnedNoRows) => Ok(Meta {
+            schema: 0,
+            version: 0,
+            rows,
+        }),
+        Err(error) => Err(Refusal::from(*error)),
+    }
+}
+
+fn row_in(alloc: Global, found: &Result<sqlite::Row, Error>) -> Result<Option<Row>, Refusal>
+    ensures { IfOk result (λ row. IfSome row (λ r. IsUtf8 r.key × IsUtf8 r.body)) }
+{
+    match found {
+        Ok(row) => Ok(Some(row_of(alloc, row)?)),
         Err(Error::QueryReturnedNoRows) => Ok(None),
-        Err(error) => Err(Refusal::from(error)),
+        Err(error) => Err(Refusal::from(*error)),
     }
 }
 
@@ -244,10 +363,10 @@ fn put_row<S: Alter>(
         ValueRef::Int(row.version.cast_signed()),
         ValueRef::Text(row.body.as_slice()),
     ];
-    if transaction.execute_prepared(&writes.replace, &values)? == 1 {
+    if transaction.execute_prepared(&writes.puts.replace, &values)? == 1 {
         return Ok(());
     }
-    one(transaction.execute_prepared(&writes.add, &values)?)
+    one(transaction.execute_prepared(&writes.puts.add, &values)?)
 }
 
 fn cut_rows<S: Alter>(
@@ -271,7 +390,7 @@ fn cut_row<S: Alter>(
     ensures { transaction.new.conn.ghost_name ≡ transaction.old.conn.ghost_name }
 {
     let values = [ValueRef::Text(key.as_slice())];
-    one(transaction.execute_prepared(&writes.cut, &values)?)
+    one(transaction.execute_prepared(&writes.ends.cut, &values)?)
 }
 
 /// Sets the version.
@@ -283,7 +402,7 @@ fn end<S: Alter>(
     ensures { transaction.new.conn.ghost_name ≡ transaction.old.conn.ghost_name }
 {
     let values = [ValueRef::Int(version.cast_signed())];
-    one(transaction.execute_prepared(&writes.end, &values)?)
+    one(transaction.execute_prepared(&writes.ends.end, &values)?)
 }
 
 /// A row is changed by its key, and so is the one of `meta`.

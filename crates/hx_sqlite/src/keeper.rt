@@ -12,13 +12,24 @@ use hx_ports::{Batch, KeepFault, Keeper, Meta, Row};
 /// A call before `attach` is a fault, and so is a value that isn't of its column's type. A number below 0 is told as one over 2^63 - 1, and a database without the row of `meta` has schema 0 and version 0.
 ///
 /// A commit that finds no memory was rolled back. One that fails otherwise breaks the keeper: the rows stay as they were while it lasts, and the next `attach` finds them so, or with the whole batch.
-#[derive(Drop)]
 pub struct SqlKeeper {
     rt: HostRuntime,
     place: Option<Place>,
     broken: bool,
     faults: u64,
     last_fault: Option<SqlFault>,
+}
+
+impl Drop for SqlKeeper {
+    fn drop(self) {
+        let SqlKeeper {
+            rt: _,
+            place: _,
+            broken: _,
+            faults: _,
+            last_fault: _,
+        } = self;
+    }
 }
 
 impl SqlKeeper {

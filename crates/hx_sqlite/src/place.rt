@@ -16,16 +16,30 @@ const PAGES: usize = 8_000;
 const LOG_PAGES: usize = 10_000;
 
 /// A path, and the database at it.
-#[derive(Drop)]
 pub struct Place {
     pub path: String,
     pub rows: Rows,
 }
 
-#[derive(Drop)]
+impl Drop for Place {
+    fn drop(self) {
+        let Place { path: _, rows: _ } = self;
+    }
+}
+
+/// A database is large: it lies in memory of its own, so that what holds one is small.
 pub enum Rows {
-    Memory(Database<MemStore>),
-    File(Database<FileStore<File>>),
+    Memory(Box<Database<MemStore>>),
+    File(Box<Database<FileStore<File>>>),
+}
+
+impl Drop for Rows {
+    fn drop(self) {
+        match self {
+            Rows::Memory(_database) => {}
+            Rows::File(_database) => {}
+        }
+    }
 }
 
 /// Opens the file at the path, or makes it. The empty path opens a database in memory.
@@ -39,15 +53,31 @@ pub fn open(rt: &HostRuntime, path: &str) -> Result<Place, Refusal>
 
 fn open_rows(rt: &HostRuntime, path: &str) -> Result<Rows, Refusal> {
     if path.is_empty() {
-        let connection = Connection::open_in_memory(rt.alloc())?;
-        return Ok(Rows::Memory(Database::over(connection)?));
+        Ok(Rows::Memory(open_memory(rt.alloc())?))
+    } else {
+        Ok(Rows::File(open_file(rt, path)?))
     }
-    let connection = open_file(rt, path)?;
-    Ok(Rows::File(Database::over(connection)?))
+}
+
+fn open_memory(alloc: Global) -> Result<Box<Database<MemStore>>, Refusal> {
+    let connection = Connection::open_in_memory(alloc)?;
+    boxed(alloc, Database::over(connection)?)
+}
+
+fn open_file(rt: &HostRuntime, path: &str) -> Result<Box<Database<FileStore<File>>>, Refusal> {
+    let connection = connect(rt, path)?;
+    boxed(rt.alloc(), Database::over(connection)?)
+}
+
+fn boxed<T: Drop>(alloc: Global, value: T) -> Result<Box<T>, Refusal> {
+    match Box::new(alloc, value) {
+        Ok(place) => Ok(place),
+        Err(_) => Err(Refusal::NoMemory),
+    }
 }
 
 /// A torn write is supposed to leave each byte old or new, so that a commit syncs once.
-fn open_file(rt: &HostRuntime, path: &str) -> Result<Connection<FileStore<File>>, Refusal>
+fn connect(rt: &HostRuntime, path: &str) -> Result<Connection<FileStore<File>>, Refusal>
     ensures { IfOk result (λ connection. connection.in_transaction ≡ false) }
 {
     let files = sqlite_std_file::open(rt, path, Unknown)?;
