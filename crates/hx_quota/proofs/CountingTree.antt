@@ -3,6 +3,7 @@
 --     IsEmptied              nothing is charged in a namespace that goes
 --     once_names, once_ascending      so it is where the names of the tree are distinct, and those are where they are in order
 --     added, moved, terminated, removed      the counters may be changed so, and then count the tree after the change
+--     replanted              a namespace that gets the parent that it has leaves all as it was
 --     counts_tree            the same of any change
 --     fits_tree, ordered_tree         all still fits then, and the entries stay in order
 --     ascends_tree           the tree stays in order
@@ -23,7 +24,8 @@ use Rattle.hx_model.specs.Moves.{chain_from}
 use Rattle.hx_model.specs.State.{Objects}
 use Rattle.hx_model.specs.declared.node.Node.{Node}
 use Rattle.hx_model.specs.declared.resource.Resource.{Resource}
-use Rattle.hx_model.proofs.Moving.{changed_node, moved_there, moved_parent, other_parent}
+use Rattle.hx_model.proofs.Climbing.{is_same}
+use Rattle.hx_model.proofs.Moving.{with_that, changed_node, moved_node, moved_there, moved_parent, other_parent}
 use Rattle.hx_model.proofs.Opening.{chain_first}
 use Rattle.hx_model.proofs.Walking.{chain_missing, IsDistinct-filter}
 use Rattle.hx_quota.specs.declared.change.CounterChange.{CounterChange}
@@ -76,6 +78,30 @@ ascends_tree (tree.SetParent name parent) f up = ascends-with_changed name _ f �
 ascends_tree (tree.SetTerminating name) f up = ascends-with_changed name _ f ∙ up
 ascends_tree (tree.Remove name) f up = ascends-without_node name f up
 
+-- ---- changes that leave all parents
+
+pub same_parents_ending : (f : Forest) (n m : List ℕ) → parent_of (with_terminating n f) m ≡ parent_of f m
+same_parents_ending f n m = ap (λ (o : Option Node). option_and_then (λ node. node.parent) o) (changed_node n (λ (node : Node). record node { terminating = true }) f m) ∙ either (bytes_eq n m) (node_of f m)
+  where
+    either : (b : Bool) (o : Option Node) → option_and_then (λ node. node.parent) (cond b (option_map (λ (node : Node). record node { terminating = true }) o) o) ≡ option_and_then (λ (node : Node). node.parent) o
+    either true None = refl
+    either true (Some node) = refl
+    either false o = refl
+
+-- the parent that a namespace has leaves all parents
+pub same_parents : (f : Forest) (n : List ℕ) (parent : Option (List ℕ)) → parent_of f n ≡ parent → (m : List ℕ) → parent_of (forest_with_parent n parent f) m ≡ parent_of f m
+same_parents f n parent is m = at (bytes_eq n m) refl
+  where
+    at : (b : Bool) → bytes_eq n m ≡ b → parent_of (forest_with_parent n parent f) m ≡ parent_of f m
+    at true same = subst (λ (k : List ℕ). parent_of (forest_with_parent n parent f) k ≡ parent_of f k) (is_same n m same)
+        (ap (λ (o : Option Node). option_and_then (λ node. node.parent) o) (moved_node f n parent n) ∙ here (node_of f n) (bytes_eq n n) is ∙ sym is)
+      where
+        here : (o : Option Node) (b : Bool) → option_and_then (λ node. node.parent) o ≡ parent → option_and_then (λ node. node.parent) (cond b (option_map (with_that parent) o) o) ≡ parent
+        here None true h = h
+        here (Some node) true h = refl
+        here o false h = h
+    at false out = other_parent f n parent m out
+
 -- ---- where the same namespaces are there
 
 there_alike : (f g : Forest) → ((m : List ℕ) → is_there g m ≡ is_there f m) → (o : Option (List ℕ)) → option_and_then (if_there g) o ≡ option_and_then (if_there f) o
@@ -116,12 +142,21 @@ module _ (objects : Objects) (f : Forest) (es : Entries) (counts : Counts object
         let counts_then : Counts objects turned (with_parent n (option_and_then (if_there f) parent) es) = record { there = λ m. has.there m ∙ sym (moved_there f n parent m); parents = has.parents; own = has.own } in
         subst (λ b. AreMade (cond b (move ∷ []) [])) (sym there) (((counts.there n ∙ there, chains objects f es counts n ∙ chain_first f n there, above parent), tt), counts_then)
 
+  -- ---- a namespace gets the parent that it has
+
+  pub replanted : (n : List ℕ) (parent : Option (List ℕ)) → parent_of f n ≡ parent → Counts objects (forest_with_parent n parent f) es
+  replanted n parent is = record {
+    there = λ m. counts.there m ∙ sym (moved_there f n parent m);
+    parents = λ m. counts.parents m ∙ sym (there_alike f (forest_with_parent n parent f) (moved_there f n parent) (parent_of (forest_with_parent n parent f) m) ∙ ap (λ (o : Option (List ℕ)). option_and_then (if_there f) o) (same_parents f n parent is m));
+    own = counts.own;
+  }
+
   -- ---- a namespace is on its way out
 
   pub terminated : (n : List ℕ) → Counts objects (with_terminating n f) es
   terminated n = record {
     there = λ m. counts.there m ∙ sym (same_there m);
-    parents = λ m. counts.parents m ∙ sym (there_alike f (with_terminating n f) same_there (parent_of (with_terminating n f) m) ∙ ap (λ (o : Option (List ℕ)). option_and_then (if_there f) o) (same_parent m));
+    parents = λ m. counts.parents m ∙ sym (there_alike f (with_terminating n f) same_there (parent_of (with_terminating n f) m) ∙ ap (λ (o : Option (List ℕ)). option_and_then (if_there f) o) (same_parents_ending f n m));
     own = counts.own;
   }
     where
@@ -129,14 +164,6 @@ module _ (objects : Objects) (f : Forest) (es : Entries) (counts : Counts object
       same_there m = ap is_some (changed_node n (λ (node : Node). record node { terminating = true }) f m) ∙ either (bytes_eq n m) (node_of f m)
         where
           either : (b : Bool) (o : Option Node) → is_some (cond b (option_map (λ (node : Node). record node { terminating = true }) o) o) ≡ is_some o
-          either true None = refl
-          either true (Some node) = refl
-          either false o = refl
-
-      same_parent : (m : List ℕ) → parent_of (with_terminating n f) m ≡ parent_of f m
-      same_parent m = ap (λ (o : Option Node). option_and_then (λ node. node.parent) o) (changed_node n (λ (node : Node). record node { terminating = true }) f m) ∙ either (bytes_eq n m) (node_of f m)
-        where
-          either : (b : Bool) (o : Option Node) → option_and_then (λ node. node.parent) (cond b (option_map (λ (node : Node). record node { terminating = true }) o) o) ≡ option_and_then (λ (node : Node). node.parent) o
           either true None = refl
           either true (Some node) = refl
           either false o = refl

@@ -13,6 +13,10 @@ pub mod Adjusting
 pub mod Keeping
 pub mod Shifted
 pub mod Taken
+pub mod Ending
+pub mod Indexed
+pub mod Formed
+pub mod Rounds
 pub mod Totals
 pub mod CountingRegular
 pub mod CountingSums
@@ -23,4 +27,5 @@ pub mod CountingTree
 pub mod CountingMoves
 pub mod CountingAdded
 pub mod CountingRemoved
+pub mod DeltasAmong
 pub mod Staged

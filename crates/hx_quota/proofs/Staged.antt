@@ -1,6 +1,5 @@
 -- What is staged counts what is there then.
 --     ready_next                      staged changes are ready after the first one
---     deltas_same, skip_delta         deltas of the resources of a kind are all;  past one that doesn't change
 --     filled, empty, one_item         lists by their lengths
 --     on_ok                           what holds where a call succeeds
 --     IsMade                          changes may be made, and entries count objects and a tree then
@@ -10,34 +9,28 @@
 --     uncharged_housed, uncharged_tells      by writes of kinds that are charged nothing
 --     tells_none                      nothing is counted in the beginning
 --     may_some .. used_some           the same of entries that may count no more
-use Rattle.std.proofs.Common.{◌≡◌, ◌≢◌, ℕ, ◌+◌, ◌≤◌, ◌<◌, Bool, true, false, cond, not, ◌&&◌, Option, Some, None, List, [], ◌∷◌, filter, map, length, drop, get_or, IfSome, refl, sym, ap, subst, ◌∙◌, inl, inr, ◌⊎◌, arith, true≢false}
-use Rattle.std.specs.Prelude.{nat_eq, ◌==◌, is_some, slice_index, sum_by, Result, Ok, Err, OnOk, IsSomeAnd}
+use Rattle.std.proofs.Common.{◌≡◌, ◌≢◌, ℕ, ◌+◌, ◌≤◌, Bool, true, false, cond, not, Option, Some, None, List, [], ◌∷◌, length, get_or, IfSome, refl, sym, ap, subst, ◌∙◌, inl, inr, ◌⊎◌, arith, true≢false}
+use Rattle.std.specs.Prelude.{nat_eq, is_some, slice_index, sum_by, Result, Ok, Err, OnOk, IsSomeAnd}
 use Rattle.std.specs.List.{AllByRecursion, list_all, list_any}
 use Rattle.std.specs.Option.{option_map_or}
 use Rattle.std.proofs.lemmas.Bool.{and_parts, eqb-true}
-use Rattle.std.proofs.lemmas.Cmp.{nat_eq_equiv}
-use Rattle.std.proofs.lemmas.List.{at_drop_more}
-use Rattle.hx_object.specs.Kinds.{number_of}
 use Rattle.hx_object.specs.declared.kind.Kind.{Kind}
-use Rattle.hx_object.specs.declared.kind.Kind.TheVariants as of
-use Rattle.hx_object.specs.declared.object.Id.{Id}
 use Rattle.hx_object.specs.declared.object.Object.{Object}
 use Rattle.hx_forest.specs.Kept.{changed_by, changed_by_all, MayChange as MayChangeTree}
 use Rattle.hx_forest.specs.declared.change.Change.{Change as TreeChange}
 use Rattle.hx_forest.specs.declared.change.Change.TheVariants as tree
 use Rattle.hx_forest.proofs.Nodes.{node_of-without_node}
-use Rattle.hx_model.specs.Charges.{all_resources, charge_of, kind_for, resources_for}
-use Rattle.hx_model.specs.Forest.{Forest, is_there, node_of, chain_of, tail_of}
+use Rattle.hx_model.specs.Cases.{same_name}
+use Rattle.hx_model.specs.Charges.{charge_of, resources_for}
+use Rattle.hx_model.specs.Forest.{Forest, is_there, node_of, parent_of, chain_of, tail_of}
 use Rattle.hx_model.specs.First.{so}
 use Rattle.hx_model.specs.Quotas.{charge_before, charge_below}
 use Rattle.hx_model.specs.State.{Objects, object_at, ascends, after_writes}
 use Rattle.hx_model.specs.declared.key.Write.{Write}
 use Rattle.hx_model.specs.declared.key.Write.TheVariants.{Put, Cut}
 use Rattle.hx_model.specs.declared.resource.Resource.{Resource}
-use Rattle.hx_model.specs.declared.resource.Resource.TheVariants.{Pods}
-use Rattle.hx_model.proofs.Charging.{charged_elsewhere, uncharged}
-use Rattle.hx_model.proofs.Climbing.{same_itself}
-use Rattle.hx_model.proofs.Objects.{found_id}
+use Rattle.hx_model.proofs.Charging.{uncharged}
+use Rattle.hx_model.proofs.Climbing.{is_same, same_itself}
 use Rattle.hx_model.proofs.Opening.{chain_first}
 use Rattle.hx_model.proofs.Writes.{ascends_after}
 use Rattle.hx_store.specs.Changes.{id_of, object_of}
@@ -45,14 +38,15 @@ use Rattle.hx_quota.specs.declared.change.CounterChange.{CounterChange}
 use Rattle.hx_quota.specs.declared.entry.Delta.{Delta}
 use Rattle.hx_quota.specs.declared.entry.Entry.{Entry}
 use Rattle.hx_quota.specs.Counters.{Entries, CountersView, entry_of, place_of, own_of, own_in, with_shifted, sums_of, used_in}
-use Rattle.hx_quota.specs.Counting.{Counts, AreRegular, own_charge, changed, changed_all, MayChangeAll, changes_of_tree, deltas_of, delta_by, is_recharged}
-use Rattle.hx_quota.specs.SubtreeUsage.{Tells, IsCounted, HasTotals, IsReady, is_any, is_charged_kind, are_uncharged, is_staying, deltas_among, MayShift, IsHoused, AreOnce}
+use Rattle.hx_quota.specs.Counting.{Counts, AreRegular, own_charge, changed, changed_all, MayChangeAll, changes_of_tree, deltas_of}
+use Rattle.hx_quota.specs.SubtreeUsage.{Tells, IsCounted, HasTotals, IsReady, is_any, is_charged_kind, are_uncharged, is_staying, MayShift, IsHoused, AreOnce}
 use Rattle.hx_quota.proofs.CountingChains.{chains}
 use Rattle.hx_quota.proofs.CountingDeltas.{apart_deltas, old_deltas, deltas_none}
 use Rattle.hx_quota.proofs.CountingObjects.{ChargesMove, KeepsCharge, counts_then, put_moves, cut_moves, charged_there, own_alike, counts_none, writes_alike, writes_unchanged, put_unchanged, cut_unchanged}
 use Rattle.hx_quota.proofs.CountingRegular.{in_order, regular_none, regular_changed, regular_all, regular_shifted}
 use Rattle.hx_quota.proofs.CountingSums.{used_of_counts}
-use Rattle.hx_quota.proofs.CountingTree.{IsEmptied, counts_tree, terminated}
+use Rattle.hx_quota.proofs.CountingTree.{IsEmptied, counts_tree, replanted, same_parents, same_parents_ending, terminated}
+use Rattle.hx_quota.proofs.DeltasAmong.{found_kind}
 
 -- what holds where a call succeeds
 pub on_ok : {A E P Q : Type 0} (r : Result A E) → (P → Q) → OnOk r P → OnOk r Q
@@ -102,57 +96,6 @@ ready_next counters now totals after c rest ready is whole room = record {
     less : (a b d : ℕ) → length (c ∷ rest) ≤ b → b ≤ d + 1 → length rest ≤ d
     less a b d e f = omega (arith, e, f)
 
--- ---- deltas
-
-filter_again : {A : Type 0} (p q : A → Bool) → ((r : A) → q r ≡ false → p r ≡ false) → (rs : List A) → filter p rs ≡ filter p (filter q rs)
-filter_again p q none [] = refl
-filter_again p q none (r ∷ rs) = at (q r) refl (filter_again p q none rs)
-  where
-    at : (b : Bool) → q r ≡ b → filter p rs ≡ filter p (filter q rs) → cond (p r) (r ∷ filter p rs) (filter p rs) ≡ filter p (cond b (r ∷ filter q rs) (filter q rs))
-    at true is rest = ap (λ xs. cond (p r) (r ∷ xs) xs) rest
-    at false out rest = ap (λ b. cond b (r ∷ filter p rs) (filter p rs)) (none r out) ∙ rest
-
-abbrev is_of_kind : Kind → Resource → Bool
-is_of_kind kind r = number_of (kind_for r) == number_of kind
-
-resources_by : (kind : Kind) → filter (is_of_kind kind) all_resources ≡ resources_for kind
-resources_by of.Pod = refl
-resources_by _ = refl
-
-with_true : (b : Bool) → b ≡ false → (b && true) ≡ false
-with_true b e = ap (λ x. x && true) e
-
--- what is there of a kind is charged nothing for the resources of others
-charged_other : (kind : Kind) (o : Option Object) → IfSome o (λ x. x.id.kind ≡ kind) → (r : Resource) → is_of_kind kind r ≡ false → charge_before o r ≡ 0
-charged_other kind None is r other = refl
-charged_other kind (Some x) is r other = charged_elsewhere r x (with_true (number_of (kind_for r) == number_of x.id.kind) (ap (λ (k : Kind). number_of (kind_for r) == number_of k) is ∙ other))
-
-found_kind : (objects : Objects) (id : Id) (o : Option Object) → object_at objects id ≡ o → IfSome o (λ x. x.id.kind ≡ id.kind)
-found_kind objects id None is = tt
-found_kind objects id (Some x) is = ap (λ (k : Id). k.kind) (sym (found_id objects id x is))
-
-put_kind : (w : Write) → IfSome (object_of w) (λ x. x.id.kind ≡ (id_of w).kind)
-put_kind (Put x) = refl
-put_kind (Cut id) = tt
-
-pub deltas_same : (objects : Objects) (w : Write) → deltas_among (resources_for (id_of w).kind) (object_at objects (id_of w)) (object_of w) ≡ deltas_of (object_at objects (id_of w)) (object_of w)
-deltas_same objects w =
-    let old = object_at objects (id_of w) in
-    let new = object_of w in
-    let kind = (id_of w).kind in
-    ap (λ rs. map (delta_by old new) (filter (is_recharged old new) rs)) (sym (resources_by kind))
-    ∙ sym (ap (map (delta_by old new)) (filter_again (is_recharged old new) (is_of_kind kind) (λ r other.
-    let before : charge_before old r ≡ 0 = charged_other kind old (found_kind objects (id_of w) old refl) r other in
-    let after : charge_before new r ≡ 0 = charged_other kind new (put_kind w) r other in
-    λ i. not (nat_eq (before i) (after i))) all_resources))
-
--- the deltas of the resources that are left, past one that doesn't change
-pub skip_delta : (rs : List Resource) (i : ℕ) (old new : Option Object) (a b : ℕ) → i < length rs → a ≡ charge_before old (get_or rs i Pods) → b ≡ charge_before new (get_or rs i Pods) → a ≡ b → deltas_among (drop i rs) old new ≡ deltas_among (drop (i + 1) rs) old new
-skip_delta rs i old new a b within is is_then same =
-    let still : is_recharged old new (get_or rs i Pods) ≡ false = ap not (ap (nat_eq (charge_before old (get_or rs i Pods))) (sym is_then ∙ sym same ∙ is) ∙ nat_eq_equiv.refl (charge_before old (get_or rs i Pods))) in
-    at_drop_more (λ xs. deltas_among xs old new) rs i Pods within
-    ∙ ap (λ b. map (delta_by old new) (cond b (get_or rs i Pods ∷ filter (is_recharged old new) (drop (i + 1) rs)) (filter (is_recharged old new) (drop (i + 1) rs)))) still
-
 -- ---- changes of the tree
 
 -- changes may be made, and entries count objects and a tree then
@@ -170,13 +113,27 @@ tells_tree objects f c es may once housed tells =
     let made = counts_tree objects f es tells.counts (in_order es tells.regular) c may once (emptied objects f c housed) in
     (made.0, record { regular = regular_all (changes_of_tree f c) es tells.regular; counts = made.1 })
 
--- several that leave all parents
-pub tells_staying : (objects : Objects) (f : Forest) (es : Entries) (cs : List TreeChange) → list_all is_staying cs ≡ true → Tells objects f es → Tells objects (changed_by_all cs f) es
-tells_staying objects f es [] stay tells = tells
-tells_staying objects f es (tree.Add name node ∷ cs) stay tells = absurd (true≢false (sym stay))
-tells_staying objects f es (tree.SetParent name parent ∷ cs) stay tells = absurd (true≢false (sym stay))
-tells_staying objects f es (tree.SetTerminating name ∷ cs) stay tells = tells_staying objects (changed_by (tree.SetTerminating name) f) es cs stay (record { regular = tells.regular; counts = terminated objects f es tells.counts name })
-tells_staying objects f es (tree.Remove name ∷ cs) stay tells = absurd (true≢false (sym stay))
+same_names : (a b : Option (List ℕ)) → same_name a b ≡ true → a ≡ b
+same_names None None is = refl
+same_names None (Some n) is = absurd (true≢false (sym is))
+same_names (Some n) None is = absurd (true≢false (sym is))
+same_names (Some n) (Some m) is = ap Some (is_same n m is)
+
+-- several that leave all parents, which are those of f
+tells_left : (objects : Objects) (f g : Forest) (es : Entries) (cs : List TreeChange) → list_all (is_staying f) cs ≡ true → ((m : List ℕ) → parent_of g m ≡ parent_of f m) → Tells objects g es → Tells objects (changed_by_all cs g) es
+tells_left objects f g es [] stay same tells = tells
+tells_left objects f g es (tree.Add name node ∷ cs) stay same tells = absurd (true≢false (sym stay))
+tells_left objects f g es (tree.SetParent name parent ∷ cs) stay same tells =
+    let parts = and_parts (same_name (parent_of f name) parent) (list_all (is_staying f) cs) stay in
+    let is : parent_of g name ≡ parent = same name ∙ same_names (parent_of f name) parent parts.0 in
+    tells_left objects f (changed_by (tree.SetParent name parent) g) es cs parts.1 (λ m. same_parents g name parent is m ∙ same m)
+    (record { regular = tells.regular; counts = replanted objects g es tells.counts name parent is })
+tells_left objects f g es (tree.SetTerminating name ∷ cs) stay same tells =
+    tells_left objects f (changed_by (tree.SetTerminating name) g) es cs stay (λ m. same_parents_ending g name m ∙ same m) (record { regular = tells.regular; counts = terminated objects g es tells.counts name })
+tells_left objects f g es (tree.Remove name ∷ cs) stay same tells = absurd (true≢false (sym stay))
+
+pub tells_staying : (objects : Objects) (f : Forest) (es : Entries) (cs : List TreeChange) → list_all (is_staying f) cs ≡ true → Tells objects f es → Tells objects (changed_by_all cs f) es
+tells_staying objects f es cs stay tells = tells_left objects f f es cs stay (λ m. refl) tells
 
 -- ---- one write
 
@@ -302,7 +259,7 @@ then_some objects f c may once housed None tells changes is next made = absurd t
 then_some objects f c may once housed (Some es) tells changes is next made =
     subst (IsCounted objects (changed_by c f)) (sym made) (subst (λ cs. Tells objects (changed_by c f) (changed_all cs es)) (sym is) (tells_tree objects f c es may once housed tells).1)
 
-pub staying_some : (objects : Objects) (f : Forest) (cs : List TreeChange) → list_all is_staying cs ≡ true → (o next : Option Entries) → IsSomeAnd o (Tells objects f) → next ≡ o → IsCounted objects (changed_by_all cs f) next
+pub staying_some : (objects : Objects) (f : Forest) (cs : List TreeChange) → list_all (is_staying f) cs ≡ true → (o next : Option Entries) → IsSomeAnd o (Tells objects f) → next ≡ o → IsCounted objects (changed_by_all cs f) next
 staying_some objects f cs stay None next tells is = absurd tells
 staying_some objects f cs stay (Some es) next tells is = subst (IsCounted objects (changed_by_all cs f)) (sym is) (tells_staying objects f es cs stay tells)
 

@@ -3,3 +3,4 @@ pub mod Counting
 pub mod Limiting
 pub mod Inside
 pub mod SubtreeUsage
+pub mod Anew

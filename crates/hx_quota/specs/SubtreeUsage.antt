@@ -5,7 +5,7 @@
 --     IsReady                staged changes may be made: there is room for them
 --     is_charged_kind        objects of a kind may be charged
 --     are_uncharged          writes of other kinds
---     is_staying             a change of the tree that leaves all parents
+--     is_staying             a change of the tree that leaves all parents of a forest
 --     AreOnce                each that names a namespace that comes or goes is there once
 --     deltas_among           what is charged before and then, of some resources
 --     MayShift               what a shift needs beside that it fits
@@ -20,8 +20,9 @@ use Rattle.hx_object.specs.declared.object.Object.{Object}
 use Rattle.hx_forest.specs.Kept.{changed_by_all, MayChangeAll as MayChangeTree}
 use Rattle.hx_forest.specs.declared.change.Change.{Change as TreeChange}
 use Rattle.hx_forest.specs.declared.change.Change.TheVariants as tree
+use Rattle.hx_model.specs.Cases.{same_name}
 use Rattle.hx_model.specs.Charges.{resources_for}
-use Rattle.hx_model.specs.Forest.{Forest, is_there, children_of}
+use Rattle.hx_model.specs.Forest.{Forest, is_there, parent_of, children_of}
 use Rattle.hx_model.specs.State.{Objects, ascends, after_writes}
 use Rattle.hx_model.specs.declared.key.Write.{Write}
 use Rattle.hx_model.specs.declared.resource.Resource.{Resource}
@@ -80,9 +81,10 @@ abbrev pub are_uncharged : List Write → Bool
 are_uncharged writes = list_all (λ w. not (is_charged_kind (id_of w).kind)) writes
 
 -- which namespaces are there, and their parents, stay
-abbrev pub is_staying : TreeChange → Bool
-is_staying (tree.SetTerminating name) = true
-is_staying _ = false
+abbrev pub is_staying : Forest → TreeChange → Bool
+is_staying f (tree.SetTerminating name) = true
+is_staying f (tree.SetParent name parent) = same_name (parent_of f name) parent
+is_staying f _ = false
 
 -- each that names a namespace that comes or goes is there once
 abbrev pub AreOnce : Forest → TreeChange → Type 0

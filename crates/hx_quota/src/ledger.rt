@@ -5,8 +5,10 @@ ghost use Rattle.hx_model.specs.Forest.{subtree_of};
 ghost use Rattle.hx_model.specs.declared.resource.Resource.{Resource};
 ghost use Rattle.hx_quota.specs.Counters.{entry_of, tree_of, own_in, with_entry, new_entry, without_entry, with_parent, with_shifted, sums_of, IsChain, IsBehind, IsAbove, AreApart, HaveOld, AllFit};
 ghost use Rattle.hx_quota.specs.Inside.{entries_of, IsKept};
+ghost use Rattle.hx_quota.specs.Anew.{AllEnd};
 
 use crate::entry::{Delta, Entry};
+use crate::forming::form_anew;
 use crate::places::{Place, PlaceMap, adjust_along, set_parent, shift_own, take_over};
 use hx_model::Resource;
 use hx_object::{NoMemory, Text};
@@ -18,7 +20,7 @@ use std::hash::RandomState;
 #[derive(Drop)]
 pub(crate) struct Ledger {
     pub(crate) places: PlaceMap,
-    /// The sums of the places are those of their subtrees. This is lost where a move makes or parts a cycle.
+    /// The sums of the places are those of their subtrees. This is lost where a move makes a cycle, and is so again after a move that leaves none.
     pub(crate) summed: bool,
 }
 
@@ -94,6 +96,8 @@ impl Ledger {
     }
 
     /// Gives a namespace another parent, or none, and takes what it has with all below it from the namespaces that were above it to those that are.
+    ///
+    /// Where that parts or makes a cycle, or one was there before, all sums are formed anew, if each walk up the parents ends then. It takes as many steps as all chains together have members, and no memory. No other move does so.
     pub(crate) fn move_subtree(
         &mut self,
         moved: &Text,
@@ -109,13 +113,15 @@ impl Ledger {
         ensures entries { entries_of self.new ≡ with_parent moved.now parent (entries_of self.old) }
         ensures room { spare self.old.places ≤ spare self.new.places }
         ensures kept { IsKept self.new }
+        ensures again { AllEnd (tree_of (entries_of self.new)) → self.new.summed ≡ true }
     {
         if self.is_plain_move(moved, parent.as_ref()) {
             take_over(&mut self.places, moved, parent.as_ref(), from, to);
             set_parent(&mut self.places, moved, parent);
         } else {
-            self.summed = false;
             set_parent(&mut self.places, moved, parent);
+            let ended = form_anew(&mut self.places);
+            self.summed = ended;
         }
     }
 }

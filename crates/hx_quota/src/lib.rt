@@ -7,6 +7,7 @@ mod change;
 mod changing;
 mod counters;
 mod entry;
+mod forming;
 mod ledger;
 mod limiting;
 mod places;

@@ -45,7 +45,7 @@ pub(crate) fn adjust_along(places: &mut PlaceMap, names: &[Text], change: &Chang
 }
 
 /// Changes sums.
-fn adjust(sums: &mut [u128; 15], change: &Change)
+pub(crate) fn adjust(sums: &mut [u128; 15], change: &Change)
     requires { MayAdjust change.now.take change.now.give sums.old }
     ensures { (k : ℕ) → k < 15 → slice_index sums.new k ≡ adjusted change.now.take change.now.give sums.old k }
 {

@@ -15,7 +15,7 @@ use crate::planting::changes_of_tree;
 use crate::subtrees::Usage;
 use hx_charge::{charge_before, resources_for};
 use hx_forest::{Change as TreeChange, Forest};
-use hx_model::Resource;
+use hx_model::{Resource, is_same_name};
 use hx_object::{Kind, List, NoMemory, Object, Shared, Text};
 use hx_store::{Change, Store};
 use std::alloc::Global;
@@ -35,7 +35,7 @@ impl Usage {
         ensures now { self.new.now ≡ self.old.now }
         ensures next { OnOk result (IsCounted store.now.objects (changed_by_all tree.now forest.now.nodes) self.new.next) }
     {
-        if leaves_parents(tree) {
+        if leaves_parents(forest, tree) {
             return Ok(());
         }
         if let [change] = tree {
@@ -132,16 +132,24 @@ impl Usage {
 }
 
 /// Whether changes of the tree leave the namespaces and their parents as they are.
-fn leaves_parents(tree: &[TreeChange]) -> bool
-    ensures { result ≡ list_all is_staying tree.now }
+fn leaves_parents(forest: &Forest, tree: &[TreeChange]) -> bool
+    ensures { result ≡ list_all (is_staying forest.now.nodes) tree.now }
 {
-    tree.iter().all(is_staying)
+    tree.iter().all(|change| is_staying(forest, change))
 }
 
-fn is_staying(change: &TreeChange) -> bool
-    ensures { result ≡ is_staying change.now }
+/// Whether a change of the tree does, as one does that gives a namespace the parent that it has.
+fn is_staying(forest: &Forest, change: &TreeChange) -> bool
+    ensures { result ≡ is_staying forest.now.nodes change.now }
 {
-    matches!(change, TreeChange::SetTerminating { name: _ })
+    match change {
+        TreeChange::SetTerminating { name: _ } => true,
+        TreeChange::SetParent { name, parent } => {
+            is_same_name(forest.parent(name), parent.as_ref())
+        }
+        TreeChange::Add { name: _, node: _ } => false,
+        TreeChange::Remove { name: _ } => false,
+    }
 }
 
 /// Whether writes are of kinds that are charged nothing.

@@ -1,6 +1,6 @@
 use Rattle.std.proofs.Common.{ap, sym, ◌∙◌, ◌++◌, List, option_copied}
 use Rattle.hx_quota.specs.declared.entry.Delta.{Delta}
-use Rattle.hx_quota.proofs.Staged.{skip_delta}
+use Rattle.hx_quota.proofs.DeltasAmong.{skip_delta}
 use Rattle.hx_quota.proofs.staging.deltas_among.Goals as goal
 
 pub loop-resource-preserved-then-before-after : goal.loop-resource-preserved-then-before-after

@@ -4,7 +4,7 @@ use Rattle.hx_model.specs.Charges.{resources_for}
 use Rattle.hx_model.specs.State.{object_at}
 use Rattle.hx_quota.specs.declared.entry.Delta.{Delta}
 use Rattle.hx_quota.specs.SubtreeUsage.{deltas_among}
-use Rattle.hx_quota.proofs.Staged.{deltas_same}
+use Rattle.hx_quota.proofs.DeltasAmong.{deltas_same}
 use Rattle.hx_quota.proofs.staging.deltas_of.Goals as goal
 
 pub returns : goal.returns

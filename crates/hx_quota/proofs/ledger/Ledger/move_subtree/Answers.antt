@@ -1,6 +1,8 @@
 use Rattle.std.proofs.Common.{Option, List, ℕ, subst}
-use Rattle.hx_quota.specs.Counters.{with_parent}
-use Rattle.hx_quota.specs.Inside.{entries_of, HasUsage}
+use Rattle.hx_quota.specs.Counters.{Entries, tree_of, with_parent}
+use Rattle.hx_quota.specs.Inside.{entries_of, ordered, HasUsage}
+use Rattle.hx_quota.specs.Anew.{AllEnd}
+use Rattle.hx_quota.proofs.Fitting.{fits_moved}
 use Rattle.hx_quota.proofs.Keeping.{summed_moved}
 use Rattle.hx_quota.proofs.ledger.Ledger.move_subtree.Goals as goal
 
@@ -12,3 +14,9 @@ returns-then-is_plain_move-clause-kept c = λ up.
     let usage : HasUsage mid (with_parent n c.args.parent (entries_of c.args.self.now)) =
     subst (λ (o : Option (List ℕ)). HasUsage mid (with_parent n o (entries_of c.args.self.now))) c.as_ref-then-is_plain_move.ensures.value c.take_over.ensures.sums in
     summed_moved old mid c.set_parent.new.places.entries n c.args.parent c.args.to.now c.requires.there c.requires.to c.take_over.ensures.entries usage c.set_parent.ensures.entries c.set_parent.ensures.sums (c.requires.kept up)
+
+pub form_anew-ended-requires : goal.form_anew-ended-requires
+form_anew-ended-requires c = fits_moved (entries_of c.args.self.now) (ordered c.set_parent-else-is_plain_move.new.places.entries) c.args.moved.now c.args.parent c.set_parent-else-is_plain_move.ensures.entries c.requires.fits
+
+pub returns-else-is_plain_move-clause-again : goal.returns-else-is_plain_move-clause-again
+returns-else-is_plain_move-clause-again c = λ all. c.form_anew-ended.ensures.again (subst (λ (es : Entries). AllEnd (tree_of es)) c.form_anew-ended.ensures.entries all)

@@ -1,0 +1,137 @@
+-- Walks up the parents that end at a namespace without one.
+--     ends_on, ends_out, ends_top, ends_last      a step of a walk: on, before a name that isn't there, past the last one, with no steps left
+--     free, chain_on         a walk that ends doesn't come round:  a chain is its namespace and the chain of the parent
+--     closed_all             where all walks end, all parents are there
+--     all_from, from_all     all walks end where all of those from places do, and so the other way round
+use Rattle.std.specs.Prelude.{is_some, is_none, option_and_then}
+use Rattle.std.proofs.Common.{◌≡◌, ℕ, zero, suc, ◌-◌, ◌<◌, Bool, true, false, cond, ◌&&◌, Option, Some, None, List, [], ◌∷◌, length, refl, sym, ap, ◌∙◌, subst, arith, true≢false}
+use Rattle.std.specs.List.{list_all, IsDistinct}
+use Rattle.std.specs.Str.{bytes_eq}
+use Rattle.std.proofs.lemmas.Bool.{and_parts, and_from, false_from_ne_true}
+use Rattle.std.proofs.lemmas.Option.{none-some}
+use Rattle.hx_model.specs.declared.node.Node.{Node}
+use Rattle.hx_model.specs.Forest.{Forest, node_of, is_there, parent_of, chain_of, in_chain, tail_of}
+use Rattle.hx_model.specs.Moves.{chain_from}
+use Rattle.hx_model.proofs.Climbing.{Above, itself, through, chain_above, is_same, same_itself, none_there}
+use Rattle.hx_model.proofs.Opening.{chain_first}
+use Rattle.hx_model.proofs.Walking.{chain_there}
+use Rattle.hx_quota.specs.declared.places.Place.{Place}
+use Rattle.hx_quota.specs.Counters.{Entries, tree_of}
+use Rattle.hx_quota.specs.Inside.{Places, place_at, ordered, AreClosed, IsFree}
+use Rattle.hx_quota.specs.Anew.{ends_by, ends_up, AllEnd, all_ended}
+use Rattle.hx_quota.proofs.Moved.{behind}
+use Rattle.hx_quota.proofs.Placed.{entry_in, entry_at}
+use Rattle.hx_quota.proofs.UsedSums.{in_tree}
+
+-- ---- steps
+
+pub ends_on : (left : ℕ) (f : Forest) (next : Option (List ℕ)) (n : List ℕ) (node : Node) → 0 < left → next ≡ Some n → node_of f n ≡ Some node → ends_by left f next ≡ ends_by (left - 1) f node.parent
+ends_on zero f next n node pos is found = let no : ⊥ = omega (arith, pos) in absurd no
+ends_on (suc left) f next n node pos is found = ap (λ o. ends_by (suc left) f o) is
+    ∙ (λ i. is_some (found i) && ends_by left f (option_and_then (λ node. node.parent) (found i)))
+    ∙ ap (λ k. ends_by k f node.parent) (one_less left)
+  where
+    one_less : (k : ℕ) → k ≡ suc k - 1
+    one_less k = omega arith
+
+pub ends_out : (left : ℕ) (f : Forest) (next : Option (List ℕ)) (n : List ℕ) → next ≡ Some n → is_there f n ≡ false → ends_by left f next ≡ false
+ends_out zero f next n is out = ap (λ o. ends_by 0 f o) is
+ends_out (suc left) f next n is out = ap (λ o. ends_by (suc left) f o) is ∙ ap (λ b. b && ends_by left f (parent_of f n)) out
+
+pub ends_top : (left : ℕ) (f : Forest) (next : Option (List ℕ)) → next ≡ None → ends_by left f next ≡ true
+ends_top left f next is = ap (λ o. ends_by left f o) is
+
+pub ends_last : (left : ℕ) (f : Forest) (next : Option (List ℕ)) → left ≡ 0 → is_none next ≡ ends_by left f next
+ends_last left f next is = at next ∙ ap (λ k. ends_by k f next) (sym is)
+  where
+    at : (o : Option (List ℕ)) → is_none o ≡ ends_by 0 f o
+    at None = refl
+    at (Some n) = refl
+
+-- ---- a walk that ends doesn't come round
+
+more : (f : Forest) (left : ℕ) (next : Option (List ℕ)) → ends_by left f next ≡ true → ends_by (suc left) f next ≡ true
+more f left None h = refl
+more f zero (Some n) h = absurd (true≢false (sym h))
+more f (suc left) (Some n) h =
+    let parts = and_parts (is_there f n) (ends_by left f (parent_of f n)) h in
+    and_from (is_there f n) (ends_by (suc left) f (parent_of f n)) parts.0 (more f left (parent_of f n) parts.1)
+
+shorter : (f : Forest) (m a : List ℕ) → Above f m a → (left : ℕ) → ends_by left f (Some m) ≡ true → ends_by left f (Some a) ≡ true
+shorter f m a (itself there) left h = h
+shorter f m a (through {p = p} there on rest) zero h = absurd (true≢false (sym h))
+shorter f m a (through {p = p} there on rest) (suc left) h =
+    let parts = and_parts (is_there f m) (ends_by left f (parent_of f m)) h in
+    more f left (Some a) (shorter f p a rest left (subst (λ (o : Option (List ℕ)). ends_by left f o ≡ true) on parts.1))
+
+no_way_back : (f : Forest) (left : ℕ) (n p : List ℕ) → ends_by left f (Some n) ≡ true → parent_of f n ≡ Some p → Above f p n → ⊥
+no_way_back f zero n p h on up = true≢false (sym h)
+no_way_back f (suc left) n p h on up =
+    let parts = and_parts (is_there f n) (ends_by left f (parent_of f n)) h in
+    no_way_back f left n p (shorter f p n up left (subst (λ (o : Option (List ℕ)). ends_by left f o ≡ true) on parts.1)) on up
+
+pub free : (f : Forest) (n : List ℕ) → ends_up f n ≡ true → IsFree f n (parent_of f n)
+free f n h = at (parent_of f n) refl
+  where
+    at : (o : Option (List ℕ)) → parent_of f n ≡ o → IsFree f n o
+    at None on = refl
+    at (Some p) on = false_from_ne_true (in_chain f p n) (λ up. no_way_back f (length f) n p h on (chain_above f p n up))
+
+pub chain_on : (f : Forest) (n : List ℕ) → is_there f n ≡ true → ends_up f n ≡ true → chain_of f n ≡ n ∷ chain_from f (parent_of f n)
+chain_on f n there h = chain_first f n there ∙ ap (λ ns. n ∷ ns) (behind f n there (parent_of f n) refl (free f n h) (tail_of (chain_of f n)) (chain_first f n there))
+
+-- a chain of a parent is of distinct names
+pub distinct_from : (f : Forest) (o : Option (List ℕ)) → IsDistinct bytes_eq (chain_from f o)
+distinct_from f None = (none_there f).distinct
+distinct_from f (Some n) = (chain_there f n).distinct
+
+-- ---- parents
+
+there_by : (f : Forest) (left : ℕ) (q : List ℕ) → ends_by left f (Some q) ≡ true → is_there f q ≡ true
+there_by f zero q h = absurd (true≢false (sym h))
+there_by f (suc left) q h = (and_parts (is_there f q) (ends_by left f (parent_of f q)) h).0
+
+parent_by : (f : Forest) (left : ℕ) (m q : List ℕ) → ends_by left f (Some m) ≡ true → parent_of f m ≡ Some q → is_there f q ≡ true
+parent_by f zero m q h on = absurd (true≢false (sym h))
+parent_by f (suc left) m q h on =
+    there_by f left q (subst (λ (o : Option (List ℕ)). ends_by left f o ≡ true) on (and_parts (is_there f m) (ends_by left f (parent_of f m)) h).1)
+
+pub closed_all : (es : Entries) → AllEnd (tree_of es) → AreClosed es
+closed_all es all m q on = parent_by (tree_of es) (length (tree_of es)) m q (all m (has_parent (node_of (tree_of es) m) on)) on
+  where
+    has_parent : (o : Option Node) → option_and_then (λ node. node.parent) o ≡ Some q → is_some o ≡ true
+    has_parent None h = absurd (none-some q h)
+    has_parent (Some x) h = refl
+
+-- ---- all walks
+
+pub in_places : (places : Places) (n : List ℕ) → is_there (tree_of (ordered places)) n ≡ is_some (place_at places n)
+in_places places n = in_tree (ordered places) n ∙ ap is_some (entry_at places n) ∙ either (place_at places n)
+  where
+    either : (o : Option Place) → is_some (entry_in o) ≡ is_some o
+    either None = refl
+    either (Some p) = refl
+
+found_passes : (t : List ℕ → Bool) (es : Places) (n : List ℕ) → list_all (λ e. t e.0) es ≡ true → is_some (place_at es n) ≡ true → t n ≡ true
+found_passes t [] n all there = absurd (true≢false (sym there))
+found_passes t (e ∷ es) n all there =
+    let parts = and_parts (t e.0) (list_all (λ (y : List ℕ × Place). t y.0) es) all in
+    elim (bytes_eq n e.0) as (λ b. bytes_eq n e.0 ≡ b → is_some (cond b (Some e.1) (place_at es n)) ≡ true → t n ≡ true) [
+      | true ↦ λ same h. subst (λ (k : List ℕ). t k ≡ true) (sym (is_same n e.0 same)) parts.0
+      | false ↦ λ out h. found_passes t es n parts.1 h
+    ] refl there
+
+all_pass : (t : List ℕ → Bool) (es : Places) → ((n : List ℕ) → is_some (place_at es n) ≡ true → t n ≡ true) → list_all (λ e. t e.0) es ≡ true
+all_pass t [] pass = refl
+all_pass t (e ∷ es) pass =
+    and_from (t e.0) (list_all (λ (y : List ℕ × Place). t y.0) es) (pass e.0 (ap (λ b. is_some (cond b (Some e.1) (place_at es e.0))) (same_itself e.0))) (all_pass t es (λ n there. pass n (either (bytes_eq n e.0) (place_at es n) there)))
+  where
+    either : (b : Bool) (o : Option Place) → is_some o ≡ true → is_some (cond b (Some e.1) o) ≡ true
+    either true o there = refl
+    either false o there = there
+
+pub all_from : (places : Places) → all_ended places ≡ true → AllEnd (tree_of (ordered places))
+all_from places all n there = found_passes (ends_up (tree_of (ordered places))) places n all (sym (in_places places n) ∙ there)
+
+pub from_all : (places : Places) → AllEnd (tree_of (ordered places)) → all_ended places ≡ true
+from_all places all = all_pass (ends_up (tree_of (ordered places))) places (λ n there. all n (in_places places n ∙ there))

@@ -1,0 +1,283 @@
+-- Sums of subtrees that are formed anew: each namespace adds its own to those of its chain.
+--     step_left                        a chain by indices is its first name and what is behind it
+--     IsUnderway                       the sums along a chain are adjusted, but for those of names that are left
+--     begun, more_of, ended            it is so at first, after a step, and at the end
+--     shorter_left, may_step           less is left after a step;  the next sums may be adjusted
+--     parent_is, index_chain, own_is   what is found by an index
+--     may_add, added                   what a namespace has may be added, and then one more of the first places is in the sums
+--     cleared_end, cleared_none        where no place has sums
+--     all_added                        where all are in the sums, these are those of subtrees
+use Rattle.std.specs.Prelude.{is_some, option_and_then, slice_get, slice_index, sum_by, take, get_or, position, IfSome}
+use Rattle.std.proofs.Common.{◌≡◌, ℕ, zero, suc, ◌+◌, ◌-◌, ◌<◌, ◌≤◌, ◌^◌, Bool, true, false, cond, not, ◌&&◌, Option, Some, None, option_map, List, [], ◌∷◌, length, replicate, refl, sym, ap, ◌∙◌, subst, arith}
+use Rattle.std.specs.List.{IsDistinct}
+use Rattle.std.specs.Map.{keys_of}
+use Rattle.std.specs.Str.{bytes_eq}
+use Rattle.std.proofs.lemmas.List.{take_all}
+use Rattle.std.proofs.lemmas.List.Sums.{sum_by_more, sum_by_more_le}
+use Rattle.std.proofs.lemmas.Option.{none-some, same_Some, slice_get_within, slice_get-get_or, get_or_from_slice_get}
+use Rattle.hx_model.specs.Forest.{Forest, is_in, is_there, parent_of, chain_of, in_chain}
+use Rattle.hx_model.specs.Moves.{chain_from}
+use Rattle.hx_model.specs.declared.node.Node.{Node}
+use Rattle.hx_model.specs.declared.resource.Resource.{Resource}
+use Rattle.hx_model.proofs.Walking.{chain_missing}
+use Rattle.hx_quota.specs.declared.entry.Entry.{Entry}
+use Rattle.hx_quota.specs.declared.places.Place.{Place}
+use Rattle.hx_quota.specs.Counters.{Entries, node_for, new_entry, tree_of, own_of, part_of, place_of, AllFit}
+use Rattle.hx_quota.specs.Inside.{Places, entries_from, entries_in, ordered, place_at, adjusted, MayAdjust, IsAdjusted, IsSummed}
+use Rattle.hx_quota.specs.Anew.{AllEnd, all_ended, name_at, chain_at, chain_behind, with_sums, cleared, HasFirst}
+use Rattle.hx_quota.proofs.Adjusting.{is_done, here_left, next_distinct, next_inside, may_now, adjusted_one, may_by, was_there}
+use Rattle.hx_quota.proofs.Deltas.{in_place}
+use Rattle.hx_quota.proofs.Ending.{chain_on, distinct_from, closed_all, in_places, all_from}
+use Rattle.hx_quota.proofs.Fitting.{has_nothing, used_within}
+use Rattle.hx_quota.proofs.Indexed.{entry_index, found_index, entries_with, place_with, index_found, cleared_entries, cleared_first}
+use Rattle.hx_quota.proofs.Placed.{entry_in, entry_at, same_count}
+use Rattle.hx_quota.proofs.Sums.{Pair, sum-entries}
+use Rattle.hx_quota.proofs.Trees.{node_of-tree}
+
+abbrev Rows : Type 0
+Rows = List Pair
+
+-- ---- the first name
+
+-- the name at the index of a place
+name_of : (es : Rows) (places : Places) → entries_in places ≡ es → (at : ℕ) (m : List ℕ) (p : Place) → slice_get places at ≡ Some (m, p) → name_at es at ≡ Some m
+name_of es places same at m p is =
+    ap (λ (xs : Rows). name_at xs at) (sym same) ∙ ap (λ (o : Option Pair). option_map (λ e. e.0) o) (entry_index places at ∙ ap (λ (o : Option (List ℕ × Place)). option_map (λ x. (x.0, x.1.entry)) o) is)
+
+pub no_name : (es : Rows) (places : Places) → entries_in places ≡ es → (at : ℕ) → slice_get places at ≡ None → chain_at es (Some at) ≡ []
+no_name es places same at none =
+    ap (λ (o : Option (List ℕ)). chain_from (tree_of (entries_from es)) o)
+    (ap (λ (xs : Rows). name_at xs at) (sym same) ∙ ap (λ (o : Option Pair). option_map (λ e. e.0) o) (entry_index places at ∙ ap (λ (o : Option (List ℕ × Place)). option_map (λ x. (x.0, x.1.entry)) o) none))
+
+module _ (es : Rows) (places : Places) (same : entries_in places ≡ es) (all : AllEnd (tree_of (entries_from es))) (distinct : IsDistinct bytes_eq (keys_of es))
+    (at : ℕ) (m : List ℕ) (p : Place) (is : slice_get places at ≡ Some (m, p)) where
+  pub here : place_at places m ≡ Some p
+  here = found_index places at m p (subst (λ (xs : Rows). IsDistinct bytes_eq (keys_of xs)) (sym same) distinct) is
+
+  here_there : is_there (tree_of (entries_from es)) m ≡ true
+  here_there = ap (λ (xs : Rows). is_there (tree_of (entries_from xs)) m) (sym same) ∙ in_places places m ∙ ap is_some here
+
+  pub step_left : chain_at es (Some at) ≡ m ∷ chain_behind es at
+  step_left =
+      let f = tree_of (entries_from es) in
+      let name = name_of es places same at m p is in
+      ap (λ (o : Option (List ℕ)). chain_from f o) name ∙ chain_on f m here_there (all m here_there)
+      ∙ ap (λ ns. m ∷ ns) (sym (ap (λ (o : Option (List ℕ)). chain_from f (option_and_then (parent_of f) o)) name))
+
+-- ---- along a chain
+
+-- the sums along a chain are adjusted, but for those of names that are left
+pub record IsUnderway (take give : List ℕ) (was now : Places) (names left : List (List ℕ)) : Type 0 where
+  pub distinct : IsDistinct bytes_eq left
+  pub inside : (q : List ℕ) → is_in q left ≡ true → is_in q names ≡ true
+  pub places : (q : List ℕ) → IsAdjusted take give (is_done names left q) (place_at was q) (place_at now q)
+  pub same : entries_in now ≡ entries_in was
+
+as_it_was : (take give : List ℕ) (b : Bool) (o : Option Place) → b ≡ false → IsAdjusted take give b o o
+as_it_was take give b None out = refl
+as_it_was take give b (Some p) out = (p, refl, refl, λ k within. sym (ap (λ c. cond c (adjusted take give p.sums k) (slice_index p.sums k)) out))
+
+pub begun : (take give : List ℕ) (was : Places) (at : ℕ) → IsUnderway take give was was (chain_at (entries_in was) (Some at)) (chain_at (entries_in was) (Some at))
+begun take give was at = record {
+  distinct = distinct_from (tree_of (ordered was)) (name_at (entries_in was) at);
+  inside = λ q h. h;
+  places = λ q. as_it_was take give (is_done names names q) (place_at was q) (none (is_in q names));
+  same = refl;
+}
+  where
+    names : List (List ℕ)
+    names = chain_at (entries_in was) (Some at)
+
+    none : (b : Bool) → (b && not b) ≡ false
+    none true = refl
+    none false = refl
+
+module _ (take give : List ℕ) (was now : Places) (names : List (List ℕ)) where
+  pub ended : (left : List (List ℕ)) → IsUnderway take give was now names left → left ≡ [] → (q : List ℕ) → IsAdjusted take give (is_in q names) (place_at was q) (place_at now q)
+  ended left far none q = subst (λ (b : Bool). IsAdjusted take give b (place_at was q) (place_at now q)) (ap (λ (xs : List (List ℕ)). is_done names xs q) none ∙ whole (is_in q names)) (far.places q)
+    where
+      whole : (b : Bool) → (b && true) ≡ b
+      whole true = refl
+      whole false = refl
+
+-- the place whose sums are found at an index
+pub by_sums : (o : Option (List ℕ × Place)) (sums : List ℕ) → Some sums ≡ option_map (λ (e : List ℕ × Place). e.1.sums) o → (m : List ℕ) × (p : Place) × (o ≡ Some (m, p)) × (p.sums ≡ sums)
+by_sums None sums is = absurd (none-some sums (sym is))
+by_sums (Some e) sums is = (e.0, e.1, refl, sym (same_Some sums e.1.sums is))
+
+module _ (take give : List ℕ) (was now : Places) (names : List (List ℕ)) (all : AllEnd (tree_of (ordered was))) (distinct : IsDistinct bytes_eq (keys_of (entries_in was))) (at : ℕ) (o : Option ℕ) (here_is : o ≡ Some at)
+    (before : List ℕ) (found : Some before ≡ option_map (λ (e : List ℕ × Place). e.1.sums) (slice_get now at)) where
+  pub may_step : IsUnderway take give was now names (chain_at (entries_in was) o) → ((q : List ℕ) (x : Place) → is_in q names ≡ true → place_at was q ≡ Some x → MayAdjust take give x.sums) → MayAdjust take give before
+  may_step under may =
+      let es = entries_in was in
+      let far : IsUnderway take give was now names (chain_at es (Some at)) = subst (λ (x : Option ℕ). IsUnderway take give was now names (chain_at es x)) here_is under in
+      let place = by_sums (slice_get now at) before found in
+      let m = place.0 in
+      let p = place.1 in
+      let is = place.2 in
+      let first = step_left es now far.same all distinct at m p is in
+      subst (λ (s : List ℕ). MayAdjust take give s) place.3
+      (may_now take give names (chain_at es (Some at)) (chain_behind es at) m first (place_at was m) p
+      (subst (λ (w : Option Place). IsAdjusted take give (is_done names (chain_at es (Some at)) m) (place_at was m) w) (here es now far.same all distinct at m p is) (far.places m))
+      (λ x there. may m x (far.inside m (here_left take give names (chain_at es (Some at)) (chain_behind es at) m first)) there))
+
+  module _ (under : IsUnderway take give was now names (chain_at (entries_in was) o)) (new : Places) (sums : List ℕ) (new_is : new ≡ with_sums at sums now) (next : Option ℕ)
+      (behind : chain_at (entries_in new) next ≡ chain_behind (entries_in new) at) where
+    entries_stay : entries_in new ≡ entries_in was
+    entries_stay = ap entries_in new_is ∙ entries_with at sums now ∙ under.same
+
+    left_is : chain_at (entries_in was) o ≡ (by_sums (slice_get now at) before found).0 ∷ chain_at (entries_in was) next
+    left_is =
+        let es = entries_in was in
+        let place = by_sums (slice_get now at) before found in
+        ap (chain_at es) here_is ∙ step_left es now under.same all distinct at place.0 place.1 place.2
+        ∙ ap (λ ns. place.0 ∷ ns) (sym ((λ i. chain_at (sym entries_stay i) next) ∙ behind ∙ (λ i. chain_behind (entries_stay i) at)))
+
+    pub more_of : ((k : ℕ) → k < 15 → slice_index sums k ≡ adjusted take give before k) → IsUnderway take give was new names (chain_at (entries_in was) next)
+    more_of sum =
+        let es = entries_in was in
+        let place = by_sums (slice_get now at) before found in
+        let m = place.0 in
+        let p = place.1 in
+        let is = place.2 in
+        let left = chain_at es o in
+        let rest = chain_at es next in
+        let alone : IsDistinct bytes_eq (keys_of (entries_in now)) = subst (λ (xs : Rows). IsDistinct bytes_eq (keys_of xs)) (sym under.same) distinct in
+        let same_sums : (k : ℕ) → k < 15 → slice_index sums k ≡ adjusted take give p.sums k = subst (λ (s : List ℕ). (k : ℕ) → k < 15 → slice_index sums k ≡ adjusted take give s k) (sym place.3) sum in
+        record {
+          distinct = next_distinct take give names left rest m left_is under.distinct;
+          inside = next_inside take give names left rest m left_is under.inside;
+          places = adjusted_one take give names left rest m left_is was now new p (record p { sums = sums }) under.distinct under.inside under.places (here es now under.same all distinct at m p is) refl same_sums
+              (λ q. ap (λ (xs : Places). place_at xs q) new_is ∙ place_with at sums now m p alone is q);
+          same = entries_stay;
+        }
+
+    pub shorter_left : length (chain_at (entries_in was) next) < length (chain_at (entries_in was) o)
+    shorter_left =
+        let long : length (chain_at (entries_in was) o) ≡ suc (length (chain_at (entries_in was) next)) = ap length left_is in
+        omega (arith, long)
+
+-- ---- indices and names
+
+pub parent_is : (places : Places) (at : ℕ) (n : List ℕ) (p : Place) → slice_get places at ≡ Some (n, p) → place_at places n ≡ Some p → p.entry.parent ≡ option_and_then (parent_of (tree_of (ordered places))) (name_at (entries_in places) at)
+parent_is places at n p is found =
+    sym (ap (λ (o : Option (List ℕ)). option_and_then (parent_of (tree_of (ordered places))) o) (name_of (entries_in places) places refl at n p is)
+    ∙ ap (λ (o : Option Node). option_and_then (λ node. node.parent) o) (node_of-tree (ordered places) n ∙ ap (λ (o : Option Entry). option_map node_for o) (entry_at places n ∙ ap entry_in found)))
+
+pub no_parent : (places : Places) (at : ℕ) → slice_get places at ≡ None → None ≡ option_and_then (parent_of (tree_of (ordered places))) (name_at (entries_in places) at)
+no_parent places at none =
+    sym (ap (λ (o : Option Pair). option_and_then (parent_of (tree_of (ordered places))) (option_map (λ e. e.0) o)) (entry_index places at ∙ ap (λ (o : Option (List ℕ × Place)). option_map (λ x. (x.0, x.1.entry)) o) none))
+
+key_index : (places : Places) (i : ℕ) → name_at (entries_in places) i ≡ slice_get (keys_of places) i
+key_index [] i = refl
+key_index (e ∷ places) zero = refl
+key_index (e ∷ places) (suc i) = key_index places i
+
+pub index_chain : (places : Places) (n : List ℕ) (o : Option ℕ) → o ≡ position (bytes_eq n) (keys_of places) → is_some o ≡ is_some (place_at places n) → IfSome o (λ i. i < length places)
+    → chain_at (entries_in places) o ≡ chain_of (tree_of (ordered places)) n
+index_chain places n None is found within = sym (chain_missing (tree_of (ordered places)) n (in_places places n ∙ sym found))
+index_chain places n (Some i) is found within =
+    ap (λ (x : Option (List ℕ)). chain_from (tree_of (ordered places)) x) (key_index places i ∙ index_found n (keys_of places) i (sym is) (let long = key_count places in let inside : i < length places = within in omega (arith, inside, long)))
+  where
+    key_count : (xs : Places) → length (keys_of xs) ≡ length xs
+    key_count [] = refl
+    key_count (x ∷ xs) = ap (λ k. suc k) (key_count xs)
+
+pub own_is : (places : Places) (at : ℕ) (m : List ℕ) (p : Place) → slice_get places at ≡ Some (m, p) → (n : List ℕ) (entry : Entry) → slice_get (entries_in places) at ≡ Some (n, entry) → p.entry.own ≡ entry.own
+own_is places at m p is n entry found =
+    ap (λ (e : Pair). e.1.own) (same_Some {A = Pair} (m, p.entry) (n, entry) (sym (entry_index places at ∙ ap (λ (o : Option (List ℕ × Place)). option_map (λ x. (x.0, x.1.entry)) o) is) ∙ found))
+
+pub own_none : (places : Places) (at : ℕ) → slice_get places at ≡ None → (own : List ℕ) (n : List ℕ) (entry : Entry) → slice_get (entries_in places) at ≡ Some (n, entry) → own ≡ entry.own
+own_none places at none own n entry found =
+    absurd (none-some {A = Pair} (n, entry) (sym (entry_index places at ∙ ap (λ (o : Option (List ℕ × Place)). option_map (λ x. (x.0, x.1.entry)) o) none) ∙ found))
+
+-- ---- namespace by namespace
+
+module _ (was : Places) (distinct : IsDistinct bytes_eq (keys_of (entries_in was))) (at : ℕ) (n : List ℕ) (entry : Entry) (is : slice_get (entries_in was) at ≡ Some (n, entry)) (so_far : HasFirst at was) where
+  abbrev f : Forest
+  f = tree_of (ordered was)
+
+  -- the chain at the index is that of the name
+  chain_is : chain_at (entries_in was) (Some at) ≡ chain_of f n
+  chain_is = ap (λ (o : Option Pair). chain_from f (option_map (λ e. e.0) o)) is
+
+  at_hand : get_or (entries_in was) at (n, entry) ≡ (n, entry)
+  at_hand = get_or_from_slice_get {X = Pair} (entries_in was) at (n, entry) (n, entry) is
+
+  pub may_add : AllFit (ordered was) → (q : List ℕ) (p : Place) → is_in q (chain_at (entries_in was) (Some at)) ≡ true → place_at was q ≡ Some p → MayAdjust (replicate 15 0) entry.own p.sums
+  may_add fits q p inside there = may_by (replicate 15 0) entry.own p.sums (λ r. each r)
+    where
+      has : in_chain f n q ≡ true
+      has = ap (is_in q) (sym chain_is) ∙ inside
+
+      each : (r : Resource) → (slice_index (replicate 15 0) (place_of r) ≤ slice_index p.sums (place_of r)) × (adjusted (replicate 15 0) entry.own p.sums (place_of r) < 2 ^ 128)
+      each r =
+          let part = part_of f q r in
+          let zero_is : slice_index (replicate 15 0) (place_of r) ≡ 0 = has_nothing r in
+          let sum : slice_index p.sums (place_of r) ≡ sum_by part (take at (entries_in was)) = so_far q p there r in
+          let own : part (n, entry) ≡ slice_index entry.own (place_of r) = ap (λ b. cond b (own_of r entry) 0) has in
+          let mine : part (get_or (entries_in was) at (n, entry)) ≡ part (n, entry) = ap part at_hand in
+          let less = sum_by_more_le part (entries_in was) at (n, entry) (slice_get_within (entries_in was) at (n, entry) is) in
+          let whole = sum-entries part (entries_in was) distinct in
+          (omega (arith, zero_is), omega (arith, zero_is, sum, own, mine, less, whole, used_within f q r (ordered was), fits r))
+
+  pub added : (new : Places) → entries_in new ≡ entries_in was → ((q : List ℕ) → IsAdjusted (replicate 15 0) entry.own (is_in q (chain_at (entries_in was) (Some at))) (place_at was q) (place_at new q)) → HasFirst (at + 1) new
+  added new same moved = λ q x there r.
+      let part = part_of f q r in
+      let b : Bool = is_in q (chain_at (entries_in was) (Some at)) in
+      let from = was_there (replicate 15 0) entry.own b (place_at was q) x (subst (λ (w : Option Place). IsAdjusted (replicate 15 0) entry.own b (place_at was q) w) there (moved q)) in
+      let sum : slice_index (from.0).sums (place_of r) ≡ sum_by part (take at (entries_in was)) = so_far q from.0 from.1 r in
+      let next : sum_by part (take (at + 1) (entries_in was)) ≡ sum_by part (take at (entries_in was)) + part (n, entry) =
+      sum_by_more part (entries_in was) at (n, entry) (slice_get_within (entries_in was) at (n, entry) is) ∙ ap (λ (e : Pair). sum_by part (take at (entries_in was)) + part e) at_hand in
+      from.2 (place_of r) (in_place r)
+      ∙ total b (slice_index (from.0).sums (place_of r)) (slice_index (replicate 15 0) (place_of r)) (own_of r entry) (has_nothing r)
+      ∙ (λ i. sum i + cond (is_in q (chain_is i)) (own_of r entry) 0)
+      ∙ sym next ∙ ap (λ (xs : Rows). sum_by (part_of (tree_of (entries_from xs)) q r) (take (at + 1) xs)) (sym same)
+    where
+      total : (b : Bool) (s z k : ℕ) → z ≡ 0 → cond b (s - z + k) s ≡ s + cond b k 0
+      total true s z k none = omega (arith, none)
+      total false s z k none = omega arith
+
+-- the same, where what the namespace has is read at the index
+module _ (was : Places) (distinct : IsDistinct bytes_eq (keys_of (entries_in was))) (at : ℕ) (within : at < length was) (so_far : HasFirst at was) (own : List ℕ)
+    (own_at : (n : List ℕ) (entry : Entry) → slice_get (entries_in was) at ≡ Some (n, entry) → own ≡ entry.own) where
+  abbrev row : Pair
+  row = get_or (entries_in was) at ([], new_entry)
+
+  row_is : slice_get (entries_in was) at ≡ Some (row.0, row.1)
+  row_is = slice_get-get_or (entries_in was) at ([], new_entry) (let long = same_count was in omega (arith, within, long))
+
+  pub may_add_own : AllFit (ordered was) → (q : List ℕ) (p : Place) → is_in q (chain_at (entries_in was) (Some at)) ≡ true → place_at was q ≡ Some p → MayAdjust (replicate 15 0) own p.sums
+  may_add_own fits q p inside there = subst (λ (o : List ℕ). MayAdjust (replicate 15 0) o p.sums) (sym (own_at row.0 row.1 row_is)) (may_add was distinct at row.0 row.1 row_is so_far fits q p inside there)
+
+  pub added_own : (new : Places) → entries_in new ≡ entries_in was → ((q : List ℕ) → IsAdjusted (replicate 15 0) own (is_in q (chain_at (entries_in was) (Some at))) (place_at was q) (place_at new q)) → HasFirst (at + 1) new
+  added_own new same moved = added was distinct at row.0 row.1 row_is so_far new same
+      (subst (λ (o : List ℕ). (q : List ℕ) → IsAdjusted (replicate 15 0) o (is_in q (chain_at (entries_in was) (Some at))) (place_at was q) (place_at new q)) (own_at row.0 row.1 row_is) moved)
+
+-- ---- all
+
+module _ (old new : Places) (is : new ≡ cleared old) where
+  stay : entries_in new ≡ entries_in old
+  stay = ap entries_in is ∙ cleared_entries old
+
+  pub cleared_ordered : ordered new ≡ ordered old
+  cleared_ordered = ap entries_from stay
+
+  pub cleared_end : all_ended old ≡ true → AllEnd (tree_of (ordered new))
+  cleared_end all = subst (λ (es : Entries). AllEnd (tree_of es)) (sym cleared_ordered) (all_from old all)
+
+  pub cleared_none : HasFirst 0 new
+  cleared_none = subst (λ (xs : Places). HasFirst 0 xs) (sym is) (cleared_first old)
+
+-- all are in the sums
+pub all_added : (was new : Places) → IsDistinct bytes_eq (keys_of (entries_in was)) → AllEnd (tree_of (ordered was)) → entries_in new ≡ entries_in was → HasFirst (length was) new → IsSummed (place_at new) (ordered new)
+all_added was new distinct all same sums = record {
+  sums = λ n p there r. sums n p there r ∙ ap (sum_by (part_of f n r)) (take_all (length was) (entries_in new) enough) ∙ sym (sum-entries (part_of f n r) (entries_in new) (subst (λ (xs : Rows). IsDistinct bytes_eq (keys_of xs)) (sym same) distinct));
+  closed = closed_all (ordered new) (subst (λ (xs : Rows). AllEnd (tree_of (entries_from xs))) (sym same) all);
+}
+  where
+    f : Forest
+    f = tree_of (ordered new)
+
+    enough : length (entries_in new) ≤ length was
+    enough = let long : length (entries_in new) ≡ length was = ap length same ∙ same_count was in omega (arith, long)

@@ -1,0 +1,123 @@
+-- Places by their indices.
+--     entry_index, found_index      the entry at an index is that of the place, which is found under its name
+--     entries_with, place_with      entries and places where one has other sums
+--     value_with, none_with         the same of a value that is written at its index
+--     index_found                   the index of a name has that name
+--     cleared_to, clear_one, clear_all, cleared_first      places without sums, from the first one on
+use Rattle.std.specs.Prelude.{slice_get, slice_index, position, find, get_or}
+use Rattle.std.proofs.Common.{◌≡◌, ℕ, zero, suc, ◌<◌, Bool, true, false, cond, Some, None, option_map, List, [], ◌∷◌, length, replicate, refl, sym, ap, ◌∙◌, subst, true≢false}
+use Rattle.std.specs.List.{AllByRecursion, IsDistinct, position_or_len}
+use Rattle.std.specs.Map.{keys_of, values_of}
+use Rattle.std.specs.Str.{bytes_eq}
+use Rattle.std.proofs.lemmas.Cmp.{nat_list_eq_equiv}
+use Rattle.std.proofs.lemmas.List.Folds.{find_at}
+use Rattle.std.proofs.lemmas.Map.Entries.{lookup_from_place}
+use Rattle.std.proofs.lemmas.Map.Keys.{IsDistinct-head, IsDistinct-tail}
+use Rattle.std.proofs.lemmas.Option.{none-some, same_Some, cond_some, slice_get-get_or}
+use Rattle.indexmap.specs.IndexMap.{set_value_at}
+use Rattle.hx_model.proofs.Climbing.{is_same, same_itself}
+use Rattle.hx_model.proofs.Objects.{same_test, swap_tests}
+use Rattle.hx_quota.specs.declared.places.Place.{Place}
+use Rattle.hx_quota.specs.Counters.{place_of}
+use Rattle.hx_quota.specs.Inside.{Places, place_at, entries_in}
+use Rattle.hx_quota.specs.Anew.{with_sums, cleared, HasFirst}
+use Rattle.hx_quota.proofs.Fitting.{has_nothing}
+use Rattle.hx_quota.proofs.Placed.{same_keys}
+
+abbrev Row : Type 0
+Row = List ℕ × Place
+
+pub entry_index : (places : Places) (i : ℕ) → slice_get (entries_in places) i ≡ option_map (λ p. (p.0, p.1.entry)) (slice_get places i)
+entry_index [] i = refl
+entry_index (e ∷ places) zero = refl
+entry_index (e ∷ places) (suc i) = entry_index places i
+
+pub found_index : (places : Places) (i : ℕ) (m : List ℕ) (p : Place) → IsDistinct bytes_eq (keys_of (entries_in places)) → slice_get places i ≡ Some (m, p) → place_at places m ≡ Some p
+found_index places i m p distinct is = lookup_from_place nat_list_eq_equiv places i m p (subst (λ (ks : List (List ℕ)). IsDistinct bytes_eq ks) (same_keys places) distinct) is
+
+-- ---- other sums
+
+pub entries_with : (at : ℕ) (sums : List ℕ) (places : Places) → entries_in (with_sums at sums places) ≡ entries_in places
+entries_with at sums [] = refl
+entries_with zero sums (e ∷ places) = refl
+entries_with (suc at) sums (e ∷ places) = ap (λ xs. (e.0, e.1.entry) ∷ xs) (entries_with at sums places)
+
+apart_index : (a : List ℕ) (places : Places) (i : ℕ) (m : List ℕ) (p : Place) → AllByRecursion (λ y. bytes_eq a y ≡ false) (keys_of places) → slice_get places i ≡ Some (m, p) → bytes_eq a m ≡ false
+apart_index a [] i m p apart is = absurd (none-some {A = Row} (m, p) is)
+apart_index a (e ∷ places) zero m p apart is = ap (λ (x : Row). bytes_eq a x.0) (sym (same_Some {A = Row} e (m, p) is)) ∙ apart.0
+apart_index a (e ∷ places) (suc i) m p apart is = apart_index a places i m p apart.1 is
+
+place_at_with : (at : ℕ) (sums : List ℕ) (places : Places) (m : List ℕ) (p : Place) → IsDistinct bytes_eq (keys_of places) → slice_get places at ≡ Some (m, p)
+    → (q : List ℕ) → place_at (with_sums at sums places) q ≡ cond (bytes_eq m q) (Some (record p { sums = sums })) (place_at places q)
+place_at_with at sums [] m p distinct is q = absurd (none-some {A = Row} (m, p) is)
+place_at_with zero sums (e ∷ places) m p distinct is q =
+    let same : e ≡ (m, p) = same_Some {A = Row} e (m, p) is in
+    let flip : bytes_eq q e.0 ≡ bytes_eq m q = nat_list_eq_equiv.symm q e.0 ∙ ap (λ (x : Row). bytes_eq x.0 q) same in
+    (λ i. cond (flip i) (Some (record ((same i).1) { sums = sums })) (place_at places q))
+    ∙ same_test (bytes_eq m q) (bytes_eq q e.0) (Some (record p { sums = sums })) (Some e.1) (place_at places q) (sym flip)
+place_at_with (suc at) sums (e ∷ places) m p distinct is q =
+    ap (cond (bytes_eq q e.0) (Some e.1)) (place_at_with at sums places m p (IsDistinct-tail bytes_eq e.0 (keys_of places) distinct) is q)
+    ∙ swap_tests (bytes_eq m q) (bytes_eq q e.0) (Some (record p { sums = sums })) (Some e.1) (place_at places q) (λ here there.
+    true≢false (sym (ap (bytes_eq e.0) (is_same m q here ∙ is_same q e.0 there) ∙ same_itself e.0) ∙ apart_index e.0 places at m p (IsDistinct-head bytes_eq e.0 (keys_of places) distinct) is))
+
+pub place_with : (at : ℕ) (sums : List ℕ) (places : Places) (m : List ℕ) (p : Place) → IsDistinct bytes_eq (keys_of (entries_in places)) → slice_get places at ≡ Some (m, p)
+    → (q : List ℕ) → place_at (with_sums at sums places) q ≡ cond (bytes_eq m q) (Some (record p { sums = sums })) (place_at places q)
+place_with at sums places m p distinct is q = place_at_with at sums places m p (subst (λ (ks : List (List ℕ)). IsDistinct bytes_eq ks) (same_keys places) distinct) is q
+
+pub value_with : (at : ℕ) (sums : List ℕ) (places : Places) (p : Place) → slice_get (values_of places) at ≡ Some p → set_value_at places at (record p { sums = sums }) ≡ with_sums at sums places
+value_with at sums [] p is = refl
+value_with zero sums (e ∷ places) p is = ap (λ (x : Place). (e.0, record x { sums = sums }) ∷ places) (sym (same_Some e.1 p is))
+value_with (suc at) sums (e ∷ places) p is = ap (λ xs. e ∷ xs) (value_with at sums places p is)
+
+pub none_with : (at : ℕ) (sums : List ℕ) (places : Places) → slice_get (values_of places) at ≡ None → places ≡ with_sums at sums places
+none_with at sums [] none = refl
+none_with zero sums (e ∷ places) none = absurd (none-some e.1 (sym none))
+none_with (suc at) sums (e ∷ places) none = ap (λ xs. e ∷ xs) (none_with at sums places none)
+
+-- ---- the index of a name
+
+passes : (t : List ℕ → Bool) (ks : List (List ℕ)) (k : List ℕ) → find t ks ≡ Some k → t k ≡ true
+passes t [] k h = absurd (none-some k h)
+passes t (x ∷ ks) k h = elim (t x) as (λ b. t x ≡ b → cond b (Some x) (find t ks) ≡ Some k → t k ≡ true) [
+  | true ↦ λ here e. subst (λ (y : List ℕ). t y ≡ true) (same_Some x k e) here
+  | false ↦ λ other e. passes t ks k e
+] refl h
+
+pub index_found : (n : List ℕ) (ks : List (List ℕ)) (i : ℕ) → position (bytes_eq n) ks ≡ Some i → i < length ks → slice_get ks i ≡ Some n
+index_found n ks i is within =
+    let k : List ℕ = get_or ks i n in
+    let at : slice_get ks i ≡ Some k = slice_get-get_or ks i n within in
+    let first : position_or_len (bytes_eq n) ks ≡ i = (cond_some _ (position_or_len (bytes_eq n) ks) i is).1 in
+    let found : find (bytes_eq n) ks ≡ Some k = find_at (bytes_eq n) ks ∙ ap (slice_get ks) first ∙ at in
+    at ∙ ap Some (sym (is_same n k (passes (bytes_eq n) ks k found)))
+
+-- ---- no sums
+
+abbrev pub cleared_to : ℕ → Places → Places
+cleared_to zero places = places
+cleared_to (suc at) [] = []
+cleared_to (suc at) (e ∷ places) = (e.0, record (e.1) { sums = replicate 15 0 }) ∷ cleared_to at places
+
+pub clear_one : (at : ℕ) (places : Places) → with_sums at (replicate 15 0) (cleared_to at places) ≡ cleared_to (suc at) places
+clear_one zero [] = refl
+clear_one zero (e ∷ places) = refl
+clear_one (suc at) [] = refl
+clear_one (suc at) (e ∷ places) = ap (λ xs. (e.0, record (e.1) { sums = replicate 15 0 }) ∷ xs) (clear_one at places)
+
+pub clear_all : (places : Places) → cleared_to (length places) places ≡ cleared places
+clear_all [] = refl
+clear_all (e ∷ places) = ap (λ xs. (e.0, record (e.1) { sums = replicate 15 0 }) ∷ xs) (clear_all places)
+
+pub cleared_entries : (places : Places) → entries_in (cleared places) ≡ entries_in places
+cleared_entries [] = refl
+cleared_entries (e ∷ places) = ap (λ xs. (e.0, e.1.entry) ∷ xs) (cleared_entries places)
+
+no_sums : (places : Places) (q : List ℕ) (p : Place) → place_at (cleared places) q ≡ Some p → p.sums ≡ replicate 15 0
+no_sums [] q p is = absurd (none-some p is)
+no_sums (e ∷ places) q p is = elim (bytes_eq q e.0) as (λ b. cond b (Some (record (e.1) { sums = replicate 15 0 })) (place_at (cleared places) q) ≡ Some p → p.sums ≡ replicate 15 0) [
+  | true ↦ λ h. ap (λ (x : Place). x.sums) (sym (same_Some (record (e.1) { sums = replicate 15 0 }) p h))
+  | false ↦ λ h. no_sums places q p h
+] is
+
+pub cleared_first : (places : Places) → HasFirst 0 (cleared places)
+cleared_first places = λ q p there r. ap (λ (xs : List ℕ). slice_index xs (place_of r)) (no_sums places q p there) ∙ has_nothing r

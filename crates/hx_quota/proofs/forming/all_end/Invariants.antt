@@ -1,0 +1,10 @@
+use Rattle.std.specs.Prelude.{◌≡◌}
+use Rattle.std.specs.List.{list_all}
+use Rattle.hx_quota.specs.Counters.{tree_of}
+use Rattle.hx_quota.specs.Inside.{ordered}
+use Rattle.hx_quota.specs.Anew.{ends_up, all_ended}
+use Rattle.hx_quota.proofs.forming.all_end.Given as goal
+
+-- the walks from those that are left end exactly where all do
+abbrev pub invariant-loop-name : goal.invariant-loop-name
+invariant-loop-name l = list_all (λ p. ends_up (tree_of (ordered l.places.entries)) p.0) l.name-iterator ≡ all_ended l.places.entries

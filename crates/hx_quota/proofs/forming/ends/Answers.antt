@@ -1,0 +1,44 @@
+use Rattle.std.proofs.Common.{rules, ◌≡◌, ◌-◌, ◌<◌, false, Some, None, is_some, option_copied, option_map, sym, ap, ◌∙◌, arith}
+use Rattle.hx_model.specs.Forest.{node_of, is_there}
+use Rattle.hx_quota.specs.Counters.{entry_of, node_for, tree_of}
+use Rattle.hx_quota.specs.Inside.{ordered}
+use Rattle.hx_quota.specs.Anew.{ends_by}
+use Rattle.hx_quota.proofs.Ending.{ends_on, ends_out, ends_top}
+use Rattle.hx_quota.proofs.Placed.{entry_in, entry_at}
+use Rattle.hx_quota.proofs.Trees.{node_of-tree}
+use Rattle.hx_quota.proofs.forming.ends.Goals as goal
+
+pub loop-left-init : goal.loop-left-init
+loop-left-init c = ap (λ left. ends_by left (tree_of (ordered c.args.places.now.entries)) (Some c.args.name.now)) c.count-left.ensures
+
+pub returns-in_default : goal.returns-in_default
+returns-in_default c = sym (ends_top c.loop-left.left (tree_of (ordered c.args.places.now.entries)) (option_copied c.loop-left.next) (ap option_copied c.in_default.is)) ∙ c.loop-left.invariant
+
+pub returns-in_default-get : goal.returns-in_default-get
+returns-in_default-get c =
+    let es = ordered c.args.places.now.entries in
+    let member = c.in-Some.member.now in
+    let none : entry_of es member ≡ None = entry_at c.args.places.now.entries member ∙ ap entry_in (sym c.get.ensures.value ∙ ap option_copied c.in_default-get.is) in
+    let out : is_there (tree_of es) member ≡ false = ap is_some (node_of-tree es member ∙ ap (option_map node_for) none) in
+    sym (ends_out c.loop-left.left (tree_of es) (option_copied c.loop-left.next) member (ap option_copied c.in-Some.is) out) ∙ c.loop-left.invariant
+
+pub loop-left-preserved : goal.loop-left-preserved
+loop-left-preserved c =
+    let es = ordered c.args.places.now.entries in
+    let f = tree_of es in
+    let member = c.in-Some.member.now in
+    let entry = c.in-Some-get.place.now.entry in
+    let left = c.loop-left.left in
+    let found : entry_of es member ≡ Some entry = entry_at c.args.places.now.entries member ∙ ap entry_in (sym c.get.ensures.value ∙ ap option_copied c.in-Some-get.is) in
+    let node : node_of f member ≡ Some (node_for entry) = node_of-tree es member ∙ ap (option_map node_for) found in
+    let some_left : 0 < left = omega (arith, c.loop-left-test.true) in
+    ap (λ next. ends_by (left - 1) f next) c.as_ref-next.ensures.value
+    ∙ sym (ends_on left f (option_copied c.loop-left.next) member (node_for entry) some_left (ap option_copied c.in-Some.is) node)
+    ∙ c.loop-left.invariant
+
+pub returns : goal.returns
+returns c =
+    let f = tree_of (ordered c.args.places.now.entries) in
+    let none_left : c.loop-left.left ≡ 0 = omega (arith, c.loop-left-test.false) in
+    let last : c.is_none.result ≡ ends_by c.loop-left.left f (option_copied c.loop-left.next) = search rules in
+    last ∙ c.loop-left.invariant

@@ -1,0 +1,190 @@
+// Sums over subtrees, formed anew.
+ghost use Rattle.std.specs.Prelude.{◌≡◌, ℕ, ◌+◌, ◌<◌, ◌≤◌, true, Some, List, length, slice_get, option_map, option_copied, option_and_then};
+ghost use Rattle.std.specs.List.{IsDistinct};
+ghost use Rattle.std.specs.Map.{keys_of};
+ghost use Rattle.std.specs.Str.{bytes_eq};
+ghost use Rattle.indexmap.specs.IndexMap.{spare};
+ghost use Rattle.hx_model.specs.Forest.{is_in, parent_of, chain_of};
+ghost use Rattle.hx_quota.specs.Counters.{tree_of, AllFit};
+ghost use Rattle.hx_quota.specs.Inside.{entries_in, ordered, place_at, MayAdjust, IsAdjusted, IsSummed};
+ghost use Rattle.hx_quota.specs.Anew.{AllEnd, ends_up, all_ended, name_at, chain_at, chain_behind, with_sums, cleared, HasFirst};
+
+use crate::entry::Entry;
+use crate::places::{Change, Place, PlaceMap, adjust};
+use hx_object::Text;
+
+/// Forms the sums of all places anew, where each walk up the parents ends at a namespace without one, and says whether that is so. It takes no memory, and as many steps as all chains have members.
+pub(crate) fn form_anew(places: &mut PlaceMap) -> bool
+    requires { AllFit (ordered places.old.entries) }
+    ensures entries { ordered places.new.entries ≡ ordered places.old.entries }
+    ensures summed { result ≡ true → IsSummed (place_at places.new.entries) (ordered places.new.entries) }
+    ensures again { AllEnd (tree_of (ordered places.old.entries)) → result ≡ true }
+    ensures room { spare places.old ≤ spare places.new }
+{
+    if !all_end(places) {
+        return false;
+    }
+    clear(places);
+    add_all(places);
+    true
+}
+
+/// Whether all walks up the parents end at a namespace without one. The first one that doesn't is the last one that is made.
+fn all_end(places: &PlaceMap) -> bool
+    ensures { result ≡ all_ended places.now.entries }
+{
+    for (name, _place) in places.iter() {
+        if !ends(places, name) {
+            return false;
+        }
+    }
+    true
+}
+
+/// Whether the walk up from a namespace does. It is at most as long as there are namespaces.
+fn ends(places: &PlaceMap, name: &Text) -> bool
+    ensures { result ≡ ends_up (tree_of (ordered places.now.entries)) name.now }
+{
+    let mut next = Some(name);
+    let mut left = count(places);
+    while left > 0 {
+        left -= 1;
+        let Some(member) = next else {
+            return true;
+        };
+        let Some(place) = places.get(member) else {
+            return false;
+        };
+        next = place.entry.parent.as_ref();
+    }
+    next.is_none()
+}
+
+/// How many namespaces there are.
+fn count(places: &PlaceMap) -> usize
+    ensures { result ≡ length (tree_of (ordered places.now.entries)) }
+{
+    places.len()
+}
+
+/// Sets all sums to 0.
+fn clear(places: &mut PlaceMap)
+    ensures places { places.new.entries ≡ cleared places.old.entries }
+    ensures room { spare places.old ≤ spare places.new }
+{
+    let count = places.len();
+    for at in 0..count {
+        set_sums(places, at, [0; 15]);
+    }
+}
+
+/// Adds what each namespace has by itself to the sums of all members of its chain.
+fn add_all(places: &mut PlaceMap)
+    requires ends { AllEnd (tree_of (ordered places.old.entries)) }
+    requires fits { AllFit (ordered places.old.entries) }
+    requires cleared { HasFirst 0 places.old.entries }
+    ensures entries { entries_in places.new.entries ≡ entries_in places.old.entries }
+    ensures sums { HasFirst (length places.old.entries) places.new.entries }
+    ensures distinct { IsDistinct bytes_eq (keys_of (entries_in places.old.entries)) }
+    ensures room { spare places.old ≤ spare places.new }
+{
+    let count = places.len();
+    for at in 0..count {
+        add_up(places, at);
+    }
+}
+
+/// The same of the namespace at an index, after those before it.
+fn add_up(places: &mut PlaceMap, at: usize)
+    requires ends { AllEnd (tree_of (ordered places.old.entries)) }
+    requires fits { AllFit (ordered places.old.entries) }
+    requires distinct { IsDistinct bytes_eq (keys_of (entries_in places.old.entries)) }
+    requires within { at < length places.old.entries }
+    requires sums { HasFirst at places.old.entries }
+    ensures entries { entries_in places.new.entries ≡ entries_in places.old.entries }
+    ensures sums { HasFirst (at + 1) places.new.entries }
+    ensures room { spare places.old ≤ spare places.new }
+{
+    let change = Change {
+        take: [0; 15],
+        give: own_at(places, at),
+    };
+    adjust_up(places, at, &change);
+}
+
+/// Changes the sums of the namespace at an index, and of all above it.
+fn adjust_up(places: &mut PlaceMap, first: usize, change: &Change)
+    requires ends { AllEnd (tree_of (ordered places.old.entries)) }
+    requires distinct { IsDistinct bytes_eq (keys_of (entries_in places.old.entries)) }
+    requires may { (q : List ℕ) (p : Place) → is_in q (chain_at (entries_in places.old.entries) (Some first)) ≡ true → place_at places.old.entries q ≡ Some p → MayAdjust change.now.take change.now.give p.sums }
+    ensures entries { entries_in places.new.entries ≡ entries_in places.old.entries }
+    ensures sums { (q : List ℕ) → IsAdjusted change.now.take change.now.give (is_in q (chain_at (entries_in places.old.entries) (Some first))) (place_at places.old.entries q) (place_at places.new.entries q) }
+    ensures room { spare places.old ≤ spare places.new }
+{
+    let mut next = Some(first);
+    while let Some(at) = next {
+        let Some(mut sums) = sums_at(places, at) else {
+            return;
+        };
+        adjust(&mut sums, change);
+        set_sums(places, at, sums);
+        next = parent_index(places, at);
+    }
+}
+
+/// The index of the parent of the namespace at an index.
+fn parent_index(places: &PlaceMap, at: usize) -> Option<usize>
+    ensures { chain_at (entries_in places.now.entries) result ≡ chain_behind (entries_in places.now.entries) at }
+{
+    match parent_at(places, at) {
+        Some(parent) => index_of(places, parent),
+        None => None,
+    }
+}
+
+/// Its name.
+fn parent_at(places: &PlaceMap, at: usize) -> Option<&Text>
+    ensures { option_copied result ≡ option_and_then (parent_of (tree_of (ordered places.now.entries))) (name_at (entries_in places.now.entries) at) }
+{
+    match places.get_index(at) {
+        Some((_name, place)) => place.entry.parent.as_ref(),
+        None => None,
+    }
+}
+
+/// What the namespace at an index has by itself.
+fn own_at(places: &PlaceMap, at: usize) -> [u128; 15]
+    ensures { (n : List ℕ) (entry : Entry) → slice_get (entries_in places.now.entries) at ≡ Some (n, entry) → result ≡ entry.own }
+{
+    match places.get_index(at) {
+        Some((_name, place)) => place.entry.own,
+        None => [0; 15],
+    }
+}
+
+/// The sums of the namespace at an index.
+fn sums_at(places: &PlaceMap, at: usize) -> Option<[u128; 15]>
+    ensures { result ≡ option_map (λ e. e.1.sums) (slice_get places.now.entries at) }
+{
+    match places.get_index(at) {
+        Some((_name, place)) => Some(place.sums),
+        None => None,
+    }
+}
+
+/// Gives the namespace at an index other sums.
+fn set_sums(places: &mut PlaceMap, at: usize, sums: [u128; 15])
+    ensures places { places.new.entries ≡ with_sums at sums places.old.entries }
+    ensures room { spare places.old ≤ spare places.new }
+{
+    if let Some(place) = places.get_index_mut(at) {
+        place.sums = sums;
+    }
+}
+
+/// The index of a namespace.
+fn index_of(places: &PlaceMap, name: &Text) -> Option<usize>
+    ensures { chain_at (entries_in places.now.entries) result ≡ chain_of (tree_of (ordered places.now.entries)) name.now }
+{
+    places.get_index_of(name)
+}
