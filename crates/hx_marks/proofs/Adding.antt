@@ -1,6 +1,7 @@
 -- What a function adds to a list, by what its calls add.
 --     grown           an equal list
 --     grown_on        something behind what another call adds
+--     grown_twice     something behind what two calls add
 --     carried         the next item of a loop, and those of the rest
 --     kept_next       the next item of a loop that keeps some
 --     nothing         none
@@ -34,6 +35,10 @@ grown (Err e) new old xs ys same h = tt
 pub grown_on : {A T E : Type 0} (r : Result T E) (new mid old xs ys zs : List A) → mid ≡ old ++ xs → xs ++ ys ≡ zs → OnOk r (new ≡ mid ++ ys) → OnOk r (new ≡ old ++ zs)
 grown_on (Ok x) new mid old xs ys zs first same h = h ∙ ap (λ all. all ++ ys) first ∙ append_assoc old xs ys ∙ ap (λ all. old ++ all) same
 grown_on (Err e) new mid old xs ys zs first same h = tt
+
+pub grown_twice : {A T E : Type 0} (r : Result T E) (new mid first old xs ys zs : List A) → first ≡ old ++ xs → mid ≡ first ++ ys → OnOk r (new ≡ mid ++ zs) → OnOk r (new ≡ old ++ (xs ++ (ys ++ zs)))
+grown_twice r new mid first old xs ys zs one two h =
+    grown_on r new mid old (xs ++ ys) zs (xs ++ (ys ++ zs)) (two ∙ ap (λ all. all ++ ys) one ∙ append_assoc old xs ys) (append_assoc xs ys zs) h
 
 -- a loop adds what it has of the next item: with the rest it is the same
 pub carried : {A B : Type 0} (f : A → List B) (xs : List A) (i : ℕ) (x : A) (new mid start : List B) → i < length xs → x ≡ get_or xs i x → new ≡ mid ++ f x → mid ++ flat_map f (drop i xs) ≡ start → new ++ flat_map f (drop (i + 1) xs) ≡ start

@@ -3,8 +3,8 @@ ghost use Rattle.std.specs.Prelude.{◌≡◌, ◌++◌, ℕ, List, IfOk, OnOk, 
 ghost use Rattle.hx_model.specs.Forest.{is_in};
 ghost use Rattle.hx_marks.specs.Law.{begins_by, ending_name, ending_names, ends_following, follows};
 
+use crate::kinds::begins_to_end;
 use crate::lookups::object_in;
-use crate::writes::begins_to_end;
 use hx_forest::Forest;
 use hx_model::is_terminating;
 use hx_object::{Id, NoMemory, Object, Text};

@@ -6,6 +6,7 @@
 mod anchors;
 mod below;
 mod endings;
+mod kinds;
 mod lookups;
 mod modes;
 mod moves;

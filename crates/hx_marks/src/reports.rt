@@ -1,89 +1,22 @@
 // The reports that a write changes.
-ghost use Rattle.std.specs.Prelude.{◌≡◌, ◌++◌, ◌∷◌, [], OnOk, if◌then◌else◌, is_some, option_copied};
+ghost use Rattle.std.specs.Prelude.{◌≡◌, ◌++◌, ◌∷◌, [], OnOk, is_some, option_copied};
 ghost use Rattle.hx_model.specs.Answers.{owns_named};
 ghost use Rattle.hx_model.specs.Forest.{children_of};
 ghost use Rattle.hx_model.specs.Propagation.{as_list};
 ghost use Rattle.hx_model.specs.Tree.{forest_of};
 ghost use Rattle.hx_model.specs.declared.key.Key.TheVariants as key;
-ghost use Rattle.hx_marks.specs.Before.{hierarchy_reports_by, namespace_reports_by, place_reports_to, report_marks_by, state_of};
-ghost use Rattle.hx_marks.specs.Law.{begins_to_end};
+ghost use Rattle.hx_marks.specs.Before.{place_reports_to, state_of};
 ghost use Rattle.hx_marks.specs.Reports.{anchored_reports, created_reports, ending_reports, moved_reports, removed_reports, report_keys, reports_of, ring_reports};
 
 use crate::below::{chain_from, live_below, open_below, push_below};
-use crate::lookups::object_in;
 use crate::moves::{comes_back_by, opens_under};
-use crate::writes::{begins_to_end, parent_under};
 use hx_forest::Forest;
-use hx_model::{Key, RunConfig, is_owned_by, is_same_name, parent_by};
-use hx_object::well_known::HIERARCHY;
+use hx_model::{Key, RunConfig, is_owned_by, is_same_name};
 use hx_object::{Id, Kind, NoMemory, Object, Text};
 use hx_store::Store;
 
-/// Marks the reports that a write of an object changes.
-pub(crate) fn report_marks(
-    store: &Store,
-    forest: &Forest,
-    config: &RunConfig,
-    id: &Id,
-    old: Option<&Object>,
-    new: Option<&Object>,
-    keys: &mut Vec<Key>,
-) -> Result<(), NoMemory>
-    requires tree { forest.now.nodes ≡ forest_of (state_of store.now config.now) }
-    ensures { OnOk result (keys.new.items ≡ keys.old.items ++ report_marks_by (state_of store.now config.now) id.now (option_copied old.entry) (option_copied new.entry)) }
-{
-    match id.kind {
-        Kind::Namespace => namespace_reports(store, forest, config, &id.name, old, new, keys),
-        Kind::HierarchyConfiguration => hierarchy_reports(store, forest, config, id, new, keys),
-        Kind::SubnamespaceAnchor => anchored_reports(store, forest, config, id, old, new, keys),
-        _ => Ok(()),
-    }
-}
-
-/// Marks the reports that change where a namespace begins to leave, goes, or is made.
-fn namespace_reports(
-    store: &Store,
-    forest: &Forest,
-    config: &RunConfig,
-    name: &Text,
-    old: Option<&Object>,
-    new: Option<&Object>,
-    keys: &mut Vec<Key>,
-) -> Result<(), NoMemory>
-    requires tree { forest.now.nodes ≡ forest_of (state_of store.now config.now) }
-    ensures { OnOk result (keys.new.items ≡ keys.old.items ++ namespace_reports_by (state_of store.now config.now) name.now (option_copied old.entry) (option_copied new.entry)) }
-{
-    match (old, new) {
-        (Some(old), Some(new)) => replaced_reports(store, forest, name, old, new, keys),
-        (Some(_), None) => removed_reports(forest, name, keys),
-        (None, Some(new)) => {
-            let found = store.find(Kind::HierarchyConfiguration, name.as_str(), HIERARCHY);
-            let parent = parent_by(new, object_in(found));
-            created_reports(store, forest, config, name, parent, keys)
-        }
-        (None, None) => Ok(()),
-    }
-}
-
-/// Marks the reports that change where a namespace is replaced: it may be on its way out from now on.
-fn replaced_reports(
-    store: &Store,
-    forest: &Forest,
-    name: &Text,
-    old: &Object,
-    new: &Object,
-    keys: &mut Vec<Key>,
-) -> Result<(), NoMemory>
-    ensures { OnOk result (keys.new.items ≡ keys.old.items ++ (if begins_to_end old.now new.now then ending_reports forest.now.nodes name.now else [])) }
-{
-    if begins_to_end(old, new) {
-        ending_reports(store, forest, name, keys)?;
-    }
-    Ok(())
-}
-
 /// Marks the reports of a namespace that is on its way out from now on, of its children, and of what took part below it.
-fn ending_reports(
+pub(crate) fn ending_reports(
     store: &Store,
     forest: &Forest,
     name: &Text,
@@ -110,7 +43,11 @@ pub(crate) fn near_reports(
 }
 
 /// Marks the reports of the parent and of the children of a namespace that goes, and of the ring that it was in.
-fn removed_reports(forest: &Forest, name: &Text, keys: &mut Vec<Key>) -> Result<(), NoMemory>
+pub(crate) fn removed_reports(
+    forest: &Forest,
+    name: &Text,
+    keys: &mut Vec<Key>,
+) -> Result<(), NoMemory>
     ensures { OnOk result (keys.new.items ≡ keys.old.items ++ removed_reports forest.now.nodes name.now) }
 {
     let parent = forest.parent(name);
@@ -124,7 +61,7 @@ fn removed_reports(forest: &Forest, name: &Text, keys: &mut Vec<Key>) -> Result<
 }
 
 /// Marks the reports of a namespace that is made under a parent, of the parent, and of all that waited for it below.
-fn created_reports(
+pub(crate) fn created_reports(
     store: &Store,
     forest: &Forest,
     config: &RunConfig,
@@ -144,27 +81,8 @@ fn created_reports(
     reports_of(forest, &members, keys)
 }
 
-/// Marks the reports that change where a HierarchyConfiguration is written or removed.
-fn hierarchy_reports(
-    store: &Store,
-    forest: &Forest,
-    config: &RunConfig,
-    id: &Id,
-    new: Option<&Object>,
-    keys: &mut Vec<Key>,
-) -> Result<(), NoMemory>
-    requires tree { forest.now.nodes ≡ forest_of (state_of store.now config.now) }
-    ensures { OnOk result (keys.new.items ≡ keys.old.items ++ hierarchy_reports_by (state_of store.now config.now) id.now (option_copied new.entry)) }
-{
-    if id.name.as_str() != HIERARCHY {
-        return Ok(());
-    }
-    let home = object_in(store.find(Kind::Namespace, "", id.ns.as_str()));
-    placed_reports(store, forest, config, &id.ns, parent_under(home, new), keys)
-}
-
 /// Marks the reports that change where a namespace gets a parent. Where it has that parent already, its own alone.
-fn placed_reports(
+pub(crate) fn placed_reports(
     store: &Store,
     forest: &Forest,
     config: &RunConfig,
@@ -225,7 +143,7 @@ fn ring_reports(
 }
 
 /// Marks the report of the namespace that an anchor asks for, where the anchor is made or removed and the namespace is its own.
-fn anchored_reports(
+pub(crate) fn anchored_reports(
     store: &Store,
     forest: &Forest,
     config: &RunConfig,

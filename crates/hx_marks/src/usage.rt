@@ -6,68 +6,19 @@ ghost use Rattle.hx_model.specs.Quotas.{quotas_in};
 ghost use Rattle.hx_model.specs.Tree.{forest_of};
 ghost use Rattle.hx_model.specs.declared.key.Key.TheVariants as key;
 ghost use Rattle.hx_marks.specs.Before.{state_of};
-ghost use Rattle.hx_marks.specs.Usage.{charged_usage, counts_change, created_usage, hierarchy_usage, is_charged_anew, is_limit_of, is_recharged, moved_usage, namespace_usage, removed_usage, usage_key, usage_keys, usage_marks, usage_of};
+ghost use Rattle.hx_marks.specs.Usage.{charged_usage, counts_change, created_usage, is_charged_anew, is_limit_of, is_recharged, moved_usage, removed_usage, usage_key, usage_keys, usage_of};
 
 use crate::below::chain_from;
-use crate::lookups::object_in;
 use crate::moves::{in_one, push_up_to};
 use crate::wants::tail_of;
-use crate::writes::parent_under;
 use hx_charge::{charge_before, hard_of};
 use hx_forest::{Ancestors, Forest};
-use hx_model::{Key, RESOURCES, Resource, RunConfig, is_same_name, parent_by};
-use hx_object::well_known::HIERARCHY;
+use hx_model::{Key, RESOURCES, Resource, RunConfig, is_same_name};
 use hx_object::{Id, Kind, Limit, NoMemory, Object, Shared, Text};
 use hx_store::Store;
 
-/// Marks the quotas whose usage a write of an object changes.
-pub(crate) fn usage_marks(
-    store: &Store,
-    forest: &Forest,
-    config: &RunConfig,
-    id: &Id,
-    old: Option<&Object>,
-    new: Option<&Object>,
-    keys: &mut Vec<Key>,
-) -> Result<(), NoMemory>
-    requires tree { forest.now.nodes ≡ forest_of (state_of store.now config.now) }
-    ensures { OnOk result (keys.new.items ≡ keys.old.items ++ usage_marks (state_of store.now config.now) id.now (option_copied old.entry) (option_copied new.entry)) }
-{
-    match id.kind {
-        Kind::Namespace => namespace_usage(store, forest, config, &id.name, old, new, keys),
-        Kind::HierarchyConfiguration => hierarchy_usage(store, forest, config, id, new, keys),
-        Kind::HierarchicalResourceQuota => push_usage(id, keys),
-        _ => charged_usage(store, forest, config, &id.ns, old, new, keys),
-    }
-}
-
-/// Marks the quotas whose usage changes where a namespace goes, or is made. None changes where one is replaced.
-fn namespace_usage(
-    store: &Store,
-    forest: &Forest,
-    config: &RunConfig,
-    name: &Text,
-    old: Option<&Object>,
-    new: Option<&Object>,
-    keys: &mut Vec<Key>,
-) -> Result<(), NoMemory>
-    requires tree { forest.now.nodes ≡ forest_of (state_of store.now config.now) }
-    ensures { OnOk result (keys.new.items ≡ keys.old.items ++ namespace_usage (state_of store.now config.now) name.now (option_copied old.entry) (option_copied new.entry)) }
-{
-    match (old, new) {
-        (Some(_), Some(_)) => Ok(()),
-        (Some(_), None) => removed_usage(store, forest, config, name, keys),
-        (None, Some(new)) => {
-            let found = store.find(Kind::HierarchyConfiguration, name.as_str(), HIERARCHY);
-            let parent = parent_by(new, object_in(found));
-            created_usage(store, forest, config, name, parent, keys)
-        }
-        (None, None) => Ok(()),
-    }
-}
-
 /// Marks the quotas above a namespace that goes, where something lies below it.
-fn removed_usage(
+pub(crate) fn removed_usage(
     store: &Store,
     forest: &Forest,
     config: &RunConfig,
@@ -86,7 +37,7 @@ fn removed_usage(
 }
 
 /// Marks the quotas above a namespace that is made under a parent, where something has waited for it below.
-fn created_usage(
+pub(crate) fn created_usage(
     store: &Store,
     forest: &Forest,
     config: &RunConfig,
@@ -118,27 +69,8 @@ fn usage_from(
     }
 }
 
-/// Marks the quotas whose usage changes where a HierarchyConfiguration is written or removed.
-fn hierarchy_usage(
-    store: &Store,
-    forest: &Forest,
-    config: &RunConfig,
-    id: &Id,
-    new: Option<&Object>,
-    keys: &mut Vec<Key>,
-) -> Result<(), NoMemory>
-    requires tree { forest.now.nodes ≡ forest_of (state_of store.now config.now) }
-    ensures { OnOk result (keys.new.items ≡ keys.old.items ++ hierarchy_usage (state_of store.now config.now) id.now (option_copied new.entry)) }
-{
-    if id.name.as_str() != HIERARCHY {
-        return Ok(());
-    }
-    let home = object_in(store.find(Kind::Namespace, "", id.ns.as_str()));
-    moved_usage(store, forest, config, &id.ns, parent_under(home, new), keys)
-}
-
 /// Marks the quotas of what is above a namespace before it gets a parent, or then, and not both. Where it has that parent already, none.
-fn moved_usage(
+pub(crate) fn moved_usage(
     store: &Store,
     forest: &Forest,
     config: &RunConfig,
@@ -162,7 +94,7 @@ fn moved_usage(
 }
 
 /// Marks the quotas of a namespace and of those above it that limit what an object is charged of, where that changes. Where no charge changes, nothing is looked at.
-fn charged_usage(
+pub(crate) fn charged_usage(
     store: &Store,
     forest: &Forest,
     config: &RunConfig,
@@ -252,7 +184,7 @@ fn push_quotas(quotas: &[Shared], keys: &mut Vec<Key>) -> Result<(), NoMemory>
 }
 
 /// Marks a quota.
-fn push_usage(id: &Id, keys: &mut Vec<Key>) -> Result<(), NoMemory>
+pub(crate) fn push_usage(id: &Id, keys: &mut Vec<Key>) -> Result<(), NoMemory>
     ensures { OnOk result (keys.new.items ≡ keys.old.items ++ key.Used id.now.ns id.now.name ∷ []) }
 {
     keys.push(Key::Used {
