@@ -2,16 +2,15 @@
 use Rattle.std.proofs.Common.{◌≡◌, ℕ, suc, ◌+◌, ◌-◌, ◌<◌, ◌≤◌, Bool, true, false, cond, List, [], ◌∷◌, ◌++◌, map, length, get_or, take, drop, None, Some, refl, sym, ap, subst, ◌∙◌, arith}
 use Rattle.std.proofs.lemmas.List.{length-map, take_at as take_at_seam, take-append-drop, length-take, length-drop, drop-drop, map-append}
 use Rattle.std.proofs.Math.Seq.{drop-cons}
-use Rattle.std.specs.Cmp.{tied_itself}
 use Rattle.std.specs.Cmp.Lexicographic.{nat_list_cmp_total, nat_list_eq_equiv, slice_partial_cmp, lists_agrees, texts_ties}
-use Rattle.std.specs.FinMap.{IsAntisymmetric, nat_cmp-IsAntisymmetric, slice_cmp-IsAntisymmetric, same_map, get, contains_key, empty, get-from_entries, get-insert, get-remove, get-from_sorted, entries-from_sorted, entries, is_sorted, from_sorted, from_entries, find, put, insert as map_insert, remove as map_remove}
+use Rattle.std.specs.FinMap.{IsAntisymmetric, nat_cmp-IsAntisymmetric, slice_cmp-IsAntisymmetric, same_map, get, empty, get-from_entries, get-insert, get-remove, get-from_sorted, entries-from_sorted, entries, is_sorted, from_sorted, from_entries, find, put, insert as map_insert, remove as map_remove}
 use Rattle.std.specs.FinMap.Entries.{by_order, below_all, is_sorted-put}
 use Rattle.std.specs.HashMap.{get as held_at}
 use Rattle.std.specs.List.{drop-map, AllByRecursion}
 use Rattle.std.specs.List.Sorted.{IsStrictlySortedBy}
 use Rattle.std.specs.Map.{lookup, keys_of}
 use Rattle.std.specs.Ordering.{eq_by_cmp, nat_cmp, is_eq, is_lt, is_ge, is_some_and}
-use Rattle.std.specs.Prelude.{T, Ok, Err, OnOk, OnErr, ◌&&◌, is_some}
+use Rattle.std.specs.Prelude.{T, Ok, Err, IsOk, OnOk, ◌&&◌}
 use Rattle.std.specs.Str.{bytes_eq}
 use Rattle.std.specs.declared.cmp.Ordering.{Ordering}
 use Rattle.std.specs.declared.cmp.Ordering.TheVariants.{Less, Equal, Greater}
@@ -19,10 +18,8 @@ use Rattle.std.specs.declared.option.Option.{Option}
 use Rattle.std.specs.declared.result.Result.{Result}
 use Rattle.hx_object.specs.Texts.{bytes_cmp}
 use Rattle.hx_ports.specs.declared.keeper.Row.{Row}
-use Rattle.hx_ports.specs.declared.row_map.Before.{Before}
-use Rattle.hx_ports.specs.Keeping.{Rows, with_puts}
+use Rattle.hx_ports.specs.Keeping.{Rows}
 use Rattle.hx_ports.specs.Rows.{Entry, HeldRows, entry_of, entries_of, onto, rows_in, rows_of, rows_over}
-use Rattle.hx_ports.specs.Undone.{had_back, put_back, all_put_back}
 
 pub same_bytes : IsAntisymmetric bytes_cmp
 same_bytes = slice_cmp-IsAntisymmetric nat_cmp-IsAntisymmetric
@@ -66,53 +63,14 @@ same-rows_in old new is = same_map nat_list_cmp_total same_bytes _ _ (λ q. get-
 pub put-rows_in : (old new : HeldRows) (key : List ℕ) (row : ℕ × List ℕ) → Changes old new key (Some row) → rows_in new ≡ map_insert (rows_in old) key row
 put-rows_in old new key row is = same_map nat_list_cmp_total same_bytes _ _ (λ q. get-changed old new key (Some row) is q ∙ sym (get-insert nat_list_cmp_total (rows_in old) key row q))
 
+-- of a call that doesn't fail
+pub sure : {A E P : Type 0} (result : Result A E) → IsOk result → OnOk result P → P
+sure (Ok a) is done = done
+sure (Err e) is done = cc
+
 -- a row is cut
 pub cut-rows_in : (old new : HeldRows) (key : List ℕ) → Changes old new key None → rows_in new ≡ map_remove (rows_in old) key
 cut-rows_in old new key is = same_map nat_list_cmp_total same_bytes _ _ (λ q. get-changed old new key None is q ∙ sym (get-remove nat_list_cmp_total (rows_in old) key q))
-
--- a key has what it had once a row that was put there is taken back
-back_at : (rows : Rows) (key : List ℕ) (row : ℕ × List ℕ) (had : Option (ℕ × List ℕ)) → get rows key ≡ had → had_back key had (map_insert rows key row) ≡ rows
-back_at rows key row None is = same_map nat_list_cmp_total same_bytes _ _ (λ q.
-    get-remove nat_list_cmp_total (map_insert rows key row) key q ∙ ap (cond (eq_by_cmp bytes_cmp q key) None) (get-insert nat_list_cmp_total rows key row q) ∙ own q (eq_by_cmp bytes_cmp q key) refl)
-  where
-    own : (q : List ℕ) (b : Bool) → eq_by_cmp bytes_cmp q key ≡ b → cond b None (cond b (Some row) (get rows q)) ≡ get rows q
-    own q true e = sym is ∙ ap (get rows) (sym (same_bytes q key (tied _ e)))
-    own q false e = refl
-back_at rows key row (Some had) is =
-    rw (there) (same_map nat_list_cmp_total same_bytes _ _ (λ q.
-    get-insert nat_list_cmp_total (map_insert rows key row) key had q ∙ ap (cond (eq_by_cmp bytes_cmp q key) (Some had)) (get-insert nat_list_cmp_total rows key row q) ∙ own q (eq_by_cmp bytes_cmp q key) refl))
-  where
-    there : contains_key (map_insert rows key row) key ≡ true
-    there = ap is_some (get-insert nat_list_cmp_total rows key row key ∙ ap (λ r. cond (is_eq r) (Some row) (get rows key)) (tied_itself nat_list_cmp_total key))
-
-    own : (q : List ℕ) (b : Bool) → eq_by_cmp bytes_cmp q key ≡ b → cond b (Some had) (cond b (Some row) (get rows q)) ≡ get rows q
-    own q true e = sym is ∙ ap (get rows) (sym (same_bytes q key (tied _ e)))
-    own q false e = refl
-
--- the last one that was noted is taken back first
-pub all_put_back-push : (log : List Before) (before : Before) (rows : Rows) → all_put_back (log ++ before ∷ []) rows ≡ all_put_back log (put_back before rows)
-all_put_back-push [] before rows = refl
-all_put_back-push (b ∷ log) before rows = ap (put_back b) (all_put_back-push log before rows)
-
--- what was noted of a put takes it back
-pub put_row-back : (old new : HeldRows) (log noted : List Before) (before : Before) (key : List ℕ) (row : ℕ × List ℕ) → noted ≡ log ++ before ∷ [] → before.key ≡ key → before.had ≡ held_at bytes_eq old key → Changes old new key (Some row)
-    → all_put_back noted (rows_in new) ≡ all_put_back log (rows_in old)
-put_row-back old new log noted before key row is same had put =
-    let back = (λ i. had_back (same i) (had i) (put-rows_in old new key row put i)) ∙ back_at (rows_in old) key row (held_at bytes_eq old key) (get-rows_in old key) in
-    ap (λ l. all_put_back l (rows_in new)) is ∙ all_put_back-push log before (rows_in new) ∙ ap (all_put_back log) back
-
--- the last of what is left is taken back
-pub put_rows_back-step : (left rest : List Before) (before : Before) (rows old new : Rows) → left ≡ rest ++ before ∷ [] → new ≡ put_back before old → all_put_back left old ≡ rows → all_put_back rest new ≡ rows
-put_rows_back-step left rest before rows old new is back so_far = ap (all_put_back rest) back ∙ sym (all_put_back-push rest before old) ∙ ap (λ l. all_put_back l old) (sym is) ∙ so_far
-
--- the last row is put behind the others
-with_puts-push : (puts : List Row) (last : Row) (rows : Rows) → with_puts (puts ++ last ∷ []) rows ≡ map_insert (with_puts puts rows) last.key (last.version, last.body)
-with_puts-push [] last rows = refl
-with_puts-push (put ∷ puts) last rows = with_puts-push puts last (map_insert rows put.key (put.version, put.body))
-
-pub put_rows-last : (puts rest : List Row) (last : Row) (old noted new : Rows) → puts ≡ rest ++ last ∷ [] → noted ≡ with_puts rest old → new ≡ map_insert noted last.key (last.version, last.body) → new ≡ with_puts puts old
-put_rows-last puts rest last old noted new is before put =
-    put ∙ ap (λ rows. map_insert rows last.key (last.version, last.body)) before ∙ sym (with_puts-push rest last old) ∙ ap (λ l. with_puts l old) (sym is)
 
 pub onto-push : (es : List Entry) (e : Entry) (rows : Rows) → onto (es ++ e ∷ []) rows ≡ onto es (map_insert rows e.0 e.1)
 onto-push [] e rows = refl
@@ -225,47 +183,15 @@ pub ascends-all : (rows : List Row) (i : ℕ) → length rows ≤ i → SoFar ro
 ascends-all rows i h so_far = sym (so_far ∙ sorted-short (drop (i - 1) (entries_of rows)) (simp (length-drop, length-map) (omega arith)))
 
 -- the last of the rows that are left goes into the map
-pub lay_rows-step : (old new : List Row) (row : Row) (before after : HeldRows) (rows : Rows) → old ≡ new ++ row ∷ [] → Changes before after row.key (Some (row.version, row.body))
-    → rows_over old (rows_in before) ≡ rows → rows_over new (rows_in after) ≡ rows
+pub lay_rows-step : (old new : List Row) (row : Row) (before after rows : Rows) → old ≡ new ++ row ∷ [] → after ≡ map_insert before row.key (row.version, row.body) → rows_over old before ≡ rows → rows_over new after ≡ rows
 lay_rows-step old new row before after rows is put so_far =
-    ap (onto (entries_of new)) (put-rows_in before after row.key (row.version, row.body) put) ∙ sym (onto-push (entries_of new) (entry_of row) (rows_in before))
-    ∙ ap (λ es. onto es (rows_in before)) (sym (map-append entry_of new (row ∷ [])) ∙ ap entries_of (sym is)) ∙ so_far
+    ap (onto (entries_of new)) put ∙ sym (onto-push (entries_of new) (entry_of row) before)
+    ∙ ap (λ es. onto es before) (sym (map-append entry_of new (row ∷ [])) ∙ ap entries_of (sym is)) ∙ so_far
 
 -- rows over an empty map are their own map
 pub rows_over-empty : (rows : List Row) (held : HeldRows) → held.entries ≡ [] → rows_over rows (rows_in held) ≡ rows_of rows
 rows_over-empty rows held none = ap (λ es. onto (entries_of rows) (from_entries es)) none ∙ onto-empty (entries_of rows)
 
--- a call that fails only where a key has nothing
-pub succeeded : {A E P : Type 0} (result : Result A E) (had : Option (ℕ × List ℕ)) → OnOk result P → OnErr result (had ≡ None) → is_some had ≡ true → P
-succeeded (Ok a) had done absent there = done
-succeeded (Err e) had done absent there = absurd (subst T (sym there ∙ ap is_some absent) tt)
-
--- a key has what was noted of it
-pub put_back-put : (old new : HeldRows) (before : Before) (row : ℕ × List ℕ) → before.had ≡ Some row → is_some (held_at bytes_eq old before.key) ≡ true → Changes old new before.key (Some row) → rows_in new ≡ put_back before (rows_in old)
-put_back-put old new before row had there put =
-    put-rows_in old new before.key row put
-    ∙ sym (ap (λ h. had_back before.key h (rows_in old)) had ∙ ap (λ b. cond b (map_insert (rows_in old) before.key row) (rows_in old)) (ap is_some (get-rows_in old before.key) ∙ there))
-
-pub put_back-gone : (old : HeldRows) (before : Before) (row : ℕ × List ℕ) → before.had ≡ Some row → is_some (held_at bytes_eq old before.key) ≡ false → rows_in old ≡ put_back before (rows_in old)
-put_back-gone old before row had gone =
-    sym (ap (λ h. had_back before.key h (rows_in old)) had ∙ ap (λ b. cond b (map_insert (rows_in old) before.key row) (rows_in old)) (ap is_some (get-rows_in old before.key) ∙ gone))
-
-pub put_back-cut : (rows : Rows) (before : Before) → before.had ≡ None → map_remove rows before.key ≡ put_back before rows
-put_back-cut rows before had = sym (ap (λ h. had_back before.key h rows) had)
-
 -- once no rows lie outside of the map, it has them all
 pub laid_rows : (given left : List Row) (before after : Rows) → left ≡ [] → rows_over left after ≡ rows_over given before → after ≡ rows_over given before
 laid_rows given left before after none same = ap (λ l. rows_over l after) (sym none) ∙ same
-
--- rows ascend where one more behind them lets them
-pub sorted-front : (es : List Entry) (e : Entry) → T (is_sorted bytes_cmp (es ++ e ∷ [])) → T (is_sorted bytes_cmp es)
-sorted-front [] e h = tt
-sorted-front (f ∷ es) e h = both _ _ (below-front f.0 es (first _ _ h)) (sorted-front es e (second _ _ h))
-  where
-    below-front : (key : List ℕ) (fs : List Entry) → T (below_all bytes_cmp key (fs ++ e ∷ [])) → T (below_all bytes_cmp key fs)
-    below-front key [] h = tt
-    below-front key (f ∷ fs) h = both _ _ (first _ _ h) (below-front key fs (second _ _ h))
-
--- the last of rows that ascend is taken
-pub ascends-popped : (old new : List Row) (row : Row) → old ≡ new ++ row ∷ [] → is_sorted bytes_cmp (entries_of old) ≡ true → is_sorted bytes_cmp (entries_of new) ≡ true
-ascends-popped old new row is h = so-true _ (sorted-front (entries_of new) (entry_of row) (subst T (sym h ∙ ap (is_sorted bytes_cmp) (ap entries_of is ∙ map-append entry_of new (row ∷ []))) tt))

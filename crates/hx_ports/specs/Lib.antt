@@ -3,5 +3,4 @@ pub mod Causes
 pub mod Keeping
 pub mod Rows
 pub mod Shown
-pub mod Undone
 pub mod Views

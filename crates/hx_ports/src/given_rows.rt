@@ -6,9 +6,8 @@ ghost use Rattle.hx_object.specs.Texts.{bytes_cmp};
 ghost use Rattle.hx_ports.specs.Keeping.{first_behind, row_of_entry};
 ghost use Rattle.hx_ports.specs.Rows.{entry_of, entries_of, is_told, lies_behind, rows_over, rows_in};
 
-use crate::keeper::{Meta, Row};
-use crate::row_key::RowKey;
-use crate::row_map::{RowMap, copy_rows, held_row_behind, sort_rows};
+use crate::keeper::{Meta, Row, copy_row};
+use crate::row_map::{RowMap, copy_rows, held_row_behind, put_row, sort_rows};
 use hx_object::{List, NoMemory};
 use std::alloc::Global;
 
@@ -88,22 +87,15 @@ fn order_rows(given: &mut Vec<Row>, held: &mut RowMap) -> Result<(), NoMemory>
     sort_rows(held)
 }
 
-/// Puts the rows of a list into the map, the last one first, so that of those with one key the first stays. Where memory ends, the rest stays in the list.
+/// Puts the rows of a list into the map, the last one first, so that of those with one key the first stays. Memory is asked for before the first one is put.
 pub(crate) fn lay_rows(given: &mut Vec<Row>, held: &mut RowMap) -> Result<(), NoMemory>
     ensures laid { OnOk result (given.new.items ≡ []) }
     ensures same { rows_over given.new.items (rows_in held.new) ≡ rows_over given.old.items (rows_in held.old) }
     ensures ascends { is_sorted bytes_cmp (entries_of given.old.items) ≡ true → is_sorted bytes_cmp (entries_of given.new.items) ≡ true }
 {
+    held.reserve(given.len())?;
     while let Some(row) = given.pop() {
-        if let Err(failed) = held.insert(RowKey::of(row.key), (row.version, row.body)) {
-            let (key, (version, body)) = failed.value;
-            let _ = given.push(Row {
-                key: key.into_bytes(),
-                version,
-                body,
-            });
-            return Err(NoMemory);
-        }
+        put_row(held, row);
     }
     Ok(())
 }
@@ -114,11 +106,7 @@ fn given_row_behind(given: &[Row], after: &[u8]) -> Result<Option<Row>, NoMemory
     ensures { IfOk result (λ row. row ≡ option_map row_of_entry (find_first (lies_behind after.now) (entries_of given.now))) }
 {
     match given.get(place_behind(given, after)) {
-        Some(row) => Ok(Some(Row {
-            key: row.key.clone()?,
-            version: row.version,
-            body: row.body.clone()?,
-        })),
+        Some(row) => Ok(Some(copy_row(&row.key, row.version, &row.body)?)),
         None => Ok(None),
     }
 }

@@ -25,15 +25,26 @@ impl From<NoMemory> for KeepFault {
 }
 
 /// A stored object: its key, its version and its text. Key and body are UTF-8, and a version is at most 2^63 - 1.
-#[derive(Clone, PartialEq, Eq, Drop)]
+#[derive(Drop)]
 pub struct Row {
     pub key: List<u8>,
     pub version: u64,
     pub body: List<u8>,
 }
 
+/// A copy of a row.
+pub(crate) fn copy_row(key: &List<u8>, version: u64, body: &List<u8>) -> Result<Row, NoMemory>
+    ensures { IfOk result (λ row. row ≡ record { key = key.now; version = version; body = body.now }) }
+{
+    Ok(Row {
+        key: key.clone()?,
+        version,
+        body: body.clone()?,
+    })
+}
+
 /// What a keeper says of itself: the schema of its rows, its last version and the number of its rows.
-#[derive(Clone, Copy, Debug, PartialEq, Eq)]
+#[derive(Clone, Copy)]
 pub struct Meta {
     pub schema: u64,
     pub version: u64,

@@ -63,12 +63,6 @@ impl MemSource {
             faults: 0,
         }
     }
-
-    pub fn faults(&self) -> u64
-        ensures { result ≡ (⟦<MemSource as Source>⟧.shown self.now).faults }
-    {
-        self.faults
-    }
 }
 
 impl Source for MemSource {
@@ -122,18 +116,6 @@ impl MemSink {
     {
         self.sink.bytes()
     }
-
-    pub fn faults(&self) -> u64
-        ensures { result ≡ (⟦<MemSink as Sink>⟧.shown self.now).faults }
-    {
-        self.faults
-    }
-
-    pub fn stalls(&self) -> u64
-        ensures { result ≡ (⟦<MemSink as Sink>⟧.shown self.now).stalls }
-    {
-        self.sink.stalls()
-    }
 }
 
 impl Sink for MemSink {
@@ -159,7 +141,7 @@ impl Sink for MemSink {
 }
 
 /// A commit that fails, by its number, and whether its batch lands all the same.
-#[derive(Clone, Copy, Debug, PartialEq, Eq)]
+#[derive(Clone, Copy)]
 pub struct FailCommit {
     pub call: u64,
     pub landed: bool,
@@ -228,12 +210,6 @@ impl MemKeeper {
         self.broken
     }
 
-    pub fn faults(&self) -> u64
-        ensures { result ≡ (⟦<MemKeeper as Keeper>⟧.shown self.now).faults }
-    {
-        self.faults
-    }
-
     /// Counts a fault.
     fn fault(&mut self) -> KeepFault
         ensures result { result ≡ KeepFault.Fault }
@@ -258,16 +234,18 @@ impl MemKeeper {
         }
         Ok(())
     }
+}
 
-    /// Whether the batch of this commit lands, if the commit is one that fails.
-    fn failing_commit(&self) -> Option<bool>
-        ensures { result ≡ landing self.now.fail_commits.items self.now.commits }
-    {
-        self.fail_commits
-            .iter()
-            .find(|fail| fail.call == self.commits)
-            .map(|fail| fail.landed)
+/// Whether the batch of the commit with this number lands, if the commit is one that fails.
+fn landing(fails: &[FailCommit], number: u64) -> Option<bool>
+    ensures { result ≡ landing fails.now number }
+{
+    for fail in fails {
+        if fail.call == number {
+            return Some(fail.landed);
+        }
     }
+    None
 }
 
 impl Keeper for MemKeeper {
@@ -329,7 +307,7 @@ impl Keeper for MemKeeper {
         if self.broken {
             return Err(self.fault());
         }
-        let Some(landed) = self.failing_commit() else {
+        let Some(landed) = landing(self.fail_commits.as_slice(), self.commits) else {
             return self.keeper.commit(batch);
         };
         if landed {

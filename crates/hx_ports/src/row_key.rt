@@ -1,12 +1,12 @@
 // The key of a row.
-ghost use Rattle.std.specs.Prelude.{◌≡◌, [], ◌∷◌, IfOk, nat_eq, refl, Some};
+ghost use Rattle.std.specs.Prelude.{◌≡◌, [], ◌∷◌, nat_eq, refl, Some};
 ghost use Rattle.std.specs.Cmp as laws_of;
 ghost use Rattle.std.specs.Cmp.Lexicographic.{pointwise, slice_cmp, nat_list_eq_equiv, nat_list_cmp_total, texts_ties, texts_po};
 ghost use Rattle.std.specs.Cmp.Rules.{hashing};
 ghost use Rattle.std.specs.Ordering.{nat_cmp};
 ghost use Rattle.std.proofs.Common.{rules};
 
-use hx_object::{List, NoMemory};
+use hx_object::List;
 use std::cmp::Ordering;
 use std::hash::{Hash, Hasher};
 use std::marker::Model;
@@ -32,18 +32,10 @@ impl RowKey {
         RowKey { bytes }
     }
 
-    pub(crate) fn into_bytes(self) -> List<u8>
-        ensures { result ≡ self }
+    pub(crate) fn bytes(&self) -> &List<u8>
+        ensures { result.now ≡ self.now }
     {
-        let RowKey { bytes } = self;
-        bytes
-    }
-
-    /// A copy of the bytes.
-    pub(crate) fn copy(&self) -> Result<List<u8>, NoMemory>
-        ensures { IfOk result (λ bytes. bytes ≡ self.now) }
-    {
-        Ok(self.bytes.clone()?)
+        &self.bytes
     }
 
     pub(crate) fn as_slice(&self) -> &[u8]

@@ -5,11 +5,11 @@ ghost use Rattle.hx_ports.specs.Causes.{HasCause, WritesAtMost, StallCause};
 ghost use Rattle.hx_ports.specs.Views.{SourceView, SinkView};
 
 /// A read failed, and the source's count of faults rose.
-#[derive(Clone, Copy, Debug, PartialEq, Eq)]
+#[derive(Clone, Copy)]
 pub struct ReadFault;
 
 /// A write failed, and the sink's count of faults rose.
-#[derive(Clone, Copy, Debug, PartialEq, Eq)]
+#[derive(Clone, Copy)]
 pub struct WriteFault;
 
 /// Gives bytes, and counts the reads that failed.

@@ -67,12 +67,6 @@ impl SureSink {
     {
         self.into.as_slice()
     }
-
-    pub fn stalls(&self) -> u64
-        ensures { result ≡ (⟦<SureSink as Sink>⟧.shown self.now).stalls }
-    {
-        self.stalls
-    }
 }
 
 impl Sink for SureSink {

@@ -119,7 +119,7 @@ impl Keeper for SureKeeper {
             cuts,
         } = batch;
         lay_rows(&mut self.given, &mut self.rows)?;
-        put_rows(self.alloc, &mut self.rows, puts.into_vec())?;
+        put_rows(&mut self.rows, puts.into_vec())?;
         cut_rows(&mut self.rows, cuts.into_vec());
         self.meta.version = version;
         Ok(())

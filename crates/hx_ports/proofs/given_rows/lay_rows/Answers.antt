@@ -1,16 +1,12 @@
-use Rattle.hx_ports.proofs.Placed.{ascends-popped, changes-at, lay_rows-step}
+use Rattle.std.proofs.Common.{◌≡◌, ◌∙◌, ◌+◌, ap, arith, length, length-append}
+use Rattle.hx_ports.specs.Rows.{rows_in}
+use Rattle.hx_ports.proofs.Placed.{lay_rows-step}
 use Rattle.hx_ports.proofs.given_rows.lay_rows.Goals as goal
 
-pub loop-row-preserved-in_default-insert : goal.loop-row-preserved-in_default-insert
-loop-row-preserved-in_default-insert c = record {
-  same = lay_rows-step c.loop-row.given.items c.pop.new.self.items c.in-Some.row c.loop-row.held c.insert.new.self _ c.in-Some.ensures.items
-      (changes-at c.loop-row.held c.insert.new.self c.in-Some.row.key c.of.result _ c.of.ensures c.in_default-insert.ensures.updates.0) c.loop-row.invariant.same;
-  ascends = λ h. ascends-popped c.loop-row.given.items c.pop.new.self.items c.in-Some.row c.in-Some.ensures.items (c.loop-row.invariant.ascends h);
-}
-
-pub loop-row-preserved-in_default-insert-2 : goal.loop-row-preserved-in_default-insert-2
-loop-row-preserved-in_default-insert-2 c = record {
-  same = lay_rows-step c.loop-row.given.items c.pop.new.self.items c.in-Some.row c.loop-row.held c.insert.new.self _ c.in-Some.ensures.items
-      (changes-at c.loop-row.held c.insert.new.self c.in-Some.row.key c.of.result _ c.of.ensures c.in_default-insert.ensures.updates.0) c.loop-row.invariant.same;
-  ascends = λ h. ascends-popped c.loop-row.given.items c.pop.new.self.items c.in-Some.row c.in-Some.ensures.items (c.loop-row.invariant.ascends h);
+pub loop-row-preserved : goal.loop-row-preserved
+loop-row-preserved c = record {
+  same = lay_rows-step c.loop-row.given.items c.pop.new.self.items c.in-Some.row (rows_in c.loop-row.held) (rows_in c.put_row.new.held) _ c.in-Some.ensures.items c.put_row.ensures.put c.loop-row.invariant.same;
+  room =
+      let long : length c.loop-row.given.items ≡ length c.pop.new.self.items + 1 = ap length c.in-Some.ensures.items ∙ (simp length-append (omega arith)) in
+      omega (arith, long, c.loop-row.invariant.room, c.put_row.ensures.room);
 }
