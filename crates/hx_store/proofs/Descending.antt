@@ -1,20 +1,16 @@
 -- Places whose names descend: the last one has the least name.
-use Rattle.std.proofs.Common.{◌≡◌, ℕ, ◌+◌, ◌-◌, zero, suc, Bool, false, Option, Some, None, List, [], ◌∷◌, length, take, get_or, Ordering, refl, sym, ap, subst, ◌∙◌, arith, true≢false, Global}
+use Rattle.std.proofs.Common.{◌≡◌, ℕ, ◌+◌, ◌-◌, zero, suc, Bool, false, Option, Some, None, List, [], ◌∷◌, ◌++◌, reverse, length, take, get_or, refl, sym, ap, subst, ◌∙◌, arith, true≢false, Global}
 use Rattle.std.specs.Prelude.{String, is_some, IfSome, slice_get, swap_remove, position}
-use Rattle.std.specs.Borrow.{Bor}
-use Rattle.std.specs.Cmp.{IsStrictWeakOrder}
-use Rattle.std.specs.Fn.{Called, Mut}
 use Rattle.std.specs.Ordering.{is_lt}
 use Rattle.std.specs.List.{AllByRecursion, IsDistinct}
-use Rattle.std.specs.List.Sorted.{IsPermutation, IsSortedBy}
+use Rattle.std.specs.List.Sorted.{IsPermutation, IsSorted}
 use Rattle.std.specs.Map.{keys_of}
 use Rattle.std.specs.Str.{bytes_eq}
 use Rattle.std.specs.String.{string_bytes, string_cmp, string_eq}
 use Rattle.std.proofs.lemmas.Cmp.{nat_list_eq_equiv, on_equiv}
-use Rattle.std.proofs.lemmas.Fn.{always_returns_same}
+use Rattle.std.proofs.lemmas.List.{reverse-append}
 use Rattle.std.proofs.lemmas.Map.Entries.{lookup_from_place}
 use Rattle.indexmap.proofs.MapLemmas.{lookup_permutation, swap_remove_entry-found, swap_remove_last}
-use Rattle.indexmap.specs.Calls.{ComparesEntriesAs}
 use Rattle.indexmap.specs.IndexMap.{swap_remove_entry}
 use Rattle.hx_object.specs.Texts.{bytes_cmp}
 use Rattle.hx_object.specs.declared.object.Object.{Object}
@@ -22,40 +18,50 @@ use Rattle.hx_store.specs.Least.{Descends, IsLeast, is_less}
 use Rattle.hx_store.specs.Places.{found}
 use Rattle.hx_store.proofs.Least.{Entry, at_each, names_ranked, not_less_itself, place_among}
 
--- ---- what a sort gives
+-- ---- what a sort gives, turned round
 
-falls : Entry → Entry → Bool
-falls a b = is_less b.0 a.0
+-- no name is less than one before it
+abbrev Ascends : List (String Global) → Type 0
+Ascends [] = Unit {0}
+Ascends (name ∷ names) = AllByRecursion (λ other. is_less other name ≡ false) names × Ascends names
 
-falls_ranked : IsStrictWeakOrder falls
-unfolding falls
-falls_ranked = record { one_way = λ x y h. names_ranked.one_way y.0 x.0 h; chain = λ x y z a b. names_ranked.chain z.0 y.0 x.0 b a }
-
-further : (k name : String Global) (names : List (String Global)) → is_less k name ≡ false → AllByRecursion (λ other. is_less name other ≡ false) names → AllByRecursion (λ other. is_less k other ≡ false) names
+further : (k name : String Global) (names : List (String Global)) → is_less name k ≡ false → AllByRecursion (λ other. is_less other name ≡ false) names → AllByRecursion (λ other. is_less other k ≡ false) names
 further k name [] less all = tt
-further k name (n ∷ names) less all = (names_ranked.chain k name n less all.0, further k name names less all.1)
+further k name (n ∷ names) less all = (names_ranked.chain n name k all.0 less, further k name names less all.1)
 
-first_two : (e : Entry) (es : List Entry) → IsSortedBy falls (e ∷ es) → Descends (keys_of es) → AllByRecursion (λ other. is_less e.0 other ≡ false) (keys_of es)
-unfolding falls
-first_two e [] sorted rest = tt
-first_two e (n ∷ es) sorted rest = let less = sorted zero e (omega arith) (omega arith) in (less, further e.0 n.0 (keys_of es) less rest.0)
+first_two : (name : String Global) (names : List (String Global)) → IsSorted string_cmp (name ∷ names) → Ascends names → AllByRecursion (λ other. is_less other name ≡ false) names
+first_two name [] sorted rest = tt
+first_two name (n ∷ names) sorted rest = let less : is_less n name ≡ false = sorted zero name (omega arith) (omega arith) in (less, further name n names less rest.0)
 
-descends_from : (es : List Entry) → IsSortedBy falls es → Descends (keys_of es)
-descends_from [] sorted = tt
-descends_from (e ∷ es) sorted =
-    let rest = descends_from es (λ k d _ within. ap (λ n. falls (get_or (e ∷ es) n d) (get_or es k d)) (next k) ∙ sorted (suc k) d (omega arith) (omega arith)) in
-    (first_two e es sorted rest, rest)
+ascends_from : (names : List (String Global)) → IsSorted string_cmp names → Ascends names
+ascends_from [] sorted = tt
+ascends_from (name ∷ names) sorted =
+    let rest = ascends_from names (λ k d _ within. ap (λ n. is_less (get_or (name ∷ names) n d) (get_or names k d)) (next k) ∙ sorted (suc k) d (omega arith) (omega arith)) in
+    (first_two name names sorted rest, rest)
   where
     next : (k : ℕ) → suc (k + 1) ≡ suc k + 1
     next k = omega arith
 
--- what a sort by names ensures, where each call compares them backwards
-pub sorted_by_names : {F : Type 0} {g : Mut F (Bor (String Global) × (Bor (Option Object) × (Bor (String Global) × (Bor (Option Object) × Unit {0})))) Ordering} {f : F} (es : List Entry)
-    → ((lt : Entry → Entry → Bool) → IsStrictWeakOrder lt → ComparesEntriesAs g lt f → IsSortedBy lt es)
-    → ((a : Bor (String Global) × (Bor (Option Object) × (Bor (String Global) × (Bor (Option Object) × Unit {0})))) (r : Ordering) (f' : F) → Called g f a r f' → (r ≡ string_cmp a.1.1.0.now a.0.now) × (f' ≡ f)) → Descends (keys_of es)
-unfolding falls
-sorted_by_names {g = g} {f = f} es up says = descends_from es (up falls falls_ranked
-    (always_returns_same g (λ a r. is_lt r ≡ falls (a.0.now, a.1.0.now) (a.1.1.0.now, a.1.1.1.0.now)) f (λ a r f' k. (ap is_lt (says a r f' k).0, (says a r f' k).1))))
+all_push : (P : String Global → Type 0) (es : List Entry) (e : Entry) → AllByRecursion P (keys_of es) → P e.0 → AllByRecursion P (keys_of (es ++ e ∷ []))
+all_push P [] e all last = (last, tt)
+all_push P (f ∷ es) e all last = (all.0, all_push P es e all.1 last)
+
+all_reversed : (P : String Global → Type 0) (es : List Entry) → AllByRecursion P (keys_of es) → AllByRecursion P (keys_of (reverse es))
+all_reversed P [] all = tt
+all_reversed P (e ∷ es) all = subst (λ fs. AllByRecursion P (keys_of fs)) (sym (reverse-append (e ∷ []) es)) (all_push P (reverse es) e (all_reversed P es all.1) all.0)
+
+descends_push : (es : List Entry) (e : Entry) → Descends (keys_of es) → AllByRecursion (λ other. is_less other e.0 ≡ false) (keys_of es) → Descends (keys_of (es ++ e ∷ []))
+descends_push [] e down all = (tt, tt)
+descends_push (f ∷ es) e down all = (all_push (λ other. is_less f.0 other ≡ false) es e down.0 all.0, descends_push es e down.1 all.1)
+
+descends_reversed : (es : List Entry) → Ascends (keys_of es) → Descends (keys_of (reverse es))
+descends_reversed [] up = tt
+descends_reversed (e ∷ es) up =
+    subst (λ fs. Descends (keys_of fs)) (sym (reverse-append (e ∷ []) es)) (descends_push (reverse es) e (descends_reversed es up.1) (all_reversed (λ other. is_less other e.0 ≡ false) es up.0))
+
+-- sorted by their names, and then turned round
+pub sorted_backwards : (old new : List Entry) → IsSorted string_cmp (keys_of old) → new ≡ reverse old → Descends (keys_of new)
+sorted_backwards old new up is = subst (λ es. Descends (keys_of es)) (sym is) (descends_reversed old (ascends_from (keys_of old) up))
 
 -- the places are the same in another order
 pub places_moved : (old new : List Entry) → IsPermutation old new → IsDistinct string_eq (keys_of new) → (q : List ℕ) → place_among new q ≡ place_among old q

@@ -11,7 +11,7 @@ use Rattle.std.proofs.lemmas.Map.Text.{hash_map_updates_text}
 use Rattle.std.proofs.lemmas.Slice.Eq.{bytes_eq-Decides}
 use Rattle.std.proofs.Common.{Global}
 use Rattle.hx_object.specs.declared.object.Object.{Object}
-use Rattle.hx_store.specs.Places.{entries_of, place_on, EditsShelf, Place, EditsBoard, EditsShelves, IsBoard, IsFull, IsNewBoard, AreShelves, AreShelvesBut, made, filled, unchanged, place_in, place_of, board_in}
+use Rattle.hx_store.specs.Places.{entries_of, place_alone, EditsShelf, Place, EditsBoard, EditsShelves, IsShelf, IsBoard, IsFull, IsNewShelf, IsNewBoard, AreShelves, AreShelvesBut, made, filled, unchanged, place_in, place_of, board_in}
 use Rattle.hx_store.specs.declared.board.Board.{Board}
 use Rattle.hx_store.specs.declared.board.Board.TheVariants.{Empty, One}
 use Rattle.hx_store.specs.declared.shelf.Shelf.{Shelf}
@@ -66,14 +66,24 @@ module _ (g : Place → Place) (old new : Shelves) (ns name : List ℕ) where
 pub all_but : (shelves : Shelves) (ns : List ℕ) → AreShelves shelves → AreShelvesBut ns shelves
 all_but shelves ns sound = (sound.0, λ n board there. ((sound.1 n board there).0, λ _. (sound.1 n board there).1))
 
--- a board that becomes a shelf with one more place
-pub grown_edits : (old new : Board) (was now : Shelf) (name : List ℕ) → ((q : List ℕ) → place_in old q ≡ place_on was q) → ((q : List ℕ) → place_in new q ≡ place_on now q) → EditsShelf made was now name → EditsBoard made old new name
-grown_edits old new was now name before after edits q = after q ∙ edits q ∙ ap (λ p. cond (bytes_eq name q) (made p) p) (sym (before q))
+-- a board of one place that becomes a shelf with one more place
+pub grown_edits : (old new : Board) (held : List ℕ) (place : Option Object) (name : List ℕ) → ((q : List ℕ) → place_in old q ≡ place_alone held place q)
+    → ((q : List ℕ) → place_in new q ≡ cond (bytes_eq name q) (made (place_alone held place q)) (place_alone held place q)) → EditsBoard made old new name
+grown_edits old new held place name before after q = after q ∙ ap (λ p. cond (bytes_eq name q) (made p) p) (sym (before q))
 
 -- where the boards are the same
 pub same_shelves : (old new : Shelves) → new.shelves.entries ≡ old.shelves.entries → AreShelves old → AreShelves new
 same_shelves old new same =
     subst (λ es. IsDistinct string_eq (keys_of es) × ((ns : List ℕ) (board : Board) → lookup (λ k. bytes_eq ns (string_bytes k)) es ≡ Some board → IsBoard board × IsFull board)) (sym same)
+
+-- ---- shelves of no place, and of one
+
+pub empty_shelf : (shelf : Shelf) → shelf.places.entries ≡ [] → shelf.descends ≡ false → IsShelf shelf
+unfolding IsDistinct
+empty_shelf shelf none not = (subst (λ es. IsDistinct string_eq (keys_of es)) (sym none) tt, λ is. absurd (true≢false (sym is ∙ not)))
+
+pub new_shelf : (old new : Shelf) (name : List ℕ) → old.places.entries ≡ [] → EditsShelf made old new name → IsNewShelf name new
+new_shelf old new name none edits q = edits q ∙ ap (λ es. let p = lookup (λ k. bytes_eq q (string_bytes k)) es in cond (bytes_eq name q) (made p) p) none
 
 -- ---- boards of no place, and of one
 

@@ -1,8 +1,9 @@
 -- What edits of places make of the objects.
 use Rattle.std.proofs.Common.{◌≡◌, ◌≢◌, ◌≤◌, ◌<◌, ◌+◌, ◌-◌, ◌==◌, ◌++◌, ℕ, suc, Bool, true, false, cond, Option, Some, None, List, [], ◌∷◌, length, get_or, drop, refl, sym, ap, subst, ◌∙◌, true≢false, eqb-true, eq-eqb, add-one, drop-cons, arith}
-use Rattle.std.specs.Prelude.{option_and_then, IsSome, IfSome, is_some, Result, Ok, Err, MatchResult, OnOk, slice_get, slice_set}
+use Rattle.std.specs.Prelude.{option_and_then, option_copied, IsSome, IfSome, is_some, Result, Ok, Err, MatchResult, OnOk, slice_get, slice_set}
 use Rattle.std.proofs.lemmas.List.{drop-set-lt}
 use Rattle.std.proofs.lemmas.Option.{get_or_from_slice_get}
+use Rattle.std.specs.Borrow.{Bor}
 use Rattle.std.specs.Cmp.{both_ways, tied_itself}
 use Rattle.std.specs.List.{IsDistinct, flat_map}
 use Rattle.std.specs.Map.{keys_of, values_of, lookup}
@@ -133,6 +134,12 @@ objects_write old new (Cut id) sound sound_new there edits =
 pub place_kept : (g : Place → Place) (old new : Places) (id : Id) → EditsPlaces g old new id → ((p : Place) → IsSome p → IsSome (g p)) → KeepsPlaces old new
 place_kept g old new id edits keeps (Put x) there = kept_by g old new id edits keeps x.id there
 place_kept g old new id edits keeps (Cut _) there = tt
+
+-- where nothing is put, nothing wants a place
+pub none_there : (places : Places) (object : Option (Bor Object)) (w : Write) → option_copied object ≡ object_of w → is_some object ≡ false → HasPlace places w
+none_there places None (Put x) is none = absurd (true≢false (sym (ap is_some is)))
+none_there places None (Cut id) is none = tt
+none_there places (Some o) w is none = absurd (true≢false none)
 
 pub place_there : (old new : Places) (w : Write) → EditsPlaces made old new (id_of w) → HasPlace new w
 place_there old new (Put x) edits = subst IsSome (sym (here made old new x.id edits)) (made_some (place_at old x.id))

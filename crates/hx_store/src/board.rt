@@ -1,9 +1,10 @@
 // The objects of one kind in one namespace: one by itself, or a shelf of them.
-ghost use Rattle.std.specs.Prelude.{◌≡◌, ◌++◌, ◌↔◌, ℕ, List, IfOk, OnOk, IsTrue, [], MatchResult, option_copied};
+ghost use Rattle.std.specs.Prelude.{◌≡◌, ◌++◌, ◌↔◌, ℕ, List, cond, IfOk, OnOk, IsTrue, [], MatchResult, option_copied};
+ghost use Rattle.std.specs.Str.{bytes_eq};
 ghost use Rattle.hx_store.specs.Least.{IsLeast};
 ghost use Rattle.hx_store.specs.Places.{IsBoard, IsShelf, place_in, place_on, place_alone, entries_of, found, EditsBoard, made, filled, swept, unchanged, objects_in, IsNewBoard};
 
-use crate::shelf::Shelf;
+use crate::shelf::{Shelf, list_place};
 use hx_object::{NoMemory, Shared};
 use std::alloc::Global;
 use std::hash::RandomState;
@@ -11,7 +12,6 @@ use std::hash::RandomState;
 /// The objects of one kind in one namespace, by their names.
 ///
 /// Most boards have one place, which needs no map. A shelf takes them when a second name gets a place.
-#[derive(Drop)]
 pub(crate) enum Board {
     /// No places.
     Empty,
@@ -19,6 +19,19 @@ pub(crate) enum Board {
     One { name: String, place: Option<Shared> },
     /// A shelf of places.
     Many(Box<Shelf>),
+}
+
+impl Drop for Board {
+    fn drop(self) {
+        match self {
+            Board::Empty => {}
+            Board::One { name, place } => {
+                drop(name);
+                drop(place);
+            }
+            Board::Many(shelf) => drop(shelf),
+        }
+    }
 }
 
 impl Board {
@@ -68,9 +81,7 @@ impl Board {
                 if name == held.as_str() {
                     return Ok(());
                 }
-                let mut shelf = shelf_of(alloc, keys, held.as_str(), place)?;
-                shelf.make(name)?;
-                *self = Board::Many(Box::new(alloc, shelf)?);
+                *self = Board::Many(grown(alloc, keys, held.as_str(), place, name)?);
                 Ok(())
             }
             Board::Many(shelf) => shelf.as_mut().make(name),
@@ -128,12 +139,7 @@ impl Board {
     {
         match self {
             Board::Empty => Ok(()),
-            Board::One { place, .. } => {
-                if let Some(object) = place {
-                    listed.push(object.share()?)?;
-                }
-                Ok(())
-            }
+            Board::One { place, .. } => list_place(place, listed),
             Board::Many(shelf) => shelf.as_ref().list(listed),
         }
     }
@@ -158,6 +164,22 @@ impl Board {
             Board::Many(shelf) => shelf.as_ref().least(),
         }
     }
+}
+
+/// A shelf with one place, and an empty one of another name.
+fn grown(
+    alloc: Global,
+    keys: RandomState,
+    held: &str,
+    place: &Option<Shared>,
+    name: &str,
+) -> Result<Box<Shelf>, NoMemory>
+    ensures shelf { IfOk result (λ shelf. IsShelf shelf.value) }
+    ensures places { IfOk result (λ shelf. (q : List ℕ) → place_on shelf.value q ≡ cond (bytes_eq name.now q) (made (place_alone held.now place.now q)) (place_alone held.now place.now q)) }
+{
+    let mut shelf = shelf_of(alloc, keys, held, place)?;
+    shelf.make(name)?;
+    Ok(Box::new(alloc, shelf)?)
 }
 
 /// A shelf with one place.

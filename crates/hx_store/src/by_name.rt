@@ -4,11 +4,10 @@ ghost use Rattle.hx_store.specs.Places.{ArePlaces, EditsPlaces, made, filled, sw
 ghost use Rattle.hx_store.specs.ByName.{turned, turned_places, if_indexed};
 
 use crate::change::may_be_indexed;
-use crate::places::index_of;
+use crate::places::{empty_kinds, index_of};
 use crate::shelves::Shelves;
 use hx_object::{Id, Kind, NoMemory, Shared};
 use std::alloc::Global;
-use std::array;
 use std::hash::RandomState;
 
 /// The sources and the anchors among the objects, kind by kind in the order of their numbers.
@@ -26,7 +25,7 @@ impl ByName {
         ensures empty { (i : ℕ) (shelves : Shelves) → slice_get result.kinds i ≡ Some shelves → shelves.shelves.entries ≡ [] }
     {
         ByName {
-            kinds: array::from_fn(|_| Shelves::new(alloc, keys)),
+            kinds: empty_kinds(alloc, keys),
         }
     }
 

@@ -29,7 +29,7 @@ impl Places {
         ensures empty { (i : ℕ) (shelves : Shelves) → slice_get result.kinds i ≡ Some shelves → shelves.shelves.entries ≡ [] }
     {
         Places {
-            kinds: array::from_fn(|_| Shelves::new(alloc, keys)),
+            kinds: empty_kinds(alloc, keys),
         }
     }
 
@@ -101,6 +101,14 @@ impl Places {
             Some(ns) => shelves.list_in(ns.as_str(), listed),
         }
     }
+}
+
+/// No objects, kind by kind.
+pub(crate) fn empty_kinds(alloc: Global, keys: RandomState) -> [Shelves; KINDS]
+    ensures long { length result ≡ 14 }
+    ensures empty { (i : ℕ) (shelves : Shelves) → slice_get result i ≡ Some shelves → shelves.shelves.entries ≡ [] }
+{
+    array::from_fn(|_| Shelves::new(alloc, keys))
 }
 
 /// Where the objects of a kind lie.

@@ -8,7 +8,7 @@ ghost use Rattle.std.specs.Str.{bytes_eq};
 ghost use Rattle.std.specs.String.{string_eq};
 ghost use Rattle.std.specs.Option.{option_map};
 ghost use Rattle.hx_store.specs.Least.{Descends, IsLeast, lesser, least_entry};
-ghost use Rattle.hx_store.specs.Places.{IsShelf, place_on, found, EditsShelf, made, filled, swept, unchanged, objects_on, IsNewShelf};
+ghost use Rattle.hx_store.specs.Places.{IsShelf, place_on, found, EditsShelf, made, filled, swept, unchanged, of_place, objects_on, IsNewShelf};
 
 use crate::map::{TextMap, empty_map};
 use hx_object::{NoMemory, Shared};
@@ -18,11 +18,19 @@ use std::hash::RandomState;
 /// The objects of one kind in one namespace, by their names.
 ///
 /// A place may be empty: it is made for an object that is going to be stored, so that storing it takes no memory.
-#[derive(Drop)]
 pub(crate) struct Shelf {
     places: TextMap<Option<Shared>>,
     /// Whether the names are known to lie in descending order, so that the last one is the least.
     descends: bool,
+}
+
+impl Drop for Shelf {
+    fn drop(self) {
+        let Shelf {
+            places: _,
+            descends: _,
+        } = self;
+    }
 }
 
 impl Shelf {
@@ -31,12 +39,12 @@ impl Shelf {
         ensures shelf { IfOk result IsShelf }
         ensures places { IfOk result (IsNewShelf name.now) }
     {
-        let mut places = empty_map(alloc, keys);
-        let _none = places.insert(String::from_str(alloc, name)?, None)?;
-        Ok(Shelf {
-            places,
+        let mut shelf = Shelf {
+            places: empty_map(alloc, keys),
             descends: false,
-        })
+        };
+        shelf.make(name)?;
+        Ok(shelf)
     }
 
     /// The object of a name.
@@ -120,9 +128,7 @@ impl Shelf {
         ensures { OnOk result (listed.new.items ≡ listed.old.items ++ objects_on self.now) }
     {
         for (_, place) in self.places.iter() {
-            if let Some(object) = place {
-                listed.push(object.share()?)?;
-            }
+            list_place(place, listed)?;
         }
         Ok(())
     }
@@ -165,13 +171,24 @@ impl Shelf {
     }
 }
 
+/// Adds the object of a place, where there is one, to those that are listed.
+pub(crate) fn list_place(place: &Option<Shared>, listed: &mut Vec<Shared>) -> Result<(), NoMemory>
+    ensures { OnOk result (listed.new.items ≡ listed.old.items ++ of_place place.now) }
+{
+    if let Some(object) = place {
+        listed.push(object.share()?)?;
+    }
+    Ok(())
+}
+
 /// Sorts places by their names, in descending order.
 fn sort(places: &mut TextMap<Option<Shared>>) -> Result<(), NoMemory>
     ensures distinct { IsDistinct string_eq (keys_of places.new.entries) }
     ensures descends { OnOk result (Descends (keys_of places.new.entries)) }
     ensures places { (q : List ℕ) → get_by_text places.new q ≡ get_by_text places.old q }
 {
-    places.sort_unstable_by(|a, _, b, _| b.cmp(a))?;
+    places.sort_unstable_keys()?;
+    places.reverse();
     Ok(())
 }
 

@@ -1,10 +1,12 @@
-use Rattle.std.proofs.Common.{ap, ◌∙◌}
+use Rattle.std.proofs.Common.{ap, refl, ◌∙◌}
 use Rattle.hx_store.specs.Changes.{id_of, object_of}
 use Rattle.hx_store.specs.Places.{EditsPlaces, filled}
 use Rattle.hx_store.specs.Sources.{indexed_in}
 use Rattle.hx_store.specs.ByName.{turned_places, if_indexed, turned}
 use Rattle.hx_store.proofs.Indexing.{fill_kept, fill_entry, index_write}
-use Rattle.hx_store.proofs.Writing.{fill_edits, objects_write, sound_write}
+use Rattle.hx_store.proofs.Waiting.{edit_others}
+use Rattle.hx_store.proofs.Writing.{fill_edits, objects_write, place_kept, sound_write}
+use Rattle.hx_store.proofs.Edits.{filled_keeps}
 use Rattle.hx_store.proofs.writes.make_write.Goals as goal
 
 edits : (c : goal.After-fill-2) → EditsPlaces (filled (object_of c.args.change.now)) c.args.places.now c.fill.new.self (id_of c.args.change.now)
@@ -27,3 +29,9 @@ returns-clause-kept_entries c = fill_kept c.args.by_name.now c.fill-2.new.self (
 
 pub returns-clause-objects : goal.returns-clause-objects
 returns-clause-objects c = objects_write c.args.places.now c.fill.new.self c.args.change.now c.requires.sound (returns-clause-sound c) c.requires.there (edits c)
+
+pub returns-clause-kept : goal.returns-clause-kept
+returns-clause-kept c = place_kept (filled (object_of c.args.change.now)) c.args.places.now c.fill.new.self (id_of c.args.change.now) (edits c) (filled_keeps (object_of c.args.change.now))
+
+pub returns-clause-others : goal.returns-clause-others
+returns-clause-others c = edit_others (filled (object_of c.args.change.now)) c.args.places.now c.fill.new.self c.args.change.now (id_of c.args.change.now) refl (edits c)

@@ -1,6 +1,6 @@
 use Rattle.std.proofs.Common.{◌≡◌, ◌<◌, ◌∙◌, [], sym, ap, get_or, rules, arith}
 use Rattle.std.proofs.lemmas.Option.{slice_get_within, get_or_from_slice_get}
-use Rattle.hx_store.proofs.by_name.ByName.new.Goals as goal
+use Rattle.hx_store.proofs.places.empty_kinds.Goals as goal
 
 pub returns-clause-empty : goal.returns-clause-empty
 returns-clause-empty c i s e =
