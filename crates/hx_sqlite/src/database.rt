@@ -1,5 +1,5 @@
 // A database of rows, and its statements.
-ghost use Rattle.std.specs.Prelude.{◌≡◌, ◌↔◌, false, ℤ, IsOk, IfOk, IfSome, IsUtf8};
+ghost use Rattle.std.specs.Prelude.{◌≡◌, ◌↔◌, false, ℤ, IsOk, IfOk, IfSome, IsUtf8, ⊤};
 ghost use Rattle.sqlite_value.specs.declared.value.Value.TheVariants.{Int, Text as Words};
 ghost use Rattle.sqlite_value.specs.Order.{column as column_of};
 ghost use Rattle.std.specs.Int.{w64, cast_unsigned};
@@ -115,39 +115,84 @@ impl<S: Alter + Drop> Drop for Database<S> {
 }
 
 impl<S: Alter + Drop> Database<S> {
-    /// Makes the tables where the database has none.
-    pub fn over(mut connection: Connection<S>) -> Result<Self, Refusal>
+    /// Makes the tables where the database has none. What it gives is large, and lies in memory of its own.
+    pub fn over(alloc: Global, mut connection: Connection<S>) -> Result<Box<Self>, Refusal>
         requires { connection.in_transaction ≡ false }
     {
         let (reads, writes) = ready(&mut connection)?;
-        Ok(Database {
-            connection,
-            reads,
-            writes,
-        })
+        boxed(
+            alloc,
+            Database {
+                connection,
+                reads,
+                writes,
+            },
+        )
     }
+}
 
-    /// The number of rows, and the schema and the version, which are both 0 where `meta` has no row.
-    pub fn meta(&mut self) -> Result<Meta, Refusal> {
-        let rows = count(&mut self.connection, &self.reads.heads.count)?;
-        head(&mut self.connection, &self.reads.heads.head, rows)
+/// What is asked of a database, whatever its store.
+pub trait Ask<T> {
+    ghost tells: { T → Type 0 };
+
+    fn of<S: Alter>(self, database: &mut Database<S>) -> Result<T, Refusal>
+        ensures { IfOk result tells };
+}
+
+/// The number of rows, and the schema and the version, which are both 0 where `meta` has no row.
+#[derive(Clone, Copy)]
+pub struct AskMeta;
+
+impl Ask<Meta> for AskMeta {
+    ghost tells = { λ _. ⊤ };
+
+    fn of<S: Alter>(self, database: &mut Database<S>) -> Result<Meta, Refusal> {
+        let rows = count(&mut database.connection, &database.reads.heads.count)?;
+        head(&mut database.connection, &database.reads.heads.head, rows)
     }
+}
 
-    /// The first row whose key is greater.
-    pub fn load(&mut self, alloc: Global, after: &[u8]) -> Result<Option<Row>, Refusal>
-        ensures { IfOk result (λ row. IfSome row (λ r. IsUtf8 r.key × IsUtf8 r.body)) }
-    {
-        let after = [ValueRef::Text(after)];
-        let found = self.reads.load.query_row(&mut self.connection, &after);
-        row_in(alloc, &found)
+/// The first row whose key is greater.
+#[derive(Clone, Copy)]
+pub struct AskRow<'a> {
+    pub alloc: Global,
+    pub after: &'a [u8],
+}
+
+impl Ask<Option<Row>> for AskRow<'_> {
+    ghost tells = { λ row. IfSome row (λ r. IsUtf8 r.key × IsUtf8 r.body) };
+
+    fn of<S: Alter>(self, database: &mut Database<S>) -> Result<Option<Row>, Refusal> {
+        let after = [ValueRef::Text(self.after)];
+        let found = database
+            .reads
+            .load
+            .query_row(&mut database.connection, &after);
+        row_in(self.alloc, &found)
     }
+}
 
-    /// Writes the batch in one transaction, which is rolled back where it fails.
-    pub fn commit(&mut self, batch: &Batch) -> Result<(), Refusal> {
-        let mut transaction = self.connection.transaction();
-        write_batch(&mut transaction, &self.writes, batch)?;
+/// To write the batch in one transaction, which is rolled back where it fails.
+#[derive(Clone, Copy)]
+pub struct AskCommit<'a> {
+    pub batch: &'a Batch,
+}
+
+impl Ask<()> for AskCommit<'_> {
+    ghost tells = { λ _. ⊤ };
+
+    fn of<S: Alter>(self, database: &mut Database<S>) -> Result<(), Refusal> {
+        let mut transaction = database.connection.transaction();
+        write_batch(&mut transaction, &database.writes, self.batch)?;
         transaction.commit()?;
         Ok(())
+    }
+}
+
+fn boxed<T: Drop>(alloc: Global, value: T) -> Result<Box<T>, Refusal> {
+    match Box::new(alloc, value) {
+        Ok(place) => Ok(place),
+        Err(_) => Err(Refusal::NoMemory),
     }
 }
 

@@ -10,7 +10,7 @@ use std::fmt;
 use std::io::ErrorKind;
 
 /// Why a keeper's call on its database failed.
-#[derive(Clone, Copy, Debug, PartialEq, Eq)]
+#[derive(Clone, Copy, Debug)]
 pub enum SqlFault {
     /// The file is no SQLite database, or its rows don't obey its schema.
     NotADatabase,
@@ -85,7 +85,7 @@ impl fmt::Display for SqlFault {
 impl std::error::Error for SqlFault {}
 
 /// Why a call on a database failed: for want of memory, which leaves it as it was, or by a fault.
-#[derive(Clone, Copy, Debug, PartialEq, Eq)]
+#[derive(Clone, Copy)]
 pub enum Refusal {
     NoMemory,
     Fault(SqlFault),

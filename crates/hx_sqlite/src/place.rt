@@ -2,7 +2,7 @@
 ghost use Rattle.std.specs.Prelude.{◌≡◌, false, None, Err, IfOk, IfSome, IsUtf8, string_bytes};
 ghost use Rattle.hx_sqlite.specs.Paths.{path_in};
 
-use crate::database::Database;
+use crate::database::{Ask, AskCommit, AskMeta, AskRow, Database};
 use crate::fault::{Refusal, SqlFault};
 use hx_ports::{Batch, Meta, Row};
 use sqlite::{Connection, File, FileStore, MemStore, Options, Unknown};
@@ -27,7 +27,7 @@ impl Drop for Place {
     }
 }
 
-/// A database is large: it lies in memory of its own, so that what holds one is small.
+/// The rows, in one of two stores.
 pub enum Rows {
     Memory(Box<Database<MemStore>>),
     File(Box<Database<FileStore<File>>>),
@@ -38,6 +38,18 @@ impl Drop for Rows {
         match self {
             Rows::Memory(_database) => {}
             Rows::File(_database) => {}
+        }
+    }
+}
+
+// Each function over a store proves again what the store can do, so that all is asked in this one.
+impl Rows {
+    fn answer<T, A: Ask<T>>(&mut self, ask: A) -> Result<T, Refusal>
+        ensures { IfOk result A.tells }
+    {
+        match self {
+            Rows::Memory(database) => ask.of(database),
+            Rows::File(database) => ask.of(database),
         }
     }
 }
@@ -61,19 +73,12 @@ fn open_rows(rt: &HostRuntime, path: &str) -> Result<Rows, Refusal> {
 
 fn open_memory(alloc: Global) -> Result<Box<Database<MemStore>>, Refusal> {
     let connection = Connection::open_in_memory(alloc)?;
-    boxed(alloc, Database::over(connection)?)
+    Database::over(alloc, connection)
 }
 
 fn open_file(rt: &HostRuntime, path: &str) -> Result<Box<Database<FileStore<File>>>, Refusal> {
     let connection = connect(rt, path)?;
-    boxed(rt.alloc(), Database::over(connection)?)
-}
-
-fn boxed<T: Drop>(alloc: Global, value: T) -> Result<Box<T>, Refusal> {
-    match Box::new(alloc, value) {
-        Ok(place) => Ok(place),
-        Err(_) => Err(Refusal::NoMemory),
-    }
+    Database::over(rt.alloc(), connection)
 }
 
 /// A torn write is supposed to leave each byte old or new, so that a commit syncs once.
@@ -108,15 +113,8 @@ pub fn meta_at(place: &mut Option<Place>) -> Result<Meta, Refusal>
     ensures path { path_in place.new ≡ path_in place.old }
 {
     match place {
-        Some(place) => meta_of(&mut place.rows),
+        Some(place) => place.rows.answer(AskMeta),
         None => Err(Refusal::Fault(SqlFault::Unattached)),
-    }
-}
-
-fn meta_of(rows: &mut Rows) -> Result<Meta, Refusal> {
-    match rows {
-        Rows::Memory(database) => database.meta(),
-        Rows::File(database) => database.meta(),
     }
 }
 
@@ -131,17 +129,8 @@ pub fn load_at(
     ensures path { path_in place.new ≡ path_in place.old }
 {
     match place {
-        Some(place) => load_of(&mut place.rows, alloc, after),
+        Some(place) => place.rows.answer(AskRow { alloc, after }),
         None => Err(Refusal::Fault(SqlFault::Unattached)),
-    }
-}
-
-fn load_of(rows: &mut Rows, alloc: Global, after: &[u8]) -> Result<Option<Row>, Refusal>
-    ensures { IfOk result (λ row. IfSome row (λ r. IsUtf8 r.key × IsUtf8 r.body)) }
-{
-    match rows {
-        Rows::Memory(database) => database.load(alloc, after),
-        Rows::File(database) => database.load(alloc, after),
     }
 }
 
@@ -151,14 +140,7 @@ pub fn commit_at(place: &mut Option<Place>, batch: &Batch) -> Result<(), Refusal
     ensures path { path_in place.new ≡ path_in place.old }
 {
     match place {
-        Some(place) => commit_of(&mut place.rows, batch),
+        Some(place) => place.rows.answer(AskCommit { batch }),
         None => Err(Refusal::Fault(SqlFault::Unattached)),
-    }
-}
-
-fn commit_of(rows: &mut Rows, batch: &Batch) -> Result<(), Refusal> {
-    match rows {
-        Rows::Memory(database) => database.commit(batch),
-        Rows::File(database) => database.commit(batch),
     }
 }
