@@ -1,7 +1,7 @@
 // The methods that are served.
 
 /// A method of a request.
-#[derive(Clone, Copy, Debug, PartialEq, Eq)]
+#[derive(Clone, Copy)]
 pub enum Method {
     Get,
     Post,

@@ -1,7 +1,7 @@
 // Requests as asks.
-ghost use Rattle.std.specs.Prelude.{◌≡◌, ◌⊎◌, Ok, Err, true, IfOk, IfErr};
+ghost use Rattle.std.specs.Prelude.{◌≡◌, ◌⊎◌, Ok, Err, None, Some, true, IfOk, IfErr, OnOk};
 ghost use Rattle.hx_model.specs.Serving.{IsServedAsk};
-ghost use Rattle.hx_api.specs.Asks.{ask_of, namespace, is_feed, is_served, resource_for, ask_at, selector_for, selector_in};
+ghost use Rattle.hx_api.specs.Asks.{ask_of, form_refusal, namespace, is_feed, is_served, resource_for, ask_at, selector_for, selector_in};
 ghost use Rattle.hx_api.specs.Inside.{FitsScope};
 ghost use Rattle.hx_api.specs.Paths.{resource_of};
 
@@ -50,13 +50,7 @@ impl RequestReader {
         let resource = resource_for(self.alloc, method, path)?;
         let query = Query::read(self.alloc, query)?;
         let selector = selector_for(self.alloc, method, &resource, &query)?;
-        if let Some(name) = query.bad_parameter(is_feed(&resource)) {
-            let name = Text::of(self.alloc, name)?;
-            return Err(Refusal::BadQuery { name });
-        }
-        if !is_served(method, &resource) {
-            return Err(Refusal::NotServed);
-        }
+        check_form(self.alloc, method, &resource, &query)?;
         let skip = query.is_skip();
         ask_at(
             &mut self.bodies,
@@ -84,6 +78,28 @@ fn resource_for(alloc: Global, method: Method, path: &str) -> Result<ResourcePat
     match decoded(alloc, &resource)? {
         Some(resource) => Ok(resource),
         None => Err(Refusal::BadPath),
+    }
+}
+
+/// Refuses a request with a parameter whose value isn't taken, and one whose form isn't served.
+fn check_form(
+    alloc: Global,
+    method: Method,
+    resource: &ResourcePath<Text>,
+    query: &Query<'_>,
+) -> Result<(), Refusal>
+    ensures ok { OnOk result (form_refusal method resource.now query.now ≡ None) }
+    ensures refused { IfErr result (λ refusal. (refusal ≡ Refusal.NoMemory) ⊎ (form_refusal method resource.now query.now ≡ Some refusal)) }
+{
+    if let Some(name) = query.bad_parameter(is_feed(resource)) {
+        return Err(Refusal::BadQuery {
+            name: Text::of(alloc, name)?,
+        });
+    }
+    if is_served(method, resource) {
+        Ok(())
+    } else {
+        Err(Refusal::NotServed)
     }
 }
 

@@ -1,9 +1,9 @@
 -- The key of an object that may be stored is UTF-8, since its names are ASCII.
-use Rattle.std.proofs.Common.{◌≡◌, ◌<◌, ℕ, Bool, true, false, not, ◌&&◌, ◌||◌, ◌==◌, nat_lt, nat_le, List, [], ◌∷◌, ◌++◌, length, codes, Option, Some, None, refl, sym, subst, ap, arith, true≢false, eqb-true, inl, inr, IsUtf8}
+use Rattle.std.proofs.Common.{◌≡◌, ◌∙◌, ◌<◌, ◌≤◌, ℕ, Bool, true, false, not, ◌&&◌, ◌||◌, ◌==◌, nat_lt, nat_le, List, [], ◌∷◌, ◌++◌, length, codes, Option, Some, None, refl, sym, subst, ap, arith, true≢false, eqb-true, inl, inr, IsUtf8}
 use Rattle.std.specs.Prelude.{if◌then◌else◌}
 use Rattle.std.specs.List.{list_all, slice_split, join_with_byte}
 use Rattle.std.proofs.lemmas.Bool.{and_parts, or_cases}
-use Rattle.std.proofs.lemmas.Bool.Decides.{nat_tests}
+use Rattle.std.proofs.lemmas.Bool.Decides.{Decides-ltb, leb_tells}
 use Rattle.std.proofs.lemmas.List.Splits.{join_with_byte-slice_split}
 use Rattle.json.proofs.Printed.Utf8.{are_ascii, IsUtf8-are_ascii}
 use Rattle.hx_object.specs.Faults.{object_fault, has_legal_names, has_legal_namespace}
@@ -20,7 +20,9 @@ use Rattle.hx_model.specs.Texts.{key_text, two_digits}
 -- ---- bytes
 
 below : (byte most : ℕ) → nat_le byte most ≡ true → most < 128 → nat_lt byte 128 ≡ true
-below byte most h small = grind (arith, nat_tests)
+below byte most h small =
+    let le : byte ≤ most = elim (leb_tells byte most) [ inl low ↦ low.1 | inr high ↦ absurd (true≢false (sym h ∙ high.0)) ] in
+    (Decides-ltb byte 128).1 (omega (arith, le, small))
 
 between : (byte least most : ℕ) → (nat_le least byte && nat_le byte most) ≡ true → most < 128 → nat_lt byte 128 ≡ true
 between byte least most h small = below byte most (and_parts (nat_le least byte) (nat_le byte most) h).1 small

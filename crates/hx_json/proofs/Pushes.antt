@@ -13,13 +13,15 @@ use Rattle.hx_object.specs.declared.object.Limit.{Limit}
 use Rattle.hx_object.specs.declared.object.ModeEntry.{ModeEntry}
 use Rattle.hx_object.specs.declared.object.Object.{Object}
 use Rattle.hx_object.specs.declared.object.Usage.{Usage}
-use Rattle.hx_object.specs.declared.object.Payload.TheVariants.{Namespace, Config, Hierarchy, Anchor, Quota}
+use Rattle.hx_object.specs.declared.object.Need.{Need}
+use Rattle.hx_object.specs.declared.object.Payload.{Payload}
+use Rattle.hx_object.specs.declared.object.Payload.TheVariants.{Namespace, Config, Hierarchy, Anchor, Quota, Plain}
 use Rattle.hx_object.specs.Json.{own_members}
 use Rattle.hx_model.specs.Json.{objects_items, list_text}
 use Rattle.hx_model.specs.Replies.{status_text, gone_text}
 use Rattle.hx_model.specs.declared.refusal.Refusal.{Refusal}
 use Rattle.hx_model.specs.declared.refusal.Refusal.TheVariants as of
-use Rattle.hx_json.specs.Pushed.{pairs_text, pairs_front, namespace_text, metadata_text, head_text, namespace_rest, config_rest, quota_spec, hard_text, used_text, usages_rest, spec_part, conditions_alone, conditions_behind, status_rest, pushed_list, pushed_status, pushed_gone, rule_text, over_text}
+use Rattle.hx_json.specs.Pushed.{pairs_text, pairs_front, namespace_text, metadata_text, head_text, namespace_rest, config_rest, quota_spec, hard_text, used_text, usages_rest, spec_part, conditions_alone, conditions_behind, status_rest, rest_text, pushed_list, pushed_status, pushed_gone, rule_text, over_text}
 
 -- two brackets behind a text
 closed_twice : (text : List ℕ) → (text ++ 125 ∷ []) ++ 125 ∷ [] ≡ text ++ codes "}}"
@@ -85,12 +87,12 @@ whole_pushed x rest =
     ∙ sym (append_assoc (codes "{\"apiVersion\":") (v ++ (codes ",\"kind\":" ++ (k ++ (codes ",\"metadata\":" ++ m)))) rest
     ∙ ap (λ t. codes "{\"apiVersion\":" ++ t) (append_assoc v (codes ",\"kind\":" ++ (k ++ (codes ",\"metadata\":" ++ m))) rest))
 
-pub namespace_pushed : (x : Object) (terminating : Bool) → x.payload ≡ Namespace terminating → head_text x ++ namespace_rest terminating ≡ object_text x
+namespace_pushed : (x : Object) (terminating : Bool) → x.payload ≡ Namespace terminating → head_text x ++ namespace_rest terminating ≡ object_text x
 unfolding object_text namespace_rest whole_text escape_byte
 namespace_pushed x true is = sym (whole_pushed x (namespace_rest true)) ∙ rw is refl
 namespace_pushed x false is = sym (whole_pushed x (namespace_rest false)) ∙ rw is refl
 
-pub config_pushed : (x : Object) (entries : List ModeEntry) → x.payload ≡ Config entries → head_text x ++ config_rest entries ≡ object_text x
+config_pushed : (x : Object) (entries : List ModeEntry) → x.payload ≡ Config entries → head_text x ++ config_rest entries ≡ object_text x
 unfolding object_text config_rest whole_text escape_byte
 config_pushed x entries is =
     sym (whole_pushed x (config_rest entries)) ∙ ap (λ t. whole_text x (codes ",\"spec\":{\"resources\":[" ++ t)) (sym (closed_twice (items_text false (entries_items entries)))) ∙ rw is refl
@@ -103,7 +105,7 @@ usages_are (usage ∷ status) =
     let used = used_text (usage ∷ status) in
     ap (λ t. codes ",\"status\":{\"hard\":{" ++ t) (append_assoc hard (codes ",\"used\":{" ++ (used ++ 125 ∷ [])) (125 ∷ []) ∙ ap (λ t. hard ++ (codes ",\"used\":{" ++ t)) (closed_twice used))
 
-pub quota_pushed : (x : Object) (hard : List Limit) (status : List Usage) → x.payload ≡ Quota hard status → head_text x ++ (quota_spec hard ++ usages_rest status) ≡ object_text x
+quota_pushed : (x : Object) (hard : List Limit) (status : List Usage) → x.payload ≡ Quota hard status → head_text x ++ (quota_spec hard ++ usages_rest status) ≡ object_text x
 unfolding object_text quota_spec whole_text escape_byte
 quota_pushed x hard status is =
     sym (whole_pushed x (quota_spec hard ++ usages_rest status)) ∙ ap (λ t. whole_text x (quota_spec hard ++ t)) (sym (usages_are status)) ∙ rw is refl
@@ -113,7 +115,7 @@ pub usages_filled : (usages : List Usage) → length usages == 0 ≡ false
 usages_filled [] h = absurd (true≢false h)
 usages_filled (usage ∷ usages) h = refl
 
-pub anchor_pushed : (x : Object) (status : Option AnchorStatus) → x.payload ≡ Anchor status → head_text x ++ members_text true (own_members (Anchor status)) ≡ object_text x
+anchor_pushed : (x : Object) (status : Option AnchorStatus) → x.payload ≡ Anchor status → head_text x ++ members_text true (own_members (Anchor status)) ≡ object_text x
 unfolding object_text whole_text escape_byte
 anchor_pushed x None is = sym (whole_pushed x (members_text true (own_members (Anchor None)))) ∙ rw is refl
 anchor_pushed x (Some status) is = sym (whole_pushed x (members_text true (own_members (Anchor (Some status))))) ∙ rw is refl
@@ -138,7 +140,7 @@ status_is (t ∷ children) (c ∷ conditions) =
     ∙ ap (λ l. texts ++ (codes ",\"conditions\":[" ++ l)) (closed_twice others)
     ∙ ap (λ l. texts ++ l) (sym (append_assoc (codes ",\"conditions\":[") others (codes "}}"))))
 
-pub hierarchy_pushed : (x : Object) (parent : Option (List ℕ)) (cascade : Bool) (children : List (List ℕ)) (conditions : List Condition) → x.payload ≡ Hierarchy parent cascade children conditions
+hierarchy_pushed : (x : Object) (parent : Option (List ℕ)) (cascade : Bool) (children : List (List ℕ)) (conditions : List Condition) → x.payload ≡ Hierarchy parent cascade children conditions
     → head_text x ++ (spec_part parent cascade ++ status_rest children conditions) ≡ object_text x
 unfolding object_text whole_text escape_byte
 hierarchy_pushed x parent cascade children conditions is =
@@ -146,6 +148,15 @@ hierarchy_pushed x parent cascade children conditions is =
     ∙ ap (λ t. whole_text x (spec_part parent cascade ++ t)) (sym (status_is children conditions))
     ∙ ap (λ t. whole_text x t) (sym (spec_is parent cascade (members_text true (unless_empty (codes "status") (hierarchy_status children conditions) no_members))))
     ∙ rw is refl
+
+-- an object whose kind isn't plain
+pub rest_pushed : (x : Object) (payload : Payload) → x.payload ≡ payload → ((members : List ℕ) (need : Need) → payload ≡ Plain members need → ⊥) → head_text x ++ rest_text payload ≡ object_text x
+rest_pushed x (Namespace terminating) is other = namespace_pushed x terminating is
+rest_pushed x (Config entries) is other = config_pushed x entries is
+rest_pushed x (Hierarchy parent cascade children conditions) is other = hierarchy_pushed x parent cascade children conditions is
+rest_pushed x (Anchor status) is other = anchor_pushed x status is
+rest_pushed x (Quota hard status) is other = quota_pushed x hard status is
+rest_pushed x (Plain members need) is other = absurd (other members need refl)
 
 pub conditions_filled : (conditions : List Condition) → length conditions == 0 ≡ false
     → codes ",\"status\":{\"conditions\":[" ++ (items_text false (conditions_items conditions) ++ codes "}}") ≡ conditions_alone conditions

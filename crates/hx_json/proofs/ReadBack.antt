@@ -2,12 +2,12 @@
 --     object_back      the object of its identity and its version that its value says is itself
 --     said_back        the same of a tree of its text
 --     tree_back        its text has a tree that is read as it stands
-use Rattle.std.proofs.Common.{◌≡◌, ◌≤◌, ℕ, List, [], ◌∷◌, Bool, true, false, true≢false, Option, Some, None, Err, option_and_then, unwrap_or, bytes_eq, map, codes, refl, sym, subst, ap, ◌∙◌, decimal}
+use Rattle.std.proofs.Common.{◌≡◌, ℕ, List, [], ◌∷◌, Bool, true, false, true≢false, Option, Some, None, Err, option_and_then, unwrap_or, bytes_eq, ◌&&◌, map, codes, refl, sym, subst, ap, ◌∙◌, decimal}
 use Rattle.std.specs.List.{AllByRecursion, list_all}
 use Rattle.std.proofs.lemmas.Bool.{and_parts}
-use Rattle.serde_json.specs.Data.{Data, null, string, object, Members, no_members, member, put, depth}
+use Rattle.serde_json.specs.Data.{Data, null, string, object, Members, no_members, member, put}
 use Rattle.serde_json.specs.Find.{get, get_member}
-use Rattle.serde_json.specs.Read.{max_depth, read}
+use Rattle.serde_json.specs.Read.{read}
 use Rattle.serde_json.proofs.Views.{get_member-put_other}
 use Rattle.json.specs.Json.{Json}
 use Rattle.hx_object.specs.Canonical.{IsCanonical}
@@ -33,6 +33,7 @@ use Rattle.hx_object.specs.declared.object.Usage.{Usage}
 use Rattle.hx_model.specs.Serving.{IsServed, has_type, is_given_mode, is_kept, is_typed}
 use Rattle.hx_json.specs.Reading.{counted_member, entry_of, entries_of, in_spec, is_this, items_in, kept_members, limits_of, metadata_in, mode_of_text, pairs_in, pairs_of, payload_of, plain_of, text_in, truth_in, unless_empty_text, unless_null}
 use Rattle.hx_json.specs.Inside.{has_quantities}
+use Rattle.hx_json.specs.Fits.{is_fit}
 use Rattle.hx_json.specs.Rows.{Gives, IsTextOf, IsUnsound, condition_in, conditions_of, in_front, in_status, reported, row_fault, said_object, status_named, texts_of, usages_of, with_status}
 use Rattle.hx_json.specs.Trees.{data_of, has_sorted_usages, is_ordered, tree_of, IsNoTree, IsOrdered}
 use Rattle.hx_json.specs.declared.fault.JsonFault.{JsonFault}
@@ -40,7 +41,7 @@ use Rattle.hx_json.specs.declared.fault.JsonFault.TheVariants as faults
 use Rattle.hx_json.proofs.Given.{typed_is}
 use Rattle.hx_json.proofs.InOrder.{canonical_object, metadata, plain_whole, shallow_object}
 use Rattle.hx_json.proofs.Normal.{compact_ordered, compact_usages}
-use Rattle.hx_json.proofs.Orders.{ordered_read}
+use Rattle.hx_json.proofs.Orders.{ordered_canonical, ordered_read, ordered_shallow}
 use Rattle.hx_json.proofs.Quotas.{limits_back, quantities_back}
 use Rattle.hx_json.proofs.RoundTrip.{read-compact_text}
 use Rattle.hx_json.proofs.Statuses.{reported_typed, still_sound}
@@ -258,6 +259,15 @@ said_back x j served is ordered =
 
 -- ---- its row
 
+-- what is fit for a row, part by part
+pub fit_parts : (kind : Kind) (j : Json) → is_fit kind j ≡ true
+    → (is_ordered kind j ≡ true) × (has_type kind (data_of j) ≡ true) × (has_quantities kind (data_of j) ≡ true) × (has_sorted_usages j ≡ true)
+fit_parts kind j fit =
+    let all = and_parts (is_ordered kind j && has_type kind (data_of j) && has_quantities kind (data_of j)) (has_sorted_usages j) fit in
+    let more = and_parts (is_ordered kind j && has_type kind (data_of j)) (has_quantities kind (data_of j)) all.0 in
+    let first = and_parts (is_ordered kind j) (has_type kind (data_of j)) more.0 in
+    (first.0, first.1, more.1, all.1)
+
 module _ (id : Id) (version : ℕ) (text : List ℕ) (x : Object) (h : IsTextOf id version text x) where
   text_ordered : IsOrdered id.kind text
   text_ordered = subst (λ (id : Id). IsOrdered id.kind text) h.id_is (subst (IsOrdered x.id.kind) (sym h.text_is) (tree_back x h.served))
@@ -270,33 +280,36 @@ module _ (id : Id) (version : ℕ) (text : List ℕ) (x : Object) (h : IsTextOf 
       no_tree : tree_of text ≡ None → ⊥
       no_tree none = let clash : Some text_ordered.0 ≡ None = sym text_ordered.1 ∙ none in cc
 
-  -- nor is one with a tree that isn't read as it stands
-  pub unordered : (j : Json) → tree_of text ≡ Some j → is_ordered id.kind j ≡ false → ⊥
-  unordered j is other =
+  -- its tree is read as it stands
+  ordered : (j : Json) → tree_of text ≡ Some j → is_ordered id.kind j ≡ true
+  ordered j is =
       let found : Some text_ordered.0 ≡ Some j = sym text_ordered.1 ∙ is in
       let same : text_ordered.0 ≡ j = cc in
-      true≢false (sym text_ordered.2 ∙ ap (is_ordered id.kind) same ∙ other)
+      ap (is_ordered id.kind) (sym same) ∙ text_ordered.2
 
   pub told : (j : Json) → tree_of text ≡ Some j → is_ordered id.kind j ≡ true → with_status (data_of j) (said_object id version (data_of j)) ≡ x
   told j is ordered =
       (λ i. row_object (sym h.id_is i) (sym h.version_is i) (data_of j))
       ∙ said_back x j h.served (ap tree_of (sym h.text_is) ∙ is) (ap (λ (id : Id). is_ordered id.kind j) h.id_is ∙ ordered)
 
-  -- nor is one of a Secret whose type is no text
-  pub untyped : (j : Json) → tree_of text ≡ Some j → is_ordered id.kind j ≡ true → IsCanonical (data_of j) → depth (data_of j) ≤ max_depth → has_type id.kind (data_of j) ≡ false → ⊥
-  untyped j is ordered canonical shallow other =
+  -- the type of a Secret is a text
+  typed : (j : Json) → tree_of text ≡ Some j → is_ordered id.kind j ≡ true → has_type id.kind (data_of j) ≡ true
+  typed j is ordered =
       let typed = subst (λ (y : Object). is_typed y.id.kind y.payload ≡ true) (sym (told j is ordered)) h.served.kept.typed in
-      true≢false (sym typed ∙ reported_typed (data_of j) id.kind (payload_of id.kind (data_of j)) ∙ typed_is id.kind (data_of j) canonical shallow ∙ other)
+      let whole = typed_is id.kind (data_of j) (ordered_canonical text id.kind j is ordered) (ordered_shallow text id.kind j is ordered) in
+      sym whole ∙ sym (reported_typed (data_of j) id.kind (payload_of id.kind (data_of j))) ∙ typed
 
-  -- nor is one of a quota with a limit that is no quantity
-  pub unmeasured : (j : Json) → tree_of text ≡ Some j → is_ordered id.kind j ≡ true → has_quantities id.kind (data_of j) ≡ false → ⊥
-  unmeasured j is ordered other =
-      let payload = subst (λ (y : Object). IsPayloadOf y.id.kind y.payload) (sym (told j is ordered)) h.served.legal.payload in
-      true≢false (sym (quantities_back id.kind (data_of j) payload) ∙ other)
+  -- the limits of a quota are quantities
+  measured : (j : Json) → tree_of text ≡ Some j → is_ordered id.kind j ≡ true → has_quantities id.kind (data_of j) ≡ true
+  measured j is ordered =
+      quantities_back id.kind (data_of j) (subst (λ (y : Object). IsPayloadOf y.id.kind y.payload) (sym (told j is ordered)) h.served.legal.payload)
 
-  -- nor is one that reports limits of a quota in another order
-  pub disordered : (j : Json) → tree_of text ≡ Some j → has_sorted_usages j ≡ false → ⊥
-  disordered j is other = true≢false (sym (usages_ordered x j h.served (ap tree_of (sym h.text_is) ∙ is)) ∙ other)
+  -- a text whose tree isn't fit for a row isn't that of an object
+  pub unfit : (j : Json) → tree_of text ≡ Some j → is_fit id.kind j ≡ false → ⊥
+  unfit j is other =
+      let o = ordered j is in
+      let usages = usages_ordered x j h.served (ap tree_of (sym h.text_is) ∙ is) in
+      true≢false (sym (λ i. o i && typed j is o i && measured j is o i && usages i) ∙ other)
 
   -- and it has no fault of an object
   pub faultless : (j : Json) (f : JsonFault) → tree_of text ≡ Some j → is_ordered id.kind j ≡ true → IsUnsound (said_object id version (data_of j)) f → Gives (Err (row_fault f)) x

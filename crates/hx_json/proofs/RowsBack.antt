@@ -1,9 +1,8 @@
 -- A row of an object, by its parts.
---     row_key, row_text     its key and its text
---     passed                what `?` passes on
-use Rattle.std.proofs.Common.{◌≡◌, ◌∙◌, ℕ, List, Bool, false, Result, Ok, Err, sym, subst, ap, true≢false, bytes_eq}
+--     row_key, row_text, body_is    its key and its text
+--     passed                        what `?` passes on
+use Rattle.std.proofs.Common.{◌≡◌, ℕ, List, Result, Ok, Err, sym, subst, ap}
 use Rattle.std.specs.Prelude.{IsErrAnd, IsUtf8}
-use Rattle.std.proofs.lemmas.Slice.Eq.{bytes_eq-Decides}
 use Rattle.hx_object.specs.Json.{object_text}
 use Rattle.hx_object.specs.declared.object.Id.{Id}
 use Rattle.hx_object.specs.declared.object.Object.{Object}
@@ -30,10 +29,8 @@ module _ (key : List ℕ) (version : ℕ) (body : List ℕ) (x : Object) (h : Is
   row_text id same = record { served = h.served; id_is = sym same; version_is = ap (λ e. e.1.0) h.is; text_is = sym (ap (λ e. e.1.1) h.is) }
 
   -- the object of the row has its text
-  pub other_text : (y : Object) (b : Bool) → b ≡ bytes_eq (object_text y) body → b ≡ false → y ≡ x → ⊥
-  other_text y b tests other same =
-      let text : object_text y ≡ body = ap object_text same ∙ ap (λ e. e.1.1) h.is in
-      true≢false (sym ((bytes_eq-Decides (object_text y) body).1 text) ∙ sym tests ∙ other)
+  pub body_is : object_text x ≡ body
+  body_is = ap (λ e. e.1.1) h.is
 
   pub row_key_utf8 : IsUtf8 key
   row_key_utf8 = subst IsUtf8 (ap (λ e. e.0) h.is) (key_utf8 x h.served)

@@ -6,6 +6,7 @@
 --     namespace_rest, config_rest    what other kinds have behind the metadata
 --     quota_spec, usages_rest        of a quota, its limits and what is reported of them
 --     spec_part, status_rest         of a HierarchyConfiguration
+--     rest_text                      of each kind that isn't plain
 use Rattle.std.specs.Prelude.{◌≤◌, ◌-◌, ℕ, ◌==◌, ◌&&◌, nat_lt, Bool, true, false, List, [], ◌∷◌, ◌++◌, codes, length, map, take, slice_range, Option, Some, None}
 use Rattle.std.specs.Fmt.{decimal}
 use Rattle.std.specs.Str.{IsCharBoundary}
@@ -13,7 +14,7 @@ use Rattle.json.specs.Print.{quoted}
 use Rattle.serde_json.specs.Data.{object}
 use Rattle.serde_json.specs.Written.{comma_if, compact_text, items_text, members_text}
 use Rattle.hx_object.specs.Quantities.{quantity_text}
-use Rattle.hx_object.specs.Json.{pairs_members, texts_items, entries_items, conditions_items, limits_members, hard_pair, used_pair}
+use Rattle.hx_object.specs.Json.{pairs_members, texts_items, entries_items, conditions_items, limits_members, hard_pair, used_pair, own_members}
 use Rattle.hx_object.specs.Kinds.{name_of, api_version_of}
 use Rattle.hx_object.specs.declared.kind.Kind.{Kind}
 use Rattle.hx_object.specs.declared.members.Places.{Places}
@@ -21,6 +22,8 @@ use Rattle.hx_object.specs.declared.object.Condition.{Condition}
 use Rattle.hx_object.specs.declared.object.Limit.{Limit}
 use Rattle.hx_object.specs.declared.object.ModeEntry.{ModeEntry}
 use Rattle.hx_object.specs.declared.object.Object.{Object}
+use Rattle.hx_object.specs.declared.object.Payload.{Payload}
+use Rattle.hx_object.specs.declared.object.Payload.TheVariants.{Namespace, Config, Hierarchy, Anchor, Quota, Plain}
 use Rattle.hx_object.specs.declared.object.Usage.{Usage}
 use Rattle.hx_model.specs.Json.{objects_items}
 use Rattle.hx_model.specs.Replies.{code_of, message_of, name_of_rule, reason_of}
@@ -134,6 +137,15 @@ conditions_behind (c ∷ cs) = codes ",\"conditions\":[" ++ items_text false (co
 abbrev pub status_rest : List (List ℕ) → List Condition → List ℕ
 status_rest [] conditions = conditions_alone conditions
 status_rest (text ∷ texts) conditions = codes ",\"status\":{\"children\":[" ++ (items_text false (texts_items (text ∷ texts)) ++ (conditions_behind conditions ++ codes "}}"))
+
+-- what an object has behind its metadata, unless its kind is plain
+abbrev pub rest_text : Payload → List ℕ
+rest_text (Namespace terminating) = namespace_rest terminating
+rest_text (Config entries) = config_rest entries
+rest_text (Hierarchy parent cascade children conditions) = spec_part parent cascade ++ status_rest children conditions
+rest_text (Anchor status) = members_text true (own_members (Anchor status))
+rest_text (Quota hard status) = quota_spec hard ++ usages_rest status
+rest_text (Plain members need) = []
 
 -- ---- lists and refusals
 

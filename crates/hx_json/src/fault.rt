@@ -31,7 +31,7 @@ pub enum JsonFault {
 }
 
 /// Why a row isn't read.
-#[derive(Clone, Copy, Debug, PartialEq, Eq)]
+#[derive(Clone, Copy)]
 pub enum RowFault {
     /// No object that may be stored has this row.
     NoObject,

@@ -77,7 +77,7 @@ fn check_head(value: &Value<'_>, kind: Kind, name: Option<&Text>) -> Result<(), 
 }
 
 /// A member of an entry of a HNCConfiguration.
-#[derive(Clone, Copy, Debug, PartialEq, Eq)]
+#[derive(Clone, Copy)]
 enum EntryMember {
     Group,
     Resource,

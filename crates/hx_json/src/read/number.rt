@@ -11,7 +11,7 @@ use hx_object::NoMemory;
 use itoa::Buffer;
 
 /// A whole number of 64 bits.
-#[derive(Clone, Copy, Debug, PartialEq, Eq)]
+#[derive(Clone, Copy)]
 pub enum Whole {
     Unsigned(u64),
     Negative(i64),

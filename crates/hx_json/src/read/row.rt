@@ -1,12 +1,13 @@
 // Objects read back from their stored rows.
-ghost use Rattle.std.specs.Prelude.{◌≡◌, ℕ, List, [], true, Some, None, IfOk, IfSome, IsErrOf, IsUtf8, MatchOption};
-ghost use Rattle.std.specs.Str.{bytes_eq};
+ghost use Rattle.std.specs.Prelude.{◌≡◌, ℕ, List, [], true, Some, None, IfOk, IfSome, IsErrOf, IsUtf8, MatchOption, OnOk};
+ghost use Rattle.json.specs.Value.{value_view};
 ghost use Rattle.hx_object.specs.Faults.{IsLegal};
 ghost use Rattle.hx_object.specs.Json.{object_text};
 ghost use Rattle.hx_object.specs.Kinds.{is_in_cluster};
 ghost use Rattle.hx_object.specs.declared.object.Id.{Id as IdOf};
 ghost use Rattle.hx_model.specs.Serving.{IsServed};
-ghost use Rattle.hx_json.specs.Rows.{GivesId, GivesRow, GivesTextOf, HasNoObject, IsCutAt, IsKeyOf, IsOnlyOf, IsRowOf, kind_in, may_lie_in, row_fault};
+ghost use Rattle.hx_json.specs.Fits.{is_fit};
+ghost use Rattle.hx_json.specs.Rows.{Gives, GivesId, GivesRow, GivesTextOf, HasNoObject, IsCutAt, IsKeyOf, IsOnlyOf, IsRowOf, kind_in, may_lie_in, row_fault};
 
 use super::parts::has_type;
 use super::quota::has_quantities;
@@ -15,8 +16,8 @@ use super::tree::{has_sorted_usages, is_ordered, read_tree};
 use super::{BodyReader, object_at};
 use crate::write::push_object;
 use crate::{JsonFault, RowFault};
-use hx_object::{Id, Kind, NoMemory, Object, Text};
-use json::Scratch;
+use hx_object::{Id, Kind, Object, Text};
+use json::{Scratch, Value};
 use std::alloc::Global;
 
 impl BodyReader {
@@ -60,21 +61,23 @@ fn read_texts(
 {
     let id = id_in(alloc, key)?;
     let object = read_body(alloc, scratch, room, body, id, version)?;
-    if is_text_of(room, &object, body)? {
-        return Ok(object);
-    }
-    drop(object);
-    Err(RowFault::NoObject)
+    check_text(room, &object, body)?;
+    Ok(object)
 }
 
-/// Whether a text is that of an object, which is written for this.
-fn is_text_of(room: &mut String, object: &Object, text: &str) -> Result<bool, NoMemory>
+/// Refuses an object whose text, which is written for this, is another.
+fn check_text(room: &mut String, object: &Object, text: &str) -> Result<(), RowFault>
     requires { IsLegal object.now }
-    ensures { IfOk result (λ is. is ≡ bytes_eq (object_text object.now) text.now) }
+    ensures text { OnOk result (object_text object.now ≡ text.now) }
+    ensures back { object_text object.now ≡ text.now → Gives result tt }
 {
     room.clear();
     push_object(room, object)?;
-    Ok(room.as_str() == text)
+    if room.as_str() == text {
+        Ok(())
+    } else {
+        Err(RowFault::NoObject)
+    }
 }
 
 /// What a row's body says of the object of an identity.
@@ -96,22 +99,23 @@ fn read_body(
         Ok(value) => value,
         Err(fault) => return Err(row_fault(fault)),
     };
-    if !is_ordered(&value, id.kind) {
-        return Err(RowFault::NoObject);
-    }
-    if !has_type(&value, id.kind) {
-        return Err(RowFault::NoObject);
-    }
-    if !has_quantities(&value, id.kind) {
-        return Err(RowFault::NoObject);
-    }
-    if !has_sorted_usages(&value) {
+    if !is_fit(&value, id.kind) {
         return Err(RowFault::NoObject);
     }
     match object_at(alloc, room, &value, id, version) {
         Ok(object) => Ok(with_status(alloc, object, &value)?),
         Err(fault) => Err(row_fault(fault)),
     }
+}
+
+/// Whether a tree may be that of a row: what is kept in order is in order, and members that are read have their types.
+fn is_fit(value: &Value<'_>, kind: Kind) -> bool
+    ensures { result ≡ is_fit kind (value_view value.now) }
+{
+    is_ordered(value, kind)
+        && has_type(value, kind)
+        && has_quantities(value, kind)
+        && has_sorted_usages(value)
 }
 
 fn row_fault(fault: JsonFault) -> RowFault

@@ -12,7 +12,7 @@ use json::Value;
 use std::alloc::Global;
 
 /// The first fault of a body's members. A member's is given with its path.
-#[derive(Clone, Copy, Debug, PartialEq, Eq)]
+#[derive(Clone, Copy)]
 pub enum MemberFault {
     WrongKind,
     Missing(&'static str),
@@ -37,7 +37,7 @@ impl MemberFault {
 }
 
 /// What a member has to be.
-#[derive(Clone, Copy, Debug, PartialEq, Eq)]
+#[derive(Clone, Copy)]
 pub enum Shape {
     Text,
     Truth,

@@ -2,7 +2,7 @@
 ghost use Rattle.std.specs.Prelude.{◌≡◌, ◌++◌, string_bytes, OnOk};
 ghost use Rattle.hx_json.specs.Pushed.{details_part, over_text, rule_text};
 
-use super::text::{push, push_amount, push_quoted, push_text};
+use super::text::{push, push_named, push_named_amount, push_named_text};
 use hx_model::{Refusal, Rule};
 use hx_object::{NoMemory, Text};
 
@@ -27,8 +27,7 @@ pub fn push_details(out: &mut String, refusal: &Refusal) -> Result<(), NoMemory>
 fn push_rule(out: &mut String, rule: Rule) -> Result<(), NoMemory>
     ensures { OnOk result (string_bytes out.new ≡ string_bytes out.old ++ rule_text rule) }
 {
-    push(out, r#","details":{"rule":"#)?;
-    push_quoted(out, rule.name())?;
+    push_named(out, r#","details":{"rule":"#, rule.name())?;
     push(out, "}")
 }
 
@@ -44,17 +43,11 @@ fn push_over(
 ) -> Result<(), NoMemory>
     ensures { OnOk result (string_bytes out.new ≡ string_bytes out.old ++ over_text namespace.now quota.now resource.now used asked hard) }
 {
-    push(out, r#","details":{"asked":"#)?;
-    push_amount(out, asked)?;
-    push(out, r#","hard":"#)?;
-    push_amount(out, u128::from(hard))?;
-    push(out, r#","namespace":"#)?;
-    push_text(out, namespace)?;
-    push(out, r#","quota":"#)?;
-    push_text(out, quota)?;
-    push(out, r#","resource":"#)?;
-    push_text(out, resource)?;
-    push(out, r#","rule":"Q1","used":"#)?;
-    push_amount(out, used)?;
+    push_named_amount(out, r#","details":{"asked":"#, asked)?;
+    push_named_amount(out, r#","hard":"#, u128::from(hard))?;
+    push_named_text(out, r#","namespace":"#, namespace)?;
+    push_named_text(out, r#","quota":"#, quota)?;
+    push_named_text(out, r#","resource":"#, resource)?;
+    push_named_amount(out, r#","rule":"Q1","used":"#, used)?;
     push(out, "}")
 }

@@ -6,7 +6,7 @@ ghost use Rattle.hx_object.specs.Faults.{IsLegal};
 ghost use Rattle.hx_model.specs.Json.{objects_items, list_text};
 
 use super::object::push_object;
-use super::text::{push, push_api_version, push_comma_if, push_quoted_number};
+use super::text::{push, push_api_version, push_comma_if, push_named_number};
 use hx_object::{Kind, NoMemory, Shared};
 
 /// Appends the text of a list of objects of one kind, with the version that the store has.
@@ -19,14 +19,12 @@ pub fn push_list(
     requires { AllByRecursion IsLegal objects.now }
     ensures { OnOk result (string_bytes out.new ≡ string_bytes out.old ++ list_text kind objects.now version) }
 {
-    push(out, r#"{"apiVersion":"#)?;
-    push_api_version(out, kind)?;
+    push_api_version(out, r#"{"apiVersion":"#, kind)?;
     push(out, r#","items":["#)?;
     push_objects(out, objects)?;
     push(out, r#","kind":""#)?;
     push(out, kind.name())?;
-    push(out, r#"List","metadata":{"resourceVersion":"#)?;
-    push_quoted_number(out, version)?;
+    push_named_number(out, r#"List","metadata":{"resourceVersion":"#, version)?;
     push(out, "}}")
 }
 

@@ -3,14 +3,15 @@ ghost use Rattle.std.specs.Prelude.{◌≡◌, ◌++◌, false, string_bytes, If
 ghost use Rattle.serde_json.specs.Written.{members_text};
 ghost use Rattle.hx_object.specs.Faults.{IsLegal};
 ghost use Rattle.hx_object.specs.Json.{pairs_members, object_text};
-ghost use Rattle.hx_json.specs.Pushed.{IsCut, IsPart, front_part, head_text, later_part, metadata_text, namespace_text, pairs_front, plain_text};
+ghost use Rattle.hx_json.specs.Pushed.{IsCut, IsPart, front_part, head_text, later_part, metadata_text, namespace_text, pairs_front, plain_text, rest_text};
 
 use super::payload::{
     push_anchor, push_config, push_hierarchy_spec, push_hierarchy_status, push_namespace,
     push_quota_spec,
 };
 use super::text::{
-    push, push_api_version, push_comma_if, push_kind, push_quoted, push_quoted_number, push_text,
+    push, push_api_version, push_comma_if, push_kind, push_named, push_named_number,
+    push_named_text, push_text,
 };
 use super::usages::push_usages;
 use hx_object::{NoMemory, Object, Pairs, Payload, Places, Text};
@@ -30,8 +31,7 @@ fn push_pairs(out: &mut String, pairs: &[(Text, Text)]) -> Result<(), NoMemory>
     for (key, value) in pairs {
         push_comma_if(out, later)?;
         push_text(out, key)?;
-        push(out, ":")?;
-        push_text(out, value)?;
+        push_named_text(out, ":", value)?;
         later = true;
     }
     push(out, "}")
@@ -58,8 +58,7 @@ fn push_namespace_of(out: &mut String, ns: &Text) -> Result<(), NoMemory>
     if ns.is_empty() {
         return Ok(());
     }
-    push(out, r#","namespace":"#)?;
-    push_quoted(out, ns)
+    push_named(out, r#","namespace":"#, ns)
 }
 
 fn push_metadata(out: &mut String, object: &Object) -> Result<(), NoMemory>
@@ -68,11 +67,9 @@ fn push_metadata(out: &mut String, object: &Object) -> Result<(), NoMemory>
     push(out, "{")?;
     push_front(out, r#""annotations":"#, &object.annotations)?;
     push_front(out, r#""labels":"#, &object.labels)?;
-    push(out, r#""name":"#)?;
-    push_text(out, &object.id.name)?;
+    push_named_text(out, r#""name":"#, &object.id.name)?;
     push_namespace_of(out, &object.id.ns)?;
-    push(out, r#","resourceVersion":"#)?;
-    push_quoted_number(out, object.version)?;
+    push_named_number(out, r#","resourceVersion":"#, object.version)?;
     push(out, "}")
 }
 
@@ -81,10 +78,8 @@ fn push_head(out: &mut String, object: &Object) -> Result<(), NoMemory>
     ensures { OnOk result (string_bytes out.new ≡ string_bytes out.old ++ head_text object.now) }
 {
     let kind = object.id.kind;
-    push(out, r#"{"apiVersion":"#)?;
-    push_api_version(out, kind)?;
-    push(out, r#","kind":"#)?;
-    push_kind(out, kind)?;
+    push_api_version(out, r#"{"apiVersion":"#, kind)?;
+    push_kind(out, r#","kind":"#, kind)?;
     push(out, r#","metadata":"#)?;
     push_metadata(out, object)
 }
@@ -116,11 +111,9 @@ fn push_plain(out: &mut String, object: &Object, text: &str, places: Places) -> 
     let (first, second) = (places.api_version as usize, places.kind as usize);
     let third = places.metadata as usize;
     push_front_part(out, text, first)?;
-    push(out, r#""apiVersion":"#)?;
-    push_api_version(out, kind)?;
+    push_api_version(out, r#""apiVersion":"#, kind)?;
     push_later_part(out, text, first, second)?;
-    push(out, r#","kind":"#)?;
-    push_kind(out, kind)?;
+    push_kind(out, r#","kind":"#, kind)?;
     push_later_part(out, text, second, third)?;
     push(out, r#","metadata":"#)?;
     push_metadata(out, object)?;
@@ -140,33 +133,35 @@ pub fn push_object(out: &mut String, object: &Object) -> Result<(), NoMemory>
             members.as_str(),
             members.places(),
         ),
-        Payload::Namespace { terminating } => {
+        payload => {
             push_head(out, object)?;
-            push_namespace(out, *terminating)
+            push_rest(out, payload)
         }
-        Payload::Config { entries } => {
-            push_head(out, object)?;
-            push_config(out, entries.as_slice())
-        }
+    }
+}
+
+/// Appends what an object of another kind has behind its metadata. A plain kind has its members around them.
+fn push_rest(out: &mut String, payload: &Payload) -> Result<(), NoMemory>
+    ensures { OnOk result (string_bytes out.new ≡ string_bytes out.old ++ rest_text payload.now) }
+{
+    match payload {
+        Payload::Namespace { terminating } => push_namespace(out, *terminating),
+        Payload::Config { entries } => push_config(out, entries.as_slice()),
         Payload::Hierarchy {
             parent,
             cascade,
             children,
             conditions,
         } => {
-            push_head(out, object)?;
             push_hierarchy_spec(out, parent, *cascade)?;
             push_hierarchy_status(out, children.as_slice(), conditions.as_slice())
         }
-        Payload::Anchor { status } => {
-            push_head(out, object)?;
-            push_anchor(out, *status)
-        }
+        Payload::Anchor { status } => push_anchor(out, *status),
         Payload::Quota { hard, status } => {
-            push_head(out, object)?;
             push_quota_spec(out, hard.as_slice())?;
             push_usages(out, status.as_slice())
         }
+        Payload::Plain { .. } => Ok(()),
     }
 }
 
@@ -198,9 +193,12 @@ fn expected_len(object: &Object) -> usize {
 
 /// The bytes of pairs under a name, where nothing is escaped.
 fn pairs_len(pairs: &[(Text, Text)]) -> usize {
-    pairs.iter().fold(0, |sum: usize, pair| {
-        sum.saturating_add(PAIR_LEN)
-            .saturating_add(pair.0.as_bytes().len())
-            .saturating_add(pair.1.as_bytes().len())
-    })
+    let mut sum: usize = 0;
+    for (key, value) in pairs {
+        sum = sum
+            .saturating_add(PAIR_LEN)
+            .saturating_add(key.as_bytes().len())
+            .saturating_add(value.as_bytes().len());
+    }
+    sum
 }

@@ -5,7 +5,7 @@ ghost use Rattle.hx_object.specs.Json as json;
 ghost use Rattle.hx_object.specs.declared.object.Payload.TheVariants as PayloadOf;
 ghost use Rattle.hx_json.specs.Pushed.{conditions_alone, conditions_behind, config_rest, namespace_rest, quota_spec, spec_alone, spec_front, spec_part, status_rest};
 
-use super::text::{push, push_comma_if, push_quoted, push_text};
+use super::text::{push, push_comma_if, push_named, push_named_text, push_text};
 use hx_object::{AnchorStatus, Condition, Limit, ModeEntry, NoMemory, Text};
 
 #[tactic(auto, unfolding(crate::specs::Pushed::namespace_rest))]
@@ -30,8 +30,7 @@ pub fn push_anchor(out: &mut String, status: Option<AnchorStatus>) -> Result<(),
     let Some(status) = status else {
         return push(out, "}");
     };
-    push(out, r#","status":{"status":"#)?;
-    push_quoted(out, anchor_text(status))?;
+    push_named(out, r#","status":{"status":"#, anchor_text(status))?;
     push(out, "}}")
 }
 
@@ -71,12 +70,9 @@ fn push_entries(out: &mut String, entries: &[ModeEntry]) -> Result<(), NoMemory>
 fn push_entry(out: &mut String, entry: &ModeEntry) -> Result<(), NoMemory>
     ensures { OnOk result (string_bytes out.new ≡ string_bytes out.old ++ compact_text (json.entry_data entry.now)) }
 {
-    push(out, r#"{"group":"#)?;
-    push_text(out, &entry.group)?;
-    push(out, r#","mode":"#)?;
-    push_quoted(out, entry.mode.name())?;
-    push(out, r#","resource":"#)?;
-    push_text(out, &entry.resource)?;
+    push_named_text(out, r#"{"group":"#, &entry.group)?;
+    push_named(out, r#","mode":"#, entry.mode.name())?;
+    push_named_text(out, r#","resource":"#, &entry.resource)?;
     push(out, "}")
 }
 
@@ -191,12 +187,9 @@ fn push_conditions(out: &mut String, conditions: &[Condition]) -> Result<(), NoM
 fn push_condition(out: &mut String, condition: Condition) -> Result<(), NoMemory>
     ensures { OnOk result (string_bytes out.new ≡ string_bytes out.old ++ compact_text (json.condition_data condition)) }
 {
-    push(out, r#"{"message":"#)?;
-    push_quoted(out, message_text(condition))?;
-    push(out, r#","reason":"#)?;
-    push_quoted(out, reason_text(condition))?;
-    push(out, r#","status":"True","type":"#)?;
-    push_quoted(out, type_text(condition))?;
+    push_named(out, r#"{"message":"#, message_text(condition))?;
+    push_named(out, r#","reason":"#, reason_text(condition))?;
+    push_named(out, r#","status":"True","type":"#, type_text(condition))?;
     push(out, "}")
 }
 
@@ -253,8 +246,7 @@ fn push_limits(out: &mut String, limits: &[Limit]) -> Result<(), NoMemory>
     for limit in limits {
         push_comma_if(out, later)?;
         push_text(out, &limit.resource)?;
-        push(out, ":")?;
-        push_text(out, &limit.written)?;
+        push_named_text(out, ":", &limit.written)?;
         later = true;
     }
     push(out, "}")

@@ -3,7 +3,7 @@ ghost use Rattle.std.specs.Prelude.{◌≡◌, ◌++◌, string_bytes, OnOk};
 ghost use Rattle.hx_model.specs.Replies.{gone_text, status_text};
 
 use super::details::push_details;
-use super::text::{push, push_number, push_quoted, push_quoted_number, push_text};
+use super::text::{push, push_named, push_named_number, push_named_text, push_number};
 use hx_model::Refusal;
 use hx_object::NoMemory;
 
@@ -15,10 +15,8 @@ pub fn push_status(out: &mut String, refusal: &Refusal) -> Result<(), NoMemory>
     push(out, r#"{"apiVersion":"v1","code":"#)?;
     push_number(out, refusal.code() as u64)?;
     push_details(out, refusal)?;
-    push(out, r#","kind":"Status","message":"#)?;
-    push_text(out, &message)?;
-    push(out, r#","metadata":{},"reason":"#)?;
-    push_quoted(out, refusal.reason().name())?;
+    push_named_text(out, r#","kind":"Status","message":"#, &message)?;
+    push_named(out, r#","metadata":{},"reason":"#, refusal.reason().name())?;
     push(out, r#","status":"Failure"}"#)
 }
 
@@ -26,10 +24,10 @@ pub fn push_status(out: &mut String, refusal: &Refusal) -> Result<(), NoMemory>
 pub fn push_gone(out: &mut String, version: u64) -> Result<(), NoMemory>
     ensures { OnOk result (string_bytes out.new ≡ string_bytes out.old ++ gone_text version) }
 {
-    push(
+    push_named_number(
         out,
         r#"{"apiVersion":"v1","kind":"Status","metadata":{"resourceVersion":"#,
+        version,
     )?;
-    push_quoted_number(out, version)?;
     push(out, r#"},"status":"Success"}"#)
 }

@@ -43,25 +43,40 @@ pub fn push_text(out: &mut String, text: &Text) -> Result<(), NoMemory>
     push_quoted(out, text.as_str())
 }
 
-/// Appends the version of a kind's group in quotes.
-pub fn push_api_version(out: &mut String, kind: Kind) -> Result<(), NoMemory>
-    ensures { OnOk result (string_bytes out.new ≡ string_bytes out.old ++ quoted (api_version_of kind)) }
+/// Appends what stands before a text, as it is, and the text in quotes.
+pub fn push_named(out: &mut String, name: &str, text: &str) -> Result<(), NoMemory>
+    ensures { OnOk result (string_bytes out.new ≡ string_bytes out.old ++ (name.now ++ quoted text.now)) }
 {
-    push_quoted(out, kind.api_version())
+    push(out, name)?;
+    push_quoted(out, text)
 }
 
-/// Appends the name of a kind in quotes.
-pub fn push_kind(out: &mut String, kind: Kind) -> Result<(), NoMemory>
-    ensures { OnOk result (string_bytes out.new ≡ string_bytes out.old ++ quoted (name_of kind)) }
+/// Appends what stands before a text, as it is, and the text in quotes.
+pub fn push_named_text(out: &mut String, name: &str, text: &Text) -> Result<(), NoMemory>
+    ensures { OnOk result (string_bytes out.new ≡ string_bytes out.old ++ (name.now ++ quoted text.now)) }
 {
-    push_quoted(out, kind.name())
+    push_named(out, name, text.as_str())
 }
 
-/// Appends a number in quotes.
-pub fn push_quoted_number(out: &mut String, number: u64) -> Result<(), NoMemory>
-    ensures { OnOk result (string_bytes out.new ≡ string_bytes out.old ++ quoted (decimal number)) }
+/// Appends what stands before the version of a kind's group, and that in quotes.
+pub fn push_api_version(out: &mut String, name: &str, kind: Kind) -> Result<(), NoMemory>
+    ensures { OnOk result (string_bytes out.new ≡ string_bytes out.old ++ (name.now ++ quoted (api_version_of kind))) }
 {
-    push_quoted(out, Buffer::new().format(number))
+    push_named(out, name, kind.api_version())
+}
+
+/// Appends what stands before the name of a kind, and that in quotes.
+pub fn push_kind(out: &mut String, name: &str, kind: Kind) -> Result<(), NoMemory>
+    ensures { OnOk result (string_bytes out.new ≡ string_bytes out.old ++ (name.now ++ quoted (name_of kind))) }
+{
+    push_named(out, name, kind.name())
+}
+
+/// Appends what stands before a number, and the number in quotes.
+pub fn push_named_number(out: &mut String, name: &str, number: u64) -> Result<(), NoMemory>
+    ensures { OnOk result (string_bytes out.new ≡ string_bytes out.old ++ (name.now ++ quoted (decimal number))) }
+{
+    push_named(out, name, Buffer::new().format(number))
 }
 
 /// Appends a number.
@@ -71,12 +86,12 @@ pub fn push_number(out: &mut String, number: u64) -> Result<(), NoMemory>
     push(out, Buffer::new().format(number))
 }
 
-/// Appends an amount in quotes.
-pub fn push_amount(out: &mut String, amount: u128) -> Result<(), NoMemory>
-    ensures { OnOk result (string_bytes out.new ≡ string_bytes out.old ++ quoted (quantity_text amount)) }
+/// Appends what stands before an amount, and the amount in quotes.
+pub fn push_named_amount(out: &mut String, name: &str, amount: u128) -> Result<(), NoMemory>
+    ensures { OnOk result (string_bytes out.new ≡ string_bytes out.old ++ (name.now ++ quoted (quantity_text amount))) }
 {
     let text = print(*out.allocator(), amount)?;
-    push_text(out, &text)
+    push_named_text(out, name, &text)
 }
 
 /// Appends what stands between quotes for a text.

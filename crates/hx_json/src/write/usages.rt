@@ -2,7 +2,7 @@
 ghost use Rattle.std.specs.Prelude.{◌≡◌, ◌++◌, string_bytes, OnOk};
 ghost use Rattle.hx_json.specs.Pushed.{hard_text, usages_rest, used_text};
 
-use super::text::{push, push_amount, push_comma_if, push_text};
+use super::text::{push, push_comma_if, push_named_amount, push_text};
 use hx_object::{NoMemory, Usage};
 
 /// What is reported of a quota, where anything is.
@@ -27,8 +27,7 @@ fn push_hard(out: &mut String, usages: &[Usage]) -> Result<(), NoMemory>
     for usage in usages {
         push_comma_if(out, later)?;
         push_text(out, &usage.resource)?;
-        push(out, ":")?;
-        push_amount(out, u128::from(usage.hard))?;
+        push_named_amount(out, ":", u128::from(usage.hard))?;
         later = true;
     }
     push(out, "}")
@@ -42,8 +41,7 @@ fn push_used(out: &mut String, usages: &[Usage]) -> Result<(), NoMemory>
     for usage in usages {
         push_comma_if(out, later)?;
         push_text(out, &usage.resource)?;
-        push(out, ":")?;
-        push_amount(out, usage.used)?;
+        push_named_amount(out, ":", usage.used)?;
         later = true;
     }
     push(out, "}")

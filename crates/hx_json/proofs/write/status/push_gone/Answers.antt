@@ -8,10 +8,9 @@ use Rattle.hx_json.proofs.write.status.push_gone.Goals as goal
 pub returns : goal.returns
 unfolding pushed_gone
 returns c =
-    last c.push-2.result (λ e.
+    last c.push.result (λ e.
     glue (string_bytes c.args.out.now)
-    (codes "{\"apiVersion\":\"v1\",\"kind\":\"Status\",\"metadata\":{\"resourceVersion\":" ∷ quoted (decimal c.args.version) ∷
+    ((codes "{\"apiVersion\":\"v1\",\"kind\":\"Status\",\"metadata\":{\"resourceVersion\":" ++ quoted (decimal c.args.version)) ∷
     codes "},\"status\":\"Success\"}" ∷ [])
-    (string_bytes c.push-2.new.out)
-    (_, c.in_ok-push.ensures, (_, c.in_ok-push_quoted_number.ensures, e))
-    ∙ ap (λ t. string_bytes c.args.out.now ++ t) (gone_pushed c.args.version)) c.push-2.ensures
+    (string_bytes c.push.new.out) (_, c.in_ok-push_named_number.ensures, e)
+    ∙ ap (λ t. string_bytes c.args.out.now ++ t) (gone_pushed c.args.version)) c.push.ensures
