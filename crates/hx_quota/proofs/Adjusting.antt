@@ -1,7 +1,7 @@
 -- Sums that are adjusted along names.
 --     of_place         each place is that of a resource
 --     may_now          what may be adjusted at first may be, as long as it isn't yet
---     adjusted_one, adjusted_none      one name more, that is there or not
+--     adjusted_one     one name more
 use Rattle.std.specs.Prelude.{slice_index}
 use Rattle.std.proofs.Common.{◌≡◌, ℕ, zero, suc, ◌+◌, ◌-◌, ◌<◌, ◌≤◌, ◌^◌, Bool, true, false, cond, not, ◌&&◌, ◌||◌, Option, Some, None, List, [], ◌∷◌, refl, sym, ap, subst, ◌∙◌, arith}
 use Rattle.std.specs.List.{AllByRecursion, IsDistinct}
@@ -106,21 +106,6 @@ module _ (take give : List ℕ) (names left rest : List (List ℕ)) (m : List �
       at false out =
           subst (λ (b : Bool). IsAdjusted take give b (place_at was q) (place_at new q)) (other_done q out)
           (subst (λ (w : Option Place). IsAdjusted take give (is_done names left q) (place_at was q) w) (sym (is_new q ∙ ap (λ b. cond b (Some put) (place_at now q)) out)) (all q))
-
-  -- and one that isn't
-  pub adjusted_none : (was now : Places) → ((q : List ℕ) → IsAdjusted take give (is_done names left q) (place_at was q) (place_at now q)) → place_at now m ≡ None
-      → (q : List ℕ) → IsAdjusted take give (is_done names rest q) (place_at was q) (place_at now q)
-  adjusted_none was now all none q = at (bytes_eq m q) refl
-    where
-      mine : (o : Option Place) (b : Bool) → IsAdjusted take give (is_done names left m) o None → IsAdjusted take give b o None
-      mine None b h = refl
-      mine (Some p) b h = absurd (none-some h.0 h.1)
-
-      at : (b : Bool) → bytes_eq m q ≡ b → IsAdjusted take give (is_done names rest q) (place_at was q) (place_at now q)
-      at true same =
-          subst (λ (k : List ℕ). IsAdjusted take give (is_done names rest k) (place_at was k) (place_at now k)) (is_same m q same)
-          (subst (λ (w : Option Place). IsAdjusted take give (is_done names rest m) (place_at was m) w) (sym none) (mine (place_at was m) (is_done names rest m) (subst (λ (w : Option Place). IsAdjusted take give (is_done names left m) (place_at was m) w) none (all m))))
-      at false out = subst (λ (b : Bool). IsAdjusted take give b (place_at was q) (place_at now q)) (other_done q out) (all q)
 
 -- what may be adjusted by resources
 pub may_by : (take give sums : List ℕ) → ((r : Resource) → (slice_index take (place_of r) ≤ slice_index sums (place_of r)) × (adjusted take give sums (place_of r) < 2 ^ 128)) → MayAdjust take give sums

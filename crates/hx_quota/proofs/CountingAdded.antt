@@ -1,37 +1,31 @@
 -- Counters of a tree and its objects, where a namespace comes.
 --     added      they may be changed so, and then count the tree with it
--- While those that named it before come under it one after another, its own chain stays: a chain stops before a name that it has.
-use Rattle.std.proofs.Common.{◌≡◌, ℕ, Bool, true, false, cond, not, ◌&&◌, ◌||◌, Option, Some, None, option_map, List, [], ◌∷◌, ◌++◌, refl, sym, ap, ◌∙◌, subst, true≢false}
+use Rattle.std.proofs.Common.{◌≡◌, ℕ, Bool, true, false, cond, ◌&&◌, ◌||◌, Option, Some, None, option_map, List, [], ◌∷◌, refl, sym, ap, ◌∙◌, subst, true≢false}
 use Rattle.std.specs.Prelude.{is_some, option_and_then}
 use Rattle.std.specs.List.{IsDistinct}
 use Rattle.std.specs.Option.{option_map_or}
 use Rattle.std.specs.Str.{bytes_eq}
-use Rattle.std.proofs.lemmas.Bool.{and_parts, and_from, false_from_ne_true}
+use Rattle.std.proofs.lemmas.Bool.{false_from_ne_true}
 use Rattle.std.proofs.lemmas.Map.Keys.{IsDistinct-tail}
-use Rattle.std.proofs.lemmas.Option.{same_Some}
 use Rattle.hx_forest.specs.declared.change.Change.TheVariants as tree
 use Rattle.hx_forest.proofs.Nodes.{node_of-with_node}
 use Rattle.hx_model.specs.First.{so}
-use Rattle.hx_model.specs.Forest.{Forest, is_in, node_of, is_there, parent_of, is_child, children_of, goes_on, chain_of, tail_of}
+use Rattle.hx_model.specs.Forest.{Forest, is_in, node_of, is_there, parent_of, is_child, children_of}
 use Rattle.hx_model.specs.ForestChanges.{with_node}
-use Rattle.hx_model.specs.Moves.{chain_from}
 use Rattle.hx_model.specs.State.{Objects}
 use Rattle.hx_model.specs.declared.node.Node.{Node}
 use Rattle.hx_model.specs.declared.resource.Resource.{Resource}
-use Rattle.hx_model.proofs.Climbing.{Climbs, at_top, stopped, onward, chain-Climbs, one_end, is_same, same_itself}
-use Rattle.hx_model.proofs.Opening.{chain_first}
-use Rattle.hx_model.proofs.Parents.{chain_alone, swap_same}
+use Rattle.hx_model.proofs.Climbing.{is_same, same_itself}
+use Rattle.hx_model.proofs.Parents.{swap_same}
 use Rattle.hx_quota.specs.declared.change.CounterChange.{CounterChange}
 use Rattle.hx_quota.specs.declared.change.CounterChange.TheVariants.{Move}
 use Rattle.hx_quota.specs.declared.entry.Entry.{Entry}
-use Rattle.hx_quota.specs.Counters.{Entries, entry_of, node_for, tree_of, own_of, with_entry, new_entry, with_parent}
-use Rattle.hx_quota.specs.Counting.{Counts, if_there, parent_there, own_charge, changed, changed_all, MayChange, MayChangeAll, under_parent, chain_new, taken_in, changes_of_tree}
-use Rattle.hx_quota.proofs.CountingChains.{same_chain}
-use Rattle.hx_quota.proofs.CountingMoves.{changed_both, may_both, steps, HasTree, counted, has_moved, has_alike, above_head, child_parent, child_there, among_children, not_among}
+use Rattle.hx_quota.specs.Counters.{Entries, entry_of, node_for, own_of, with_entry, new_entry, with_parent}
+use Rattle.hx_quota.specs.Counting.{Counts, if_there, parent_there, own_charge, changed, changed_all, MayChange, MayChangeAll, under_parent, taken_in, changes_of_tree}
+use Rattle.hx_quota.proofs.CountingMoves.{changed_both, may_both, steps, HasTree, counted, has_moved, has_alike, child_parent, child_there, among_children, not_among}
 use Rattle.hx_quota.proofs.Entries.{entry_of-with_entry}
 use Rattle.hx_quota.proofs.Fitting.{has_nothing}
 use Rattle.hx_quota.proofs.Trees.{node_of-tree}
-use Rattle.hx_quota.proofs.UsedSums.{in_tree}
 
 none_of : {A : Type 0} (o : Option A) → is_some o ≡ false → o ≡ None
 none_of None h = refl
@@ -90,47 +84,6 @@ module _ (f : Forest) (n : List ℕ) (node : Node) (new : is_there f n ≡ false
   waiting_here : (left : List (List ℕ)) → is_in n left ≡ false → waiting left n ≡ option_and_then (if_there grown) node.parent
   waiting_here left out = ap (λ b. cond b None (parent_there grown n)) out ∙ ap (λ (o : Option (List ℕ)). option_and_then (if_there grown) o) parent_here
 
-  -- ---- its chain, while some have yet to come under it
-
-  module _ (g : Forest) (left : List (List ℕ)) (there : (m : List ℕ) → is_there g m ≡ is_there grown m) (parents : (m : List ℕ) → parent_of g m ≡ waiting left m)
-      (children : (m : List ℕ) → is_in m left ≡ true → is_child f n m ≡ true) where
-    climbs_new : (b : Bool) (built : List (List ℕ)) (next : Option (List ℕ)) (all : List (List ℕ)) → Climbs f built next all → (b ≡ true → next ≡ Some n)
-        → Climbs g (n ∷ built) (cond b None (option_and_then (if_there grown) next)) (n ∷ all)
-    climbs_new true built None all at_top is = at_top
-    climbs_new false built None all at_top is = at_top
-    climbs_new true built (Some q) all (stopped stops) is = at_top
-    climbs_new false built (Some q) all (stopped stops) is = at (is_there grown q) refl
-      where
-        stops_there : (b : Bool) → bytes_eq n q ≡ b → goes_on g (n ∷ built) q ≡ false
-        stops_there true same = ap (λ b. is_there g q && not (b || is_in q built)) (subst (λ (k : List ℕ). bytes_eq k n ≡ true) (is_same n q same) (same_itself n)) ∙ never (is_there g q)
-        stops_there false out = (λ i. (there q ∙ ap is_some (node_other q out)) i && not (swap_same n q out i || is_in q built)) ∙ stops
-
-        at : (b : Bool) → is_there grown q ≡ b → Climbs g (n ∷ built) (so b q) (n ∷ built)
-        at true here = stopped (stops_there (bytes_eq n q) refl)
-        at false out = at_top
-    climbs_new true built (Some q) all (onward goes rest) is =
-        let there_q : is_there f q ≡ true = (and_parts (is_there f q) (not (is_in q built)) goes).0 in
-        absurd (true≢false (sym there_q ∙ ap (λ (k : List ℕ). is_there f k) (same_Some q n (is refl)) ∙ new))
-    climbs_new false built (Some q) all (onward goes rest) is =
-        let parts = and_parts (is_there f q) (not (is_in q built)) goes in
-        let out : bytes_eq n q ≡ false = apart q parts.0 in
-        let on : goes_on g (n ∷ built) q ≡ true = and_from (is_there g q) (not (bytes_eq q n || is_in q built)) (there q ∙ still q parts.0) (ap (λ b. not (b || is_in q built)) (swap_same n q out) ∙ parts.1) in
-        let up = climbs_new (is_in q left) (built ++ q ∷ []) (parent_of f q) all rest (λ h. child_parent f n q (children q h)) in
-        let named : parent_of g q ≡ cond (is_in q left) None (option_and_then (if_there grown) (parent_of f q)) =
-        parents q ∙ ap (λ (o : Option (List ℕ)). cond (is_in q left) None (option_and_then (if_there grown) o)) (parent_other q out) in
-        subst (λ b. Climbs g (n ∷ built) (so b q) (n ∷ all)) (sym (still q parts.0)) (onward on (subst (λ (o : Option (List ℕ)). Climbs g (n ∷ (built ++ q ∷ [])) o (n ∷ all)) (sym named) up))
-
-    not_left : is_in n left ≡ false
-    not_left = false_from_ne_true (is_in n left) (λ h. true≢false (sym (children n h) ∙ not_own_child))
-
-    chain_stays : chain_of g n ≡ chain_new f n node.parent
-    chain_stays = one_end g [] (Some n) _ _ (chain-Climbs g n) (onward (and_from (is_there g n) (not (is_in n [])) (there n ∙ there_here) refl)
-        (subst (λ (o : Option (List ℕ)). Climbs g (n ∷ []) o (chain_new f n node.parent)) (sym (parents n ∙ waiting_here left not_left)) (from node.parent)))
-      where
-        from : (o : Option (List ℕ)) → Climbs g (n ∷ []) (option_and_then (if_there grown) o) (n ∷ chain_from f o)
-        from None = at_top
-        from (Some p) = climbs_new false [] (Some p) (chain_of f p) (chain-Climbs f p) (λ e. absurd (true≢false (sym e)))
-
   -- ---- those that named it come under it
 
   module _ (objects : Objects) where
@@ -140,25 +93,16 @@ module _ (f : Forest) (n : List ℕ) (node : Node) (new : is_there f n ≡ false
       distinct : IsDistinct bytes_eq left
 
     abbrev take_in : List ℕ → CounterChange
-    take_in c = Move c (Some n) [] (chain_new f n node.parent)
+    take_in c = Move c (Some n)
 
     waits_less : (c : List ℕ) (cs : List (List ℕ)) (es : Entries) → Waits (c ∷ cs) es → MayChange (take_in c) es × Waits cs (changed (take_in c) es)
-    waits_less c cs es waits = ((waits.has.there c ∙ there_c, behind, (refl, above)), less)
+    waits_less c cs es waits = ((waits.has.there c ∙ there_c, waits.has.there n ∙ there_here), less)
       where
         is_one : is_child f n c ≡ true
         is_one = waits.children c (ap (λ b. b || is_in c cs) (same_itself c))
 
         there_c : is_there grown c ≡ true
         there_c = still c (child_there f n c is_one)
-
-        there_all : (m : List ℕ) → is_there (tree_of es) m ≡ is_there grown m
-        there_all m = in_tree es m ∙ waits.has.there m
-
-        behind : chain_of (tree_of es) c ≡ c ∷ []
-        behind = chain_alone (tree_of es) c (there_all c ∙ there_c) (waits.has.parents c ∙ ap (λ b. cond (b || is_in c cs) None (parent_there grown c)) (same_itself c))
-
-        above : chain_of (tree_of es) n ≡ chain_new f n node.parent
-        above = chain_stays (tree_of es) (c ∷ cs) there_all waits.has.parents waits.children
 
         comes : waiting cs c ≡ Some n
         comes = ap (λ b. cond b None (parent_there grown c)) (not_among c cs waits.distinct)
@@ -204,12 +148,6 @@ module _ (f : Forest) (n : List ℕ) (node : Node) (new : is_there f n ≡ false
           own m r true same = has_nothing r ∙ subst (λ (k : List ℕ). 0 ≡ own_charge objects k r) (sym (is_same m n same)) (sym (ap (λ (o : Option Entry). option_map_or (own_of r) o 0) absent) ∙ counts.own n r)
           own m r false out = counts.own m r
 
-      alone : chain_of (tree_of first) n ≡ n ∷ []
-      alone = chain_alone (tree_of first) n (in_tree first n ∙ has_first.there n ∙ there_here) (has_first.parents n ∙ ap (λ (o : Option Node). option_and_then (if_there f) (option_and_then (λ node. node.parent) o)) (none_of (node_of f n) new))
-
-      old_chain : (p : List ℕ) → is_there f p ≡ true → chain_of (tree_of first) p ≡ chain_of f p
-      old_chain p there = same_chain f (tree_of first) (record { there = λ m h. in_tree first m ∙ has_first.there m ∙ still m h; parents = has_first.parents }) p there
-
       -- what is left then to be done
       abbrev IsUnderParent : List CounterChange → Type 0
       IsUnderParent changes = MayChangeAll changes first × HasTree objects (is_there grown) (waiting (children_of f n)) (changed_all changes first)
@@ -229,9 +167,9 @@ module _ (f : Forest) (n : List ℕ) (node : Node) (new : is_there f n ≡ false
           at m false out = waiting_other m out
 
       -- it gets a parent
-      gets : (p : List ℕ) (to behind : List (List ℕ)) → waiting (children_of f n) n ≡ Some p → chain_of (tree_of first) p ≡ to → to ≡ p ∷ behind → IsUnderParent (Move n (Some p) [] to ∷ [])
-      gets p to behind here is begins = (
-        ((has_first.there n ∙ there_here, alone, above_head first p to behind is begins), tt),
+      gets : (p : List ℕ) → is_there grown p ≡ true → waiting (children_of f n) n ≡ Some p → IsUnderParent (Move n (Some p) ∷ [])
+      gets p there here = (
+        ((has_first.there n ∙ there_here, has_first.there p ∙ there), tt),
         has_moved objects (is_there grown) (parent_there f) (waiting (children_of f n)) first n (Some p) has_first there_here here waiting_other,
       )
 
@@ -242,9 +180,9 @@ module _ (f : Forest) (n : List ℕ) (node : Node) (new : is_there f n ≡ false
           there_p : (b : Bool) → is_there grown p ≡ b → waiting (children_of f n) n ≡ so b p
           there_p b h = here_by (Some p) (so b p) is (ap (λ c. so c p) h)
 
-          at : (b c : Bool) → is_there f p ≡ b → bytes_eq n p ≡ c → IsUnderParent (cond b (Move n (Some p) [] (chain_of f p) ∷ []) (cond c (Move n (Some n) [] (n ∷ []) ∷ []) []))
-          at true c there e = gets p (chain_of f p) (tail_of (chain_of f p)) (there_p true (still p there)) (old_chain p there) (chain_first f p there)
-          at false true out same = gets n (n ∷ []) [] (there_p true (subst (λ (k : List ℕ). is_there grown k ≡ true) (is_same n p same) there_here) ∙ ap Some (sym (is_same n p same))) alone refl
+          at : (b c : Bool) → is_there f p ≡ b → bytes_eq n p ≡ c → IsUnderParent (cond b (Move n (Some p) ∷ []) (cond c (Move n (Some n) ∷ []) []))
+          at true c there e = gets p (still p there) (there_p true (still p there))
+          at false true out same = gets n there_here (there_p true (subst (λ (k : List ℕ). is_there grown k ≡ true) (is_same n p same) there_here) ∙ ap Some (sym (is_same n p same)))
           at false false out other = stays (there_p false (ap is_some (node_other p other) ∙ out))
 
       pub added : IsDistinct bytes_eq (children_of f n) → MayChangeAll (changes_of_tree f (tree.Add n node)) es × Counts objects grown (changed_all (changes_of_tree f (tree.Add n node)) es)
@@ -253,6 +191,6 @@ module _ (f : Forest) (n : List ℕ) (node : Node) (new : is_there f n ≡ false
           let second : Entries = changed_all (under_parent f n node.parent) first in
           let waits : Waits (children_of f n) second = record { has = under.1; children = λ m h. sym (among_children f n m) ∙ h; distinct = distinct } in
           let taken = steps Waits take_in waits_less (children_of f n) second waits in (
-            (absent, may_both (under_parent f n node.parent) (taken_in f n node.parent) first under.0 taken.0),
-            counted objects grown _ (subst (λ (x : Entries). HasTree objects (is_there grown) (parent_there grown) x) (sym (changed_both (under_parent f n node.parent) (taken_in f n node.parent) first)) taken.1.has),
+            (absent, may_both (under_parent f n node.parent) (taken_in f n) first under.0 taken.0),
+            counted objects grown _ (subst (λ (x : Entries). HasTree objects (is_there grown) (parent_there grown) x) (sym (changed_both (under_parent f n node.parent) (taken_in f n) first)) taken.1.has),
           )

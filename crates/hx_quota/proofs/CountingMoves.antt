@@ -5,7 +5,6 @@
 --     HasTree objects has parent es      the counters have these namespaces, under these parents, with what their objects are charged
 --     has_counted, counted               those of a tree are what counters have that count it
 --     has_moved, has_alike               after a move, and under the same parents
---     above_head                         names are the chain of a parent
 --     child_parent, child_there, among_children, not_among   what names n as its parent
 use Rattle.std.proofs.Common.{◌≡◌, ℕ, Bool, true, false, cond, Option, Some, None, List, [], ◌∷◌, ◌++◌, map, ◌&&◌, ◌||◌, refl, sym, ap, ◌∙◌, subst, true≢false}
 use Rattle.std.specs.Prelude.{is_some, option_and_then}
@@ -14,7 +13,7 @@ use Rattle.std.specs.List.{AllByRecursion, IsDistinct}
 use Rattle.std.specs.Str.{bytes_eq}
 use Rattle.std.proofs.lemmas.Map.Keys.{IsDistinct-head}
 use Rattle.std.proofs.lemmas.Option.{none-some}
-use Rattle.hx_model.specs.Forest.{Forest, is_in, names_of, node_of, is_there, parent_of, is_child, children_of, chain_of}
+use Rattle.hx_model.specs.Forest.{Forest, is_in, names_of, node_of, is_there, parent_of, is_child, children_of}
 use Rattle.hx_model.specs.State.{Objects}
 use Rattle.hx_model.specs.declared.node.Node.{Node}
 use Rattle.hx_model.specs.declared.resource.Resource.{Resource}
@@ -25,7 +24,7 @@ use Rattle.hx_model.proofs.Walking.{names_have}
 use Rattle.hx_quota.specs.declared.change.CounterChange.{CounterChange}
 use Rattle.hx_quota.specs.declared.change.CounterChange.TheVariants.{Add, Move, Shift, Remove}
 use Rattle.hx_quota.specs.declared.entry.Entry.{Entry}
-use Rattle.hx_quota.specs.Counters.{Entries, entry_of, tree_of, own_of, own_in, with_entry, new_entry, without_entry, with_parent, IsAbove, AllFit}
+use Rattle.hx_quota.specs.Counters.{Entries, entry_of, tree_of, own_of, own_in, with_entry, new_entry, without_entry, with_parent, AllFit}
 use Rattle.hx_quota.specs.Counting.{Counts, own_charge, parent_there, changed, changed_all, MayChange, MayChangeAll}
 use Rattle.hx_quota.proofs.Entries.{ascends, changed_entry, ascends-with_entry, ascends-with_changed, ascends-without_entry}
 use Rattle.hx_quota.proofs.Fitting.{fits_added, fits_moved, fits_removed}
@@ -44,9 +43,8 @@ may_both (c ∷ xs) ys es may then = (may.0, may_both xs ys (changed c es) may.1
 
 ascends_changed : (c : CounterChange) (es : Entries) → ascends es ≡ true → ascends (changed c es) ≡ true
 ascends_changed (Add name) es up = ascends-with_entry name new_entry es up
-ascends_changed (Move moved parent from to) es up = ascends-with_changed moved _ es ∙ up
-ascends_changed (Shift [] deltas) es up = up
-ascends_changed (Shift (n ∷ names) deltas) es up = ascends-with_changed n _ es ∙ up
+ascends_changed (Move moved parent) es up = ascends-with_changed moved _ es ∙ up
+ascends_changed (Shift n deltas) es up = ascends-with_changed n _ es ∙ up
 ascends_changed (Remove name) es up = ascends-without_entry name es up
 
 -- entries stay in order
@@ -56,8 +54,8 @@ ascends_changed_all (c ∷ changes) es up = ascends_changed_all changes (changed
 
 fits_changed : (c : CounterChange) (es : Entries) → MayChange c es → AllFit es → AllFit (changed c es)
 fits_changed (Add name) es may fit = fits_added es es (with_entry name new_entry es) name refl may refl fit
-fits_changed (Move moved parent from to) es may fit = fits_moved es (with_parent moved parent es) moved parent refl fit
-fits_changed (Shift chain deltas) es may fit = may.3
+fits_changed (Move moved parent) es may fit = fits_moved es (with_parent moved parent es) moved parent refl fit
+fits_changed (Shift n deltas) es may fit = may.3
 fits_changed (Remove name) es may fit = fits_removed es (without_entry name es) name refl fit
 
 -- what all have together still fits
@@ -122,12 +120,6 @@ has_moved objects has old new es c p is there here other = record {
 -- under the same parents
 pub has_alike : (objects : Objects) (has : List ℕ → Bool) (old new : List ℕ → Option (List ℕ)) (es : Entries) → HasTree objects has old es → ((m : List ℕ) → new m ≡ old m) → HasTree objects has new es
 has_alike objects has old new es is same = record { there = is.there; parents = λ m. is.parents m ∙ sym (same m); own = is.own }
-
--- ---- chains
-
--- names that begin with a parent are its chain
-pub above_head : (es : Entries) (p : List ℕ) (names behind : List (List ℕ)) → chain_of (tree_of es) p ≡ names → names ≡ p ∷ behind → IsAbove es (Some p) names
-above_head es p names behind is begins = subst (λ (xs : List (List ℕ)). IsAbove es (Some p) xs) (sym begins) (refl, is ∙ begins)
 
 -- ---- children
 

@@ -10,8 +10,8 @@
 --     put_unchanged, cut_unchanged   where nothing charged changes by it
 --     writes_unchanged               nor by any of several writes
 --     counts_none                    nothing is counted in the beginning
-use Rattle.std.proofs.Common.{◌≡◌, ℕ, ◌+◌, ◌-◌, ◌≤◌, ◌<◌, ◌^◌, Bool, true, false, cond, Option, Some, None, option_map, List, [], ◌∷◌, refl, sym, ap, subst, ◌∙◌, arith, true≢false}
-use Rattle.std.specs.Prelude.{is_some, slice_index}
+use Rattle.std.proofs.Common.{◌≡◌, ℕ, ◌+◌, ◌-◌, ◌≤◌, Bool, true, false, cond, Option, Some, None, option_map, List, [], ◌∷◌, refl, sym, ap, subst, ◌∙◌, arith, true≢false}
+use Rattle.std.specs.Prelude.{is_some}
 use Rattle.std.specs.List.{AllByRecursion}
 use Rattle.std.specs.Option.{option_map_or}
 use Rattle.std.specs.Str.{bytes_eq}
@@ -19,7 +19,7 @@ use Rattle.std.proofs.lemmas.Bool.{true_from_ne_false}
 use Rattle.hx_object.specs.declared.object.Id.{Id}
 use Rattle.hx_object.specs.declared.object.Object.{Object}
 use Rattle.hx_model.specs.Charges.{charge_of}
-use Rattle.hx_model.specs.Forest.{Forest, is_there, parent_of, chain_of, tail_of}
+use Rattle.hx_model.specs.Forest.{Forest, is_there, parent_of}
 use Rattle.hx_model.specs.Limits.{part_of}
 use Rattle.hx_model.specs.Quotas.{charge_before}
 use Rattle.hx_model.specs.State.{Objects, same_id, object_at, put, cut, ascends, after_writes}
@@ -28,15 +28,13 @@ use Rattle.hx_model.specs.declared.key.Write.TheVariants.{Put, Cut}
 use Rattle.hx_model.specs.declared.resource.Resource.{Resource}
 use Rattle.hx_model.proofs.Climbing.{is_same, same_itself}
 use Rattle.hx_model.proofs.Objects.{is_same_id, object_at-put, object_at-put_itself, object_at-cut, found_id, sum-put, sum-cut, ascends-put}
-use Rattle.hx_model.proofs.Opening.{chain_first}
 use Rattle.hx_model.proofs.Rising.{sum_less}
 use Rattle.hx_model.proofs.Writes.{ascends_after}
 use Rattle.hx_quota.specs.declared.entry.Delta.{Delta}
 use Rattle.hx_quota.specs.declared.entry.Entry.{Entry}
-use Rattle.hx_quota.specs.Counters.{Entries, entry_of, tree_of, place_of, own_of, with_changed, with_shifted, total_of, sums_of, IsChain, AreApart, HaveOld, AllFit}
-use Rattle.hx_quota.specs.Counting.{Counts, AreRegular, charge_in, own_charge, changed_all, MayChangeAll, deltas_of, shifted_by, changes_of_object}
-use Rattle.hx_quota.proofs.CountingDeltas.{shifted_at, shift_deltas, apart_deltas, old_deltas, deltas_none, none_deltas, total_deltas}
-use Rattle.hx_quota.proofs.CountingRegular.{in_order}
+use Rattle.hx_quota.specs.Counters.{Entries, entry_of, own_of, with_changed}
+use Rattle.hx_quota.specs.Counting.{Counts, AreRegular, charge_in, own_charge, deltas_of}
+use Rattle.hx_quota.proofs.CountingDeltas.{shifted_at, shift_deltas, apart_deltas, deltas_none, none_deltas}
 use Rattle.hx_quota.proofs.CountingSums.{nothing_counted}
 use Rattle.hx_quota.proofs.Deltas.{shift_in}
 use Rattle.hx_quota.proofs.Entries.{changed_entry}
@@ -141,68 +139,6 @@ module _ (before after : Objects) (f : Forest) (es : Entries) (n : List ℕ) (ol
           (ap (λ (o : Option Entry). option_map_or (own_of r) (option_map (shift_in deltas) o) 0) is_entry ∙ own_then r)
       at m r false out = counts.own m r ∙ same m r out
 
-  pub shift_moved : (names : List (List ℕ)) → chain_of (tree_of es) n ≡ n ∷ names → (ds : List Delta) → ds ≡ deltas → AllFit (with_shifted (n ∷ names) ds es)
-      → MayChangeAll (shifted_by (n ∷ names) ds) es × Counts after f (changed_all (shifted_by (n ∷ names) ds) es)
-  shift_moved names chain [] none fits = (
-    tt,
-    record {
-      there = counts.there;
-      parents = counts.parents;
-      own = λ m r. counts.own m r ∙ same m r (bytes_eq n m) refl;
-    },
-  )
-    where
-      level : (a b c d : ℕ) → b + c ≡ a + d → c ≡ d → a ≡ b
-      level a b c d move still = omega (arith, move, still)
-
-      same : (m : List ℕ) (r : Resource) (b : Bool) → bytes_eq n m ≡ b → own_charge before m r ≡ own_charge after m r
-      same m r b is =
-          let still = none_deltas old new (sym none) r in
-          level (own_charge before m r) (own_charge after m r) (cond (bytes_eq n m) (charge_before old r) 0) (cond (bytes_eq n m) (charge_before new r) 0) (moves m r) (ap (λ (k : ℕ). cond (bytes_eq n m) k 0) still)
-  shift_moved names chain (d ∷ ds) is fits = (
-    (
-      (
-        chain,
-        subst (λ (xs : List Delta). AreApart xs) (sym is) (apart_deltas old new),
-        subst (λ (xs : List Delta). HaveOld xs (sums_of es (n ∷ names))) (sym is) (old_deltas old new (sums_of es (n ∷ names)) (λ r. subst (λ (own : List ℕ). charge_before old r ≤ slice_index own (place_of r)) (sym (ap (λ (o : Option Entry). option_map_or (λ e. e.own) o []) is_entry)) (had_entry r))),
-        fits,
-      ),
-      tt,
-    ),
-    subst (λ (xs : List Delta). Counts after f (with_shifted (n ∷ names) xs es)) (sym is) counts_then,
-  )
-
-  -- the changes by the object in that place
-  pub counts_moved : chain_of (tree_of es) n ≡ chain_of f n → AllFit (with_shifted (chain_of f n) (deltas_of old new) es)
-      → MayChangeAll (changes_of_object f n old new) es × Counts after f (changed_all (changes_of_object f n old new) es)
-  counts_moved chain fits =
-      let first = chain_first f n there in
-      subst (λ (names : List (List ℕ)). MayChangeAll (shifted_by names deltas) es × Counts after f (changed_all (shifted_by names deltas) es)) (sym first)
-      (shift_moved (tail_of (chain_of f n)) (chain ∙ first) deltas refl (subst (λ (names : List (List ℕ)). AllFit (with_shifted names deltas es)) first fits))
-
-  -- what all have together then
-  pub total_moved : (r : Resource) → total_of (with_shifted (chain_of f n) (deltas_of old new) es) r ≡ total_of es r - charge_before old r + charge_before new r
-  total_moved r =
-      ap (λ (names : List (List ℕ)). total_of (with_shifted names deltas es) r) (chain_first f n there)
-      ∙ total_deltas es n (tail_of (chain_of f n)) entry (in_order es regular) is_entry (regular.long n entry is_entry) old new had_entry r
-
-  -- it fits, where each sum does
-  pub fits_moved : ((r : Resource) → total_of es r - charge_before old r + charge_before new r < 2 ^ 128) → AllFit (with_shifted (chain_of f n) (deltas_of old new) es)
-  fits_moved fit r = subst (λ (k : ℕ). k < 2 ^ 128) (sym (total_moved r)) (fit r)
-
--- what a shift needs beside that it fits
-pub may_recharge : (before : Objects) (f : Forest) (es : Entries) (n : List ℕ) (old new : Option Object) → Counts before f es → is_there f n ≡ true → ((r : Resource) → charge_before old r ≤ own_charge before n r) → chain_of (tree_of es) n ≡ chain_of f n
-    → IsChain es (chain_of f n) × AreApart (deltas_of old new) × HaveOld (deltas_of old new) (sums_of es (chain_of f n))
-may_recharge before f es n old new counts there had chain =
-    let first = chain_first f n there in
-    let found = there_is (entry_of es n) (counts.there n ∙ there) in
-    let own : (r : Resource) → charge_before old r ≤ own_of r found.0 = λ r. subst (λ (k : ℕ). charge_before old r ≤ k) (sym (counts.own n r) ∙ ap (λ (o : Option Entry). option_map_or (own_of r) o 0) found.1) (had r) in
-    subst (λ (names : List (List ℕ)). IsChain es names × AreApart (deltas_of old new) × HaveOld (deltas_of old new) (sums_of es names)) (sym first) (
-      chain ∙ first,
-      apart_deltas old new,
-      old_deltas old new (sums_of es (n ∷ tail_of (chain_of f n))) (λ r. subst (λ (sums : List ℕ). charge_before old r ≤ slice_index sums (place_of r)) (sym (ap (λ (o : Option Entry). option_map_or (λ e. e.own) o []) found.1)) (own r)),
-    )
-
 -- ---- one write
 
 -- an object is put: what is charged moves in its namespace alone
@@ -250,35 +186,6 @@ pub cut_there : (id : Id) (objects : Objects) (f : Forest) (es : Entries) → as
 cut_there id objects f es up counts some =
     there_moved objects objects f id.ns (object_at objects id) None (charged_there objects id up) (λ r. omega arith)
     (λ out r. nothing_counted objects f es counts id.ns r out) (λ out r. nothing_counted objects f es counts id.ns r out) some
-
-module _ (x : Object) (objects : Objects) (f : Forest) (es : Entries) (up : ascends objects ≡ true) (regular : AreRegular es) (counts : Counts objects f es) (there : is_there f x.id.ns ≡ true) where
-  pub put_shifted : chain_of (tree_of es) x.id.ns ≡ chain_of f x.id.ns → AllFit (with_shifted (chain_of f x.id.ns) (deltas_of (object_at objects x.id) (Some x)) es)
-      → MayChangeAll (changes_of_object f x.id.ns (object_at objects x.id) (Some x)) es × Counts (after_writes (Put x ∷ []) objects) f (changed_all (changes_of_object f x.id.ns (object_at objects x.id) (Some x)) es)
-  put_shifted chain fits = counts_moved objects (put x objects) f es x.id.ns (object_at objects x.id) (Some x) regular counts there (put_moves x objects up) (charged_there objects x.id up) chain fits
-
-  pub put_total : (r : Resource) → total_of (with_shifted (chain_of f x.id.ns) (deltas_of (object_at objects x.id) (Some x)) es) r ≡ total_of es r - charge_before (object_at objects x.id) r + charge_of x r
-  put_total r = total_moved objects (put x objects) f es x.id.ns (object_at objects x.id) (Some x) regular counts there (put_moves x objects up) (charged_there objects x.id up) r
-
-  pub put_fits : ((r : Resource) → total_of es r - charge_before (object_at objects x.id) r + charge_of x r < 2 ^ 128) → AllFit (with_shifted (chain_of f x.id.ns) (deltas_of (object_at objects x.id) (Some x)) es)
-  put_fits fit r = subst (λ (k : ℕ). k < 2 ^ 128) (sym (put_total r)) (fit r)
-
-module _ (id : Id) (objects : Objects) (f : Forest) (es : Entries) (up : ascends objects ≡ true) (regular : AreRegular es) (counts : Counts objects f es) (there : is_there f id.ns ≡ true) where
-  pub cut_shifted : chain_of (tree_of es) id.ns ≡ chain_of f id.ns → AllFit (with_shifted (chain_of f id.ns) (deltas_of (object_at objects id) None) es)
-      → MayChangeAll (changes_of_object f id.ns (object_at objects id) None) es × Counts (after_writes (Cut id ∷ []) objects) f (changed_all (changes_of_object f id.ns (object_at objects id) None) es)
-  cut_shifted chain fits = counts_moved objects (cut id objects) f es id.ns (object_at objects id) None regular counts there (cut_moves id objects up) (charged_there objects id up) chain fits
-
-  pub cut_total : (r : Resource) → total_of (with_shifted (chain_of f id.ns) (deltas_of (object_at objects id) None) es) r ≡ total_of es r - charge_before (object_at objects id) r
-  cut_total r = total_moved objects (cut id objects) f es id.ns (object_at objects id) None regular counts there (cut_moves id objects up) (charged_there objects id up) r ∙ plain (total_of es r - charge_before (object_at objects id) r)
-    where
-      plain : (k : ℕ) → k + 0 ≡ k
-      plain k = omega arith
-
-  -- there is no more then, and so it fits
-  pub cut_fits : AllFit es → AllFit (with_shifted (chain_of f id.ns) (deltas_of (object_at objects id) None) es)
-  cut_fits fit r = subst (λ (k : ℕ). k < 2 ^ 128) (sym (cut_total r)) (less (total_of es r) (charge_before (object_at objects id) r) (fit r))
-    where
-      less : (a b : ℕ) → a < 2 ^ 128 → a - b < 2 ^ 128
-      less a b lt = omega (arith, lt)
 
 -- ---- writes by which nothing charged changes
 

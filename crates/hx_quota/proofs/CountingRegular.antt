@@ -62,14 +62,13 @@ length_shifted (d ∷ deltas) own =
     let next = slice_set own (place_of d.resource) (slice_index own (place_of d.resource) - d.old + d.new) in
     length_shifted deltas next ∙ length-set own (place_of d.resource) (slice_index own (place_of d.resource) - d.old + d.new)
 
-pub regular_shifted : (chain : List (List ℕ)) (deltas : List Delta) (es : Entries) → AreRegular es → AreRegular (with_shifted chain deltas es)
-regular_shifted [] deltas es regular = regular
-regular_shifted (n ∷ names) deltas es regular = regular_with n (shift_in deltas) es (λ e. length_shifted deltas e.own) regular
+pub regular_shifted : (n : List ℕ) (deltas : List Delta) (es : Entries) → AreRegular es → AreRegular (with_shifted (n ∷ []) deltas es)
+regular_shifted n deltas es regular = regular_with n (shift_in deltas) es (λ e. length_shifted deltas e.own) regular
 
 pub regular_changed : (c : CounterChange) (es : Entries) → AreRegular es → AreRegular (changed c es)
 regular_changed (Add name) es regular = regular_added name es regular
-regular_changed (Move moved parent from to) es regular = regular_with moved (λ (e : Entry). record e { parent = parent }) es (λ e. refl) regular
-regular_changed (Shift chain deltas) es regular = regular_shifted chain deltas es regular
+regular_changed (Move moved parent) es regular = regular_with moved (λ (e : Entry). record e { parent = parent }) es (λ e. refl) regular
+regular_changed (Shift n deltas) es regular = regular_shifted n deltas es regular
 regular_changed (Remove name) es regular = regular_removed name es regular
 
 pub regular_all : (changes : List CounterChange) (es : Entries) → AreRegular es → AreRegular (changed_all changes es)

@@ -1,24 +1,22 @@
 -- Counters of a tree and its objects, where a namespace goes.
 --     removed      they may be changed so, and then count the tree without it
--- While those that name it are let go one after another, the chain of the next one stays what it was: behind the namespace a chain stops before it, wherever it was to come back.
-use Rattle.std.proofs.Common.{◌≡◌, ℕ, ◌⊎◌, Bool, true, false, cond, not, ◌&&◌, ◌||◌, Option, Some, None, option_map, List, [], ◌∷◌, ◌++◌, filter, refl, sym, ap, ◌∙◌, subst, inl, inr, true≢false}
+use Rattle.std.proofs.Common.{◌≡◌, ℕ, Bool, true, false, cond, not, ◌&&◌, ◌||◌, Option, Some, None, option_map, List, [], ◌∷◌, filter, refl, sym, ap, ◌∙◌, subst, true≢false}
 use Rattle.std.specs.Prelude.{is_some, option_and_then}
 use Rattle.std.specs.List.{IsDistinct}
 use Rattle.std.specs.Option.{option_map_or}
 use Rattle.std.specs.Str.{bytes_eq}
-use Rattle.std.proofs.lemmas.Bool.{and_parts, and_from, not-true}
+use Rattle.std.proofs.lemmas.Bool.{and_parts}
 use Rattle.std.proofs.lemmas.Map.Keys.{IsDistinct-tail}
 use Rattle.std.proofs.lemmas.Option.{none-some, same_Some}
 use Rattle.hx_forest.specs.declared.change.Change.TheVariants as tree
 use Rattle.hx_forest.proofs.Nodes.{node_of-without_node}
 use Rattle.hx_model.specs.First.{so}
-use Rattle.hx_model.specs.Forest.{Forest, is_in, names_of, node_of, is_there, parent_of, is_child, children_of, chain_of, in_chain, subtree_of, tail_of}
+use Rattle.hx_model.specs.Forest.{Forest, is_in, names_of, node_of, is_there, parent_of, is_child, children_of, in_chain, subtree_of}
 use Rattle.hx_model.specs.ForestChanges.{without_node}
 use Rattle.hx_model.specs.State.{Objects}
 use Rattle.hx_model.specs.declared.node.Node.{Node}
 use Rattle.hx_model.specs.declared.resource.Resource.{Resource}
-use Rattle.hx_model.proofs.Climbing.{Climbs, at_top, stopped, onward, chain-Climbs, one_end, Above, itself, through, chain_above, above_chain, is_same, same_itself, old_in_push, last_in_push}
-use Rattle.hx_model.proofs.Opening.{chain_first}
+use Rattle.hx_model.proofs.Climbing.{Above, itself, through, chain_above, above_chain, is_same, same_itself}
 use Rattle.hx_model.proofs.Parents.{swap_same}
 use Rattle.hx_model.proofs.Walking.{both}
 use Rattle.hx_quota.specs.declared.change.CounterChange.{CounterChange}
@@ -26,7 +24,7 @@ use Rattle.hx_quota.specs.declared.change.CounterChange.TheVariants.{Move, Remov
 use Rattle.hx_quota.specs.declared.entry.Entry.{Entry}
 use Rattle.hx_quota.specs.Counters.{Entries, entry_of, node_for, tree_of, own_of, without_entry, with_parent}
 use Rattle.hx_quota.specs.Counting.{Counts, if_there, parent_there, own_charge, changed, changed_all, MayChange, MayChangeAll, let_go, changes_of_tree}
-use Rattle.hx_quota.proofs.CountingMoves.{changed_both, may_both, steps, HasTree, has_counted, counted, has_moved, has_alike, child_parent, child_there, among_children, not_among}
+use Rattle.hx_quota.proofs.CountingMoves.{changed_both, may_both, steps, HasTree, has_counted, counted, has_moved, has_alike, child_there, among_children, not_among}
 use Rattle.hx_quota.proofs.Entries.{ascends, is_below_all, none_below, ascends-with_changed, entry_of-without_entry}
 use Rattle.hx_quota.proofs.Trees.{node_of-tree}
 use Rattle.hx_quota.proofs.UsedSums.{in_tree}
@@ -72,10 +70,6 @@ alone es n up there free = one_passes n (λ m. in_chain (tree_of es) m n) (λ m.
     (λ h. subst (λ (k : List ℕ). bytes_eq n k ≡ true) (sym (only_itself (tree_of es) m n free (chain_above (tree_of es) m n h))) (same_itself n))
     (λ h. subst (λ (k : List ℕ). in_chain (tree_of es) k n ≡ true) (is_same n m h) (above_chain (tree_of es) n n (itself (in_tree es n ∙ there))))) es up there
 
-first_on : (f : Forest) (n : List ℕ) (all : List (List ℕ)) → is_there f n ≡ true → Climbs f [] (Some n) all → Climbs f (n ∷ []) (parent_of f n) all
-first_on f n all there (stopped stops) = absurd (true≢false (sym (and_from (is_there f n) true there refl) ∙ stops))
-first_on f n all there (onward goes rest) = rest
-
 module _ (f : Forest) (n : List ℕ) where
   -- it names the namespace, and has been let go
   abbrev is_gone : List (List ℕ) → List ℕ → Bool
@@ -84,45 +78,6 @@ module _ (f : Forest) (n : List ℕ) where
   -- the parents before those that are left are let go
   abbrev leaving : List (List ℕ) → List ℕ → Option (List ℕ)
   leaving left m = cond (is_gone left m) None (parent_there f m)
-
-  -- ---- the chain of the next one
-
-  module _ (g : Forest) (left : List (List ℕ)) (there : (m : List ℕ) → is_there g m ≡ is_there f m) (parents : (m : List ℕ) → parent_of g m ≡ leaving left m) where
-    climbs_past : (b : Bool) (built : List (List ℕ)) (next : Option (List ℕ)) (all : List (List ℕ)) → Climbs f built next all → (b ≡ true → next ≡ Some n) → (b ≡ true → is_in n built ≡ true)
-        → (is_in n built ≡ true) ⊎ (next ≡ Some n) → Climbs g built (cond b None (option_and_then (if_there f) next)) all
-    climbs_past true built None all at_top is had meets = at_top
-    climbs_past false built None all at_top is had meets = at_top
-    climbs_past true built (Some q) all (stopped stops) is had meets = at_top
-    climbs_past false built (Some q) all (stopped stops) is had meets = at (is_there f q)
-      where
-        at : (b : Bool) → Climbs g built (so b q) built
-        at true = stopped (ap (λ b. b && not (is_in q built)) (there q) ∙ stops)
-        at false = at_top
-    climbs_past true built (Some q) all (onward goes rest) is had meets =
-        let fresh : is_in q built ≡ false = not-true (is_in q built) (and_parts (is_there f q) (not (is_in q built)) goes).1 in
-        absurd (true≢false (sym (had refl) ∙ ap (λ (k : List ℕ). is_in k built) (sym (same_Some q n (is refl))) ∙ fresh))
-    climbs_past false built (Some q) all (onward goes rest) is had meets =
-        let there_q : is_there f q ≡ true = (and_parts (is_there f q) (not (is_in q built)) goes).0 in
-        let has : is_in n (built ++ q ∷ []) ≡ true = elim meets [
-          | inl old ↦ old_in_push n built q old
-          | inr here ↦ subst (λ (k : List ℕ). is_in n (built ++ k ∷ []) ≡ true) (sym (same_Some q n here)) (last_in_push built n)
-        ] in
-        let up = climbs_past (is_gone left q) (built ++ q ∷ []) (parent_of f q) all rest (λ h. child_parent f n q (and_parts (is_child f n q) (not (is_in q left)) h).0) (λ h. has) (inl has) in
-        subst (λ b. Climbs g built (so b q) all) (sym there_q)
-        (onward (ap (λ b. b && not (is_in q built)) (there q) ∙ goes) (subst (λ (o : Option (List ℕ)). Climbs g (built ++ q ∷ []) o all) (sym (parents q)) up))
-
-    chain_kept : (c : List ℕ) → is_child f n c ≡ true → is_in c left ≡ true → chain_of g c ≡ chain_of f c
-    chain_kept c is among = one_end g [] (Some c) _ _ (chain-Climbs g c)
-        (onward (and_from (is_there g c) (not (is_in c [])) (there c ∙ there_c) refl) (subst (λ (o : Option (List ℕ)). Climbs g (c ∷ []) o (chain_of f c)) (sym (parents c)) past))
-      where
-        there_c : is_there f c ≡ true
-        there_c = child_there f n c is
-
-        not_gone : is_gone left c ≡ true → ⊥
-        not_gone h = true≢false (sym h ∙ (λ i. is i && not (among i)))
-
-        past : Climbs g (c ∷ []) (leaving left c) (chain_of f c)
-        past = climbs_past (is_gone left c) (c ∷ []) (parent_of f c) (chain_of f c) (first_on f c (chain_of f c) there_c (chain-Climbs f c)) (λ h. absurd (not_gone h)) (λ h. absurd (not_gone h)) (inr (child_parent f n c is))
 
   -- ---- those that name it are let go
 
@@ -134,10 +89,10 @@ module _ (f : Forest) (n : List ℕ) where
       order : ascends es ≡ true
 
     abbrev let_one_go : List ℕ → CounterChange
-    let_one_go c = Move c None (tail_of (chain_of f c)) []
+    let_one_go c = Move c None
 
     leaves_less : (c : List ℕ) (cs : List (List ℕ)) (es : Entries) → Leaves (c ∷ cs) es → MayChange (let_one_go c) es × Leaves cs (changed (let_one_go c) es)
-    leaves_less c cs es leaves = ((leaves.has.there c ∙ there_c, behind, refl), less)
+    leaves_less c cs es leaves = ((leaves.has.there c ∙ there_c, tt), less)
       where
         among : is_in c (c ∷ cs) ≡ true
         among = ap (λ b. b || is_in c cs) (same_itself c)
@@ -147,9 +102,6 @@ module _ (f : Forest) (n : List ℕ) where
 
         there_c : is_there f c ≡ true
         there_c = child_there f n c is_one
-
-        behind : chain_of (tree_of es) c ≡ c ∷ tail_of (chain_of f c)
-        behind = chain_kept (tree_of es) (c ∷ cs) (λ m. in_tree es m ∙ leaves.has.there m) leaves.has.parents c is_one among ∙ chain_first f c there_c
 
         goes : leaving cs c ≡ None
         goes = λ i. cond (is_one i && not (not_among c cs leaves.distinct i)) None (parent_there f c)

@@ -1,5 +1,4 @@
 -- Counters of a tree and its objects, where the tree changes.
---     chains                 the chains are those of the tree
 --     IsEmptied              nothing is charged in a namespace that goes
 --     once_names, once_ascending      so it is where the names of the tree are distinct, and those are where they are in order
 --     added, moved, terminated, removed      the counters may be changed so, and then count the tree after the change
@@ -8,7 +7,7 @@
 --     fits_tree, ordered_tree         all still fits then, and the entries stay in order
 --     ascends_tree           the tree stays in order
 use Rattle.std.proofs.Common.{◌≡◌, ℕ, Bool, true, false, cond, Option, Some, None, option_map, List, [], ◌∷◌, refl, sym, ap, ◌∙◌, subst, true≢false}
-use Rattle.std.specs.Prelude.{is_some, option_and_then}
+use Rattle.std.specs.Prelude.{is_some, option_and_then, IfSome}
 use Rattle.std.specs.List.{AllByRecursion, IsDistinct}
 use Rattle.std.specs.Str.{bytes_eq}
 use Rattle.std.proofs.lemmas.Bool.{and_parts}
@@ -18,24 +17,21 @@ use Rattle.hx_forest.specs.declared.change.Change.{Change as TreeChange}
 use Rattle.hx_forest.specs.declared.change.Change.TheVariants as tree
 use Rattle.hx_forest.proofs.Nodes.{is_below_all, ascends as forest_ascends, ascends-with_node, ascends-without_node, ascends-with_changed, none_below}
 use Rattle.hx_model.specs.First.{so}
-use Rattle.hx_model.specs.Forest.{Forest, names_of, node_of, is_there, parent_of, is_child, chain_of, tail_of, with_parent as forest_with_parent}
+use Rattle.hx_model.specs.Forest.{Forest, names_of, node_of, is_there, parent_of, is_child, with_parent as forest_with_parent}
 use Rattle.hx_model.specs.ForestChanges.{with_terminating}
-use Rattle.hx_model.specs.Moves.{chain_from}
 use Rattle.hx_model.specs.State.{Objects}
 use Rattle.hx_model.specs.declared.node.Node.{Node}
 use Rattle.hx_model.specs.declared.resource.Resource.{Resource}
 use Rattle.hx_model.proofs.Climbing.{is_same}
 use Rattle.hx_model.proofs.Moving.{with_that, changed_node, moved_node, moved_there, moved_parent, other_parent}
-use Rattle.hx_model.proofs.Opening.{chain_first}
-use Rattle.hx_model.proofs.Walking.{chain_missing, IsDistinct-filter}
+use Rattle.hx_model.proofs.Walking.{IsDistinct-filter}
 use Rattle.hx_quota.specs.declared.change.CounterChange.{CounterChange}
 use Rattle.hx_quota.specs.declared.change.CounterChange.TheVariants.{Move}
-use Rattle.hx_quota.specs.Counters.{Entries, with_parent, IsAbove, AllFit}
+use Rattle.hx_quota.specs.Counters.{Entries, entry_of, with_parent, AllFit}
 use Rattle.hx_quota.specs.Counting.{Counts, if_there, parent_there, own_charge, changed_all, MayChangeAll, changes_of_tree}
 use Rattle.hx_quota.specs.SubtreeUsage.{AreOnce}
 use Rattle.hx_quota.proofs.Entries.{ascends}
-pub use Rattle.hx_quota.proofs.CountingChains.{chains}
-use Rattle.hx_quota.proofs.CountingMoves.{ascends_changed_all, fits_changed_all, HasTree, has_counted, has_moved, above_head}
+use Rattle.hx_quota.proofs.CountingMoves.{ascends_changed_all, fits_changed_all, HasTree, has_counted, has_moved}
 pub use Rattle.hx_quota.proofs.CountingAdded.{added}
 pub use Rattle.hx_quota.proofs.CountingRemoved.{removed}
 
@@ -116,18 +112,18 @@ module _ (objects : Objects) (f : Forest) (es : Entries) (counts : Counts object
     turned = forest_with_parent n parent f
 
     abbrev move : CounterChange
-    move = Move n (option_and_then (if_there f) parent) (tail_of (chain_of f n)) (chain_from f parent)
+    move = Move n (option_and_then (if_there f) parent)
 
     abbrev AreMade : List CounterChange → Type 0
     AreMade changes = MayChangeAll changes es × Counts objects turned (changed_all changes es)
 
-    above : (o : Option (List ℕ)) → IsAbove es (option_and_then (if_there f) o) (chain_from f o)
-    above None = refl
-    above (Some p) = by (is_there f p) refl
+    given : (o : Option (List ℕ)) → IfSome (option_and_then (if_there f) o) (λ p. is_some (entry_of es p) ≡ true)
+    given None = tt
+    given (Some p) = by (is_there f p) refl
       where
-        by : (b : Bool) → is_there f p ≡ b → IsAbove es (so b p) (chain_of f p)
-        by true here = above_head es p (chain_of f p) (tail_of (chain_of f p)) (chains objects f es counts p) (chain_first f p here)
-        by false out = chain_missing f p out
+        by : (b : Bool) → is_there f p ≡ b → IfSome (so b p) (λ q. is_some (entry_of es q) ≡ true)
+        by true here = counts.there p ∙ here
+        by false out = tt
 
     parent_then : (m : List ℕ) (o : Option (List ℕ)) → parent_of turned m ≡ o → parent_there turned m ≡ option_and_then (if_there f) o
     parent_then m o is = there_alike f turned (λ k. moved_there f n parent k) (parent_of turned m) ∙ ap (λ (q : Option (List ℕ)). option_and_then (if_there f) q) is
@@ -140,7 +136,7 @@ module _ (objects : Objects) (f : Forest) (es : Entries) (counts : Counts object
     moved there =
         let has = has_then there in
         let counts_then : Counts objects turned (with_parent n (option_and_then (if_there f) parent) es) = record { there = λ m. has.there m ∙ sym (moved_there f n parent m); parents = has.parents; own = has.own } in
-        subst (λ b. AreMade (cond b (move ∷ []) [])) (sym there) (((counts.there n ∙ there, chains objects f es counts n ∙ chain_first f n there, above parent), tt), counts_then)
+        subst (λ b. AreMade (cond b (move ∷ []) [])) (sym there) (((counts.there n ∙ there, given parent), tt), counts_then)
 
   -- ---- a namespace gets the parent that it has
 

@@ -17,8 +17,8 @@ use Rattle.hx_model.proofs.Opening.{chain_first}
 use Rattle.hx_model.proofs.Walking.{chain_there}
 use Rattle.hx_quota.specs.declared.places.Place.{Place}
 use Rattle.hx_quota.specs.Counters.{Entries, tree_of}
-use Rattle.hx_quota.specs.Inside.{Places, place_at, ordered, AreClosed, IsFree}
-use Rattle.hx_quota.specs.Anew.{ends_by, ends_up, AllEnd, all_ended}
+use Rattle.hx_quota.specs.Inside.{Places, place_at, ordered, AreClosed, IsFree, ends_by, ends_up, AllEnd}
+use Rattle.hx_quota.specs.Anew.{all_ended}
 use Rattle.hx_quota.proofs.Moved.{behind}
 use Rattle.hx_quota.proofs.Placed.{entry_in, entry_at}
 use Rattle.hx_quota.proofs.UsedSums.{in_tree}

@@ -23,11 +23,11 @@ use Rattle.hx_model.proofs.Walking.{chain_missing}
 use Rattle.hx_quota.specs.declared.entry.Entry.{Entry}
 use Rattle.hx_quota.specs.declared.places.Place.{Place}
 use Rattle.hx_quota.specs.Counters.{Entries, node_for, new_entry, tree_of, own_of, part_of, place_of, AllFit}
-use Rattle.hx_quota.specs.Inside.{Places, entries_from, entries_in, ordered, place_at, adjusted, MayAdjust, IsAdjusted, IsSummed}
-use Rattle.hx_quota.specs.Anew.{AllEnd, all_ended, name_at, chain_at, chain_behind, with_sums, cleared, HasFirst}
+use Rattle.hx_quota.specs.Inside.{Places, entries_from, entries_in, ordered, place_at, adjusted, MayAdjust, IsAdjusted, IsSummed, AllEnd}
+use Rattle.hx_quota.specs.Anew.{all_ended, name_at, chain_at, chain_behind, with_sums, cleared, HasFirst}
 use Rattle.hx_quota.proofs.Adjusting.{is_done, here_left, next_distinct, next_inside, may_now, adjusted_one, may_by, was_there}
 use Rattle.hx_quota.proofs.Deltas.{in_place}
-use Rattle.hx_quota.proofs.Ending.{chain_on, distinct_from, closed_all, in_places, all_from}
+use Rattle.hx_quota.proofs.Ending.{chain_on, distinct_from, in_places, all_from}
 use Rattle.hx_quota.proofs.Fitting.{has_nothing, used_within}
 use Rattle.hx_quota.proofs.Indexed.{entry_index, found_index, entries_with, place_with, index_found, cleared_entries, cleared_first}
 use Rattle.hx_quota.proofs.Placed.{entry_in, entry_at, same_count}
@@ -77,16 +77,16 @@ as_it_was : (take give : List ℕ) (b : Bool) (o : Option Place) → b ≡ false
 as_it_was take give b None out = refl
 as_it_was take give b (Some p) out = (p, refl, refl, λ k within. sym (ap (λ c. cond c (adjusted take give p.sums k) (slice_index p.sums k)) out))
 
-pub begun : (take give : List ℕ) (was : Places) (at : ℕ) → IsUnderway take give was was (chain_at (entries_in was) (Some at)) (chain_at (entries_in was) (Some at))
-begun take give was at = record {
-  distinct = distinct_from (tree_of (ordered was)) (name_at (entries_in was) at);
+pub begun : (take give : List ℕ) (was : Places) (first : Option ℕ) → IsUnderway take give was was (chain_at (entries_in was) first) (chain_at (entries_in was) first)
+begun take give was first = record {
+  distinct = distinct_from (tree_of (ordered was)) (option_and_then (name_at (entries_in was)) first);
   inside = λ q h. h;
   places = λ q. as_it_was take give (is_done names names q) (place_at was q) (none (is_in q names));
   same = refl;
 }
   where
     names : List (List ℕ)
-    names = chain_at (entries_in was) (Some at)
+    names = chain_at (entries_in was) first
 
     none : (b : Bool) → (b && not b) ≡ false
     none true = refl
@@ -273,7 +273,7 @@ module _ (old new : Places) (is : new ≡ cleared old) where
 pub all_added : (was new : Places) → IsDistinct bytes_eq (keys_of (entries_in was)) → AllEnd (tree_of (ordered was)) → entries_in new ≡ entries_in was → HasFirst (length was) new → IsSummed (place_at new) (ordered new)
 all_added was new distinct all same sums = record {
   sums = λ n p there r. sums n p there r ∙ ap (sum_by (part_of f n r)) (take_all (length was) (entries_in new) enough) ∙ sym (sum-entries (part_of f n r) (entries_in new) (subst (λ (xs : Rows). IsDistinct bytes_eq (keys_of xs)) (sym same) distinct));
-  closed = closed_all (ordered new) (subst (λ (xs : Rows). AllEnd (tree_of (entries_from xs))) (sym same) all);
+  ends = subst (λ (xs : Rows). AllEnd (tree_of (entries_from xs))) (sym same) all;
 }
   where
     f : Forest

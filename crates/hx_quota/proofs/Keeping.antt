@@ -1,29 +1,30 @@
 -- The sums of places are those of subtrees after a change.
 --     summed_added, summed_removed, summed_moved      after one comes, goes or moves
-use Rattle.std.specs.Prelude.{slice_index, is_some}
+use Rattle.std.specs.Prelude.{slice_index, is_some, IfSome}
 use Rattle.std.proofs.Common.{◌≡◌, ℕ, Bool, true, false, cond, Option, Some, None, List, [], ◌∷◌, replicate, refl, sym, ap, subst, ◌∙◌}
 use Rattle.std.specs.Str.{bytes_eq}
 use Rattle.std.proofs.lemmas.Option.{none-some, same_Some}
-use Rattle.hx_model.specs.Forest.{subtree_of}
+use Rattle.hx_model.specs.Forest.{is_there, subtree_of}
 use Rattle.hx_model.specs.declared.resource.Resource.{Resource}
 use Rattle.hx_model.proofs.Climbing.{is_same}
 use Rattle.hx_quota.specs.declared.places.Place.{Place}
-use Rattle.hx_quota.specs.Counters.{Entries, entry_of, tree_of, own_in, place_of, used_in, with_entry, new_entry, without_entry, with_parent, IsAbove}
-use Rattle.hx_quota.specs.Inside.{Places, place_at, entries_in, ordered, AreClosed, HasUsage, SameSums, IsSummed}
+use Rattle.hx_quota.specs.Counters.{Entries, entry_of, tree_of, own_in, place_of, used_in, with_entry, new_entry, without_entry, with_parent}
+use Rattle.hx_quota.specs.Inside.{Places, place_at, entries_in, ordered, AllEnd, HasUsage, SameSums, IsFree, IsSummed}
+use Rattle.hx_quota.proofs.Ending.{closed_all}
 use Rattle.hx_quota.proofs.Entries.{ascends-entries}
 use Rattle.hx_quota.proofs.Fitting.{has_nothing}
-use Rattle.hx_quota.proofs.Moved.{closed_moved}
-use Rattle.hx_quota.proofs.UsedSums.{in_tree, used_absent, used_added, closed_added, used_removed, closed_removed}
+use Rattle.hx_quota.proofs.Lasting.{ends_added, ends_removed, ends_moved}
+use Rattle.hx_quota.proofs.UsedSums.{in_tree, used_absent, used_added, used_removed}
 
 pub summed_added : (old new : Places) (n : List ℕ) (place : Place) → entry_of (ordered old) n ≡ None → place.sums ≡ replicate 15 0 → ((q : List ℕ) → place_at new q ≡ cond (bytes_eq n q) (Some place) (place_at old q))
     → ordered new ≡ with_entry n new_entry (ordered old) → IsSummed (place_at old) (ordered old) → IsSummed (place_at new) (ordered new)
 summed_added old new n place none empty is same was = record {
   sums = λ q p there r. at q p r (bytes_eq n q) refl (sym (is q) ∙ there);
-  closed = subst (λ (es : Entries). AreClosed es) (sym same) (closed_added (ordered old) n none was.closed);
+  ends = subst (λ (es : Entries). AllEnd (tree_of es)) (sym same) (ends_added (ordered old) n none was.ends);
 }
   where
     used : (q : List ℕ) (r : Resource) → used_in (ordered new) q r ≡ used_in (ordered old) q r
-    used q r = ap (λ (es : Entries). used_in es q r) same ∙ used_added (ordered old) n none was.closed q r
+    used q r = ap (λ (es : Entries). used_in es q r) same ∙ used_added (ordered old) n none (closed_all (ordered old) was.ends) q r
 
     at : (q : List ℕ) (p : Place) (r : Resource) (b : Bool) → bytes_eq n q ≡ b → cond b (Some place) (place_at old q) ≡ Some p → slice_index p.sums (place_of r) ≡ used_in (ordered new) q r
     at q p r true here h =
@@ -35,26 +36,30 @@ pub summed_removed : (old new : Places) (n : List ℕ) → is_some (entry_of (or
     → ((q : List ℕ) → place_at new q ≡ cond (bytes_eq n q) None (place_at old q)) → ordered new ≡ without_entry n (ordered old) → IsSummed (place_at old) (ordered old) → IsSummed (place_at new) (ordered new)
 summed_removed old new n there nothing alone is same was = record {
   sums = λ q p found r. at q p r (bytes_eq n q) (sym (is q) ∙ found);
-  closed = subst (λ (es : Entries). AreClosed es) (sym same) (closed_removed (ordered old) n alone there was.closed);
+  ends = subst (λ (es : Entries). AllEnd (tree_of es)) (sym same) (ends_removed (ordered old) n alone there was.ends);
 }
   where
     used : (q : List ℕ) (r : Resource) → used_in (ordered new) q r ≡ used_in (ordered old) q r
-    used q r = ap (λ (es : Entries). used_in es q r) same ∙ used_removed (ordered old) n alone there was.closed (ascends-entries (entries_in old)) nothing q r
+    used q r = ap (λ (es : Entries). used_in es q r) same ∙ used_removed (ordered old) n alone there (closed_all (ordered old) was.ends) (ascends-entries (entries_in old)) nothing q r
 
     at : (q : List ℕ) (p : Place) (r : Resource) (b : Bool) → cond b None (place_at old q) ≡ Some p → slice_index p.sums (place_of r) ≡ used_in (ordered new) q r
     at q p r true h = absurd (none-some p h)
     at q p r false h = was.sums q p h r ∙ sym (used q r)
 
 -- after a move, where the sums were made those of the subtrees before the parent was set
-pub summed_moved : (old mid new : Places) (n : List ℕ) (parent : Option (List ℕ)) (to : List (List ℕ)) → is_some (entry_of (ordered old) n) ≡ true → IsAbove (ordered old) parent to
+pub summed_moved : (old mid new : Places) (n : List ℕ) (parent : Option (List ℕ)) → is_some (entry_of (ordered old) n) ≡ true → IfSome parent (λ p. is_some (entry_of (ordered old) p) ≡ true) → IsFree (tree_of (ordered old)) n parent
     → ordered mid ≡ ordered old → HasUsage mid (with_parent n parent (ordered old)) → ordered new ≡ with_parent n parent (ordered mid)
     → ((q : List ℕ) (p : Place) → place_at new q ≡ Some p → SameSums (place_at mid q) p) → IsSummed (place_at old) (ordered old) → IsSummed (place_at new) (ordered new)
-summed_moved old mid new n parent to there is_to same usage moved sums was = record {
+summed_moved old mid new n parent there given free same usage moved sums was = record {
   sums = λ q p found r.
       let kept = sums q p found in
       ap (λ (xs : List ℕ). slice_index xs (place_of r)) kept.2 ∙ usage q kept.0 kept.1 r ∙ sym (ap (λ (es : Entries). used_in es q r) whole);
-  closed = subst (λ (es : Entries). AreClosed es) (sym whole) (closed_moved (ordered old) n parent to (in_tree (ordered old) n ∙ there) is_to was.closed);
+  ends = subst (λ (es : Entries). AllEnd (tree_of es)) (sym whole) (ends_moved (ordered old) n parent (in_tree (ordered old) n ∙ there) (in_forest parent given) free was.ends);
 }
   where
     whole : ordered new ≡ with_parent n parent (ordered old)
     whole = moved ∙ ap (with_parent n parent) same
+
+    in_forest : (o : Option (List ℕ)) → IfSome o (λ p. is_some (entry_of (ordered old) p) ≡ true) → IfSome o (λ p. is_there (tree_of (ordered old)) p ≡ true)
+    in_forest None h = tt
+    in_forest (Some p) h = in_tree (ordered old) p ∙ h

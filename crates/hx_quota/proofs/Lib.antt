@@ -16,7 +16,9 @@ pub mod Taken
 pub mod Ending
 pub mod Indexed
 pub mod Formed
+pub mod Reached
 pub mod Rounds
+pub mod Lasting
 pub mod Totals
 pub mod CountingRegular
 pub mod CountingSums

@@ -3,7 +3,7 @@
 --     used_before, used_after      what it has is in the sums of those that were above it, and then of those that are
 --     closed_moved       all parents are there
 -- The namespace is in the chain of neither parent.
-use Rattle.std.specs.Prelude.{is_some, option_and_then, sum_by}
+use Rattle.std.specs.Prelude.{is_some, option_and_then, sum_by, IfSome}
 use Rattle.std.proofs.Common.{◌≡◌, ℕ, ◌+◌, Bool, true, false, cond, ◌&&◌, ◌||◌, Option, Some, None, option_map, List, [], ◌∷◌, refl, sym, ap, ◌∙◌, subst, arith, true≢false}
 use Rattle.std.specs.Str.{bytes_eq}
 use Rattle.std.proofs.lemmas.List.Sums.{sum_by-cons}
@@ -12,11 +12,11 @@ use Rattle.hx_model.specs.declared.node.Node.{Node}
 use Rattle.hx_model.specs.declared.resource.Resource.{Resource}
 use Rattle.hx_model.specs.Forest.{Forest, is_in, node_of, is_there, parent_of, chain_of, in_chain, tail_of, with_parent as forest_with_parent}
 use Rattle.hx_model.specs.Moves.{chain_from}
-use Rattle.hx_model.proofs.Climbing.{Above, itself, through, above_chain, chain_above, is_same, same_itself}
+use Rattle.hx_model.proofs.Climbing.{Above, itself, through, above_chain, chain_above, is_same}
 use Rattle.hx_model.proofs.Moving.{with_that, moved_node, moved_there, moved_parent, other_parent, moved_chain_same}
 use Rattle.hx_model.proofs.Parents.{up_to_all, chain_alone, chain_parent}
-use Rattle.hx_model.proofs.Walking.{both, chain_there}
-use Rattle.hx_quota.specs.Counters.{Entries, node_for, tree_of, own_of, part_of, used_in, with_parent, IsBehind, IsAbove}
+use Rattle.hx_model.proofs.Walking.{both}
+use Rattle.hx_quota.specs.Counters.{Entries, node_for, tree_of, own_of, part_of, used_in, with_parent}
 use Rattle.hx_quota.specs.Inside.{AreClosed, IsFree}
 use Rattle.hx_quota.proofs.Attaching.{IsUnder, chain_under, apart_under}
 use Rattle.hx_quota.proofs.Cutting.{sum-both, sum-alike}
@@ -134,12 +134,6 @@ module _ (f : Forest) (n : List ℕ) (there : is_there f n ≡ true) where
   behind None is free from h = ap tail_of (sym h ∙ chain_alone f n there is)
   behind (Some p) is free from h = ap tail_of (sym h ∙ chain_parent f n p there is) ∙ up_to_all n (chain_of f p) free
 
--- a chain of a parent
-pub above : (es : Entries) (parent : Option (List ℕ)) (to : List (List ℕ)) → IsAbove es parent to → to ≡ chain_from (tree_of es) parent
-above es None to is = is
-above es (Some p) [] is = absurd is
-above es (Some p) (m ∷ names) is = sym (ap (chain_of (tree_of es)) is.0 ∙ is.1)
-
 module _ (es : Entries) (n : List ℕ) (there : is_there (tree_of es) n ≡ true) (free_old : IsFree (tree_of es) n (parent_of (tree_of es) n)) where
   -- what a namespace has of others than n and all below it
   abbrev pub rest_of : List ℕ → Resource → ℕ
@@ -150,26 +144,25 @@ module _ (es : Entries) (n : List ℕ) (there : is_there (tree_of es) n ≡ true
       let f = tree_of es in
       usage_now f n there (parent_of f n) refl free_old es n r ∙ ap (λ b. rest_of n r + cond b (rest_of n r) 0) (not_in_from f n there (parent_of f n) free_old) ∙ sym (no_more f n there (rest_of n r))
 
-  -- with n, and all below it, in the subtrees of those behind it
-  pub used_before : (from : List (List ℕ)) → IsBehind es n from → (a : List ℕ) (r : Resource) → used_in es a r ≡ rest_of a r + cond (is_in a from) (used_in es n r) 0
-  used_before from is a r =
+  -- with n, and all below it, in the subtrees of those above it
+  pub used_before : (a : List ℕ) (r : Resource) → used_in es a r ≡ rest_of a r + cond (is_in a (chain_from (tree_of es) (parent_of (tree_of es) n))) (used_in es n r) 0
+  used_before a r =
       let f = tree_of es in
-      usage_now f n there (parent_of f n) refl free_old es a r
-      ∙ (λ i. rest_of a r + cond (is_in a (sym (behind f n there (parent_of f n) refl free_old from is) i)) (sym (used_itself r) i) 0)
+      usage_now f n there (parent_of f n) refl free_old es a r ∙ ap (λ k. rest_of a r + cond (is_in a (chain_from f (parent_of f n))) k 0) (sym (used_itself r))
 
   -- and then in those of the chain of its new parent
-  pub used_after : (parent : Option (List ℕ)) (to : List (List ℕ)) → IsAbove es parent to → IsFree (tree_of es) n parent → (a : List ℕ) (r : Resource)
-      → used_in (with_parent n parent es) a r ≡ rest_of a r + cond (is_in a to) (used_in es n r) 0
-  used_after parent to is free a r =
+  pub used_after : (parent : Option (List ℕ)) → IsFree (tree_of es) n parent → (a : List ℕ) (r : Resource)
+      → used_in (with_parent n parent es) a r ≡ rest_of a r + cond (is_in a (chain_from (tree_of es) parent)) (used_in es n r) 0
+  used_after parent free a r =
       let f = tree_of es in
       let h = forest_with_parent n parent f in
       ap (λ t. usage t (with_parent n parent es) a r) (tree_moved n parent es) ∙ usage_kept h n parent es a r
       ∙ usage_then f n there parent free es a r
-      ∙ (λ i. rest_of a r + cond (is_in a (sym (above es parent to is) i)) (sym (used_itself r) i) 0)
+      ∙ ap (λ k. rest_of a r + cond (is_in a (chain_from f parent)) k 0) (sym (used_itself r))
 
 -- all parents are there
-pub closed_moved : (es : Entries) (n : List ℕ) (parent : Option (List ℕ)) (to : List (List ℕ)) → is_there (tree_of es) n ≡ true → IsAbove es parent to → AreClosed es → AreClosed (with_parent n parent es)
-closed_moved es n parent to there is_to closed m q is = ap (λ t. is_there t q) (tree_moved n parent es) ∙ moved_there f n parent q ∙ at (bytes_eq n m) refl
+pub closed_moved : (es : Entries) (n : List ℕ) (parent : Option (List ℕ)) → is_there (tree_of es) n ≡ true → IfSome parent (λ p. is_there (tree_of es) p ≡ true) → AreClosed es → AreClosed (with_parent n parent es)
+closed_moved es n parent there given closed m q is = ap (λ t. is_there t q) (tree_moved n parent es) ∙ moved_there f n parent q ∙ at (bytes_eq n m) refl
   where
     f : Forest
     f = tree_of es
@@ -177,14 +170,10 @@ closed_moved es n parent to there is_to closed m q is = ap (λ t. is_there t q) 
     now : parent_of (forest_with_parent n parent f) m ≡ Some q
     now = sym (ap (λ t. parent_of t m) (tree_moved n parent es)) ∙ is
 
-    given : (o : Option (List ℕ)) (names : List (List ℕ)) → IsAbove es o names → o ≡ Some q → is_there f q ≡ true
-    given None names h e = absurd (none-some q e)
-    given (Some p) [] h e = absurd h
-    given (Some p) (k ∷ names) h e = subst (λ (x : List ℕ). is_there f x ≡ true) (sym (h.0) ∙ same_Some p q e) (starts (chain_of f k) refl h.1)
-      where
-        starts : (xs : List (List ℕ)) → chain_of f k ≡ xs → xs ≡ k ∷ names → is_there f k ≡ true
-        starts xs e h = (chain_there f k).there k (ap (is_in k) (e ∙ h) ∙ ap (λ b. b || is_in k names) (same_itself k))
+    of_parent : (o : Option (List ℕ)) → IfSome o (λ p. is_there f p ≡ true) → o ≡ Some q → is_there f q ≡ true
+    of_parent None h e = absurd (none-some q e)
+    of_parent (Some p) h e = subst (λ (x : List ℕ). is_there f x ≡ true) (same_Some p q e) h
 
     at : (b : Bool) → bytes_eq n m ≡ b → is_there f q ≡ true
-    at true same = given parent to is_to (sym (moved_parent f n parent there) ∙ subst (λ (k : List ℕ). parent_of (forest_with_parent n parent f) k ≡ Some q) (sym (is_same n m same)) now)
+    at true same = of_parent parent given (sym (moved_parent f n parent there) ∙ subst (λ (k : List ℕ). parent_of (forest_with_parent n parent f) k ≡ Some q) (sym (is_same n m same)) now)
     at false out = closed m q (sym (other_parent f n parent m out) ∙ now)

@@ -7,7 +7,7 @@ use Rattle.std.proofs.lemmas.Bool.{and_from}
 use Rattle.hx_model.specs.Forest.{Forest, is_in, is_there, parent_of, chain_of, in_chain, comes_back}
 use Rattle.hx_model.proofs.Climbing.{Climbs, at_top, stopped, onward, chain-Climbs, few, is_in_push, Above, itself, through, chain_above, above_chain, chain_trans}
 use Rattle.hx_model.proofs.Walking.{chain_there, longer}
-use Rattle.hx_quota.specs.Anew.{ends_by, AllEnd}
+use Rattle.hx_quota.specs.Inside.{ends_by, AllEnd}
 use Rattle.hx_quota.proofs.Ending.{free}
 
 pub none_comes_back : (f : Forest) → AllEnd f → (n : List ℕ) → is_there f n ≡ true → comes_back f n ≡ false

@@ -1,13 +1,13 @@
 -- Sums after own sums of the first of a chain are shifted, along that chain.
---     first_there, chain_of_first      the first of a chain
---     between_entries                  the entries then
+--     first_there, above_there         the first of a chain, and a parent with one, are there
+--     between_entries, between_chains  the entries then, and that chains stay
 --     may_shift_sums, sums_shifted     the sums may be adjusted, and are then those of the subtrees
-use Rattle.std.specs.Prelude.{is_some, slice_get, slice_index, sum_by}
-use Rattle.std.proofs.Common.{◌≡◌, ℕ, ◌+◌, ◌-◌, ◌<◌, ◌≤◌, ◌^◌, Bool, true, false, cond, Option, Some, None, List, [], ◌∷◌, refl, sym, ap, subst, ◌∙◌, arith, true≢false}
+use Rattle.std.specs.Prelude.{is_some, IfSome, slice_get, slice_index, sum_by}
+use Rattle.std.proofs.Common.{◌≡◌, ℕ, ◌+◌, ◌-◌, ◌<◌, ◌≤◌, ◌^◌, Bool, true, false, cond, Option, Some, None, List, [], ◌∷◌, refl, sym, ap, subst, ◌∙◌, arith}
 use Rattle.std.specs.Str.{bytes_eq}
 use Rattle.std.proofs.lemmas.Bool.{or_left}
 use Rattle.std.proofs.lemmas.Option.{same_Some}
-use Rattle.hx_model.specs.Forest.{is_in, is_there, parent_of, chain_of, in_chain}
+use Rattle.hx_model.specs.Forest.{is_in, is_there, chain_of}
 use Rattle.hx_model.specs.declared.resource.Resource.{Resource}
 use Rattle.hx_model.proofs.Climbing.{is_same, same_itself}
 use Rattle.hx_model.proofs.Walking.{chain_there}
@@ -15,27 +15,27 @@ use Rattle.hx_quota.specs.declared.entry.Delta.{Delta}
 use Rattle.hx_quota.specs.declared.entry.Entry.{Entry}
 use Rattle.hx_quota.specs.declared.places.Change.{Change}
 use Rattle.hx_quota.specs.declared.places.Place.{Place}
-use Rattle.hx_quota.specs.Counters.{Entries, entry_of, tree_of, own_of, place_of, part_of, used_in, total_of, without_entry, with_changed, with_shifted, IsChain, AllFit}
-use Rattle.hx_quota.specs.Inside.{Places, place_at, entries_in, ordered, adjusted, AreClosed, MayAdjust, IsAdjusted, HasShifted, IsSummed}
+use Rattle.hx_quota.specs.Counters.{Entries, entry_of, tree_of, own_of, place_of, part_of, used_in, total_of, without_entry, with_changed, with_shifted, IsChain, IsAbove, AllFit}
+use Rattle.hx_quota.specs.Inside.{Places, place_at, entries_in, ordered, adjusted, AllEnd, MayAdjust, IsAdjusted, HasShifted, IsSummed}
 use Rattle.hx_quota.proofs.Adjusting.{may_by, was_there}
 use Rattle.hx_quota.proofs.Cutting.{of_entry, sum-cut}
-use Rattle.hx_quota.proofs.Deltas.{in_place, shift_in, shifted_first}
+use Rattle.hx_quota.proofs.Deltas.{in_place, shift_in}
 use Rattle.hx_quota.proofs.Entries.{ascends, ascends-entries}
 use Rattle.hx_quota.proofs.Fitting.{used_within}
+use Rattle.hx_quota.proofs.Lasting.{ends_shifted}
 use Rattle.hx_quota.proofs.Placed.{entry_in, entry_at, changed_places, adjusted_entries}
-use Rattle.hx_quota.proofs.UsedSums.{same_tree, used_shifted}
-
-no_first : {A : Type 0} (n : List ℕ) → ◌≡◌ {A = Option (List ℕ)} None (Some n) → A
-no_first n h = absurd (true≢false (sym (ap is_some h)))
-
-pub chain_of_first : (es : Entries) (chain : List (List ℕ)) (n : List ℕ) → IsChain es chain → slice_get chain 0 ≡ Some n → chain_of (tree_of es) n ≡ chain
-chain_of_first es [] n is first = absurd is
-chain_of_first es (m ∷ names) n is first = ap (chain_of (tree_of es)) (sym (same_Some m n first)) ∙ is
+use Rattle.hx_quota.proofs.UsedSums.{in_tree, same_tree, used_shifted}
 
 pub first_there : (es : Entries) (chain : List (List ℕ)) (n : List ℕ) → IsChain es chain → slice_get chain 0 ≡ Some n → is_there (tree_of es) n ≡ true
 first_there es [] n is first = absurd is
 first_there es (m ∷ names) n is first = subst (λ (k : List ℕ). is_there (tree_of es) k ≡ true) (same_Some m n first)
     ((chain_there (tree_of es) m).there m (ap (is_in m) is ∙ or_left (bytes_eq m m) (is_in m names) (same_itself m)))
+
+-- a parent with a chain
+pub above_there : (es : Entries) (o : Option (List ℕ)) (names : List (List ℕ)) → IsAbove es o names → IfSome o (λ p. is_some (entry_of es p) ≡ true)
+above_there es None names is = tt
+above_there es (Some p) [] is = absurd is
+above_there es (Some p) (m ∷ names) is = sym (in_tree es p) ∙ subst (λ (k : List ℕ). is_there (tree_of es) k ≡ true) (sym is.0) (first_there es (m ∷ names) m is.1 refl)
 
 -- what one entry adds to a sum is within it
 part_within : (g : List ℕ × Entry → ℕ) (n : List ℕ) (entry : Entry) (es : Entries) → ascends es ≡ true → entry_of es n ≡ Some entry → g (n, entry) ≤ sum_by g es
@@ -44,14 +44,16 @@ part_within g n entry es up there =
     omega (arith, whole)
 
 -- the entries after own sums are shifted
-pub between_entries : (old mid : Places) (n : List ℕ) (chain : List (List ℕ)) (deltas : List Delta) (change : Change) → slice_get chain 0 ≡ Some n → HasShifted old mid n deltas change → ordered mid ≡ with_shifted chain deltas (ordered old)
-between_entries old mid n chain deltas change first has =
+pub between_entries : (old mid : Places) (n : List ℕ) (deltas : List Delta) (change : Change) → HasShifted old mid n deltas change → ordered mid ≡ with_shifted (n ∷ []) deltas (ordered old)
+between_entries old mid n deltas change has =
     let place = has.0 in
     changed_places mid old n (shift_in deltas) place (record place { entry = record (place.entry) { own = change.give } }) has.1 (ap (λ (own : List ℕ). record (place.entry) { own = own }) has.3) has.4
-    ∙ sym (shifted_first (ordered old) chain deltas n first)
 
-module _ (old mid : Places) (n : List ℕ) (chain : List (List ℕ)) (deltas : List Delta) (change : Change) (is : IsChain (ordered old) chain) (first : slice_get chain 0 ≡ Some n)
-    (has : HasShifted old mid n deltas change) (fits : AllFit (with_shifted chain deltas (ordered old))) (summed : IsSummed (place_at old) (ordered old)) where
+-- and the chains
+pub between_chains : (old mid : Places) (n : List ℕ) (deltas : List Delta) (change : Change) → HasShifted old mid n deltas change → tree_of (ordered mid) ≡ tree_of (ordered old)
+between_chains old mid n deltas change has = ap tree_of (between_entries old mid n deltas change has) ∙ same_tree n deltas (ordered old)
+
+module _ (old mid : Places) (n : List ℕ) (deltas : List Delta) (change : Change) (has : HasShifted old mid n deltas change) (fits : AllFit (with_shifted (n ∷ []) deltas (ordered old))) (summed : IsSummed (place_at old) (ordered old)) where
   abbrev es : Entries
   es = ordered old
 
@@ -70,11 +72,8 @@ module _ (old mid : Places) (n : List ℕ) (chain : List (List ℕ)) (deltas : L
   there : entry_of es n ≡ Some place.entry
   there = entry_at old n ∙ ap entry_in has.1
 
-  fits_then : AllFit (with_changed n (shift_in deltas) es)
-  fits_then = subst (λ (xs : Entries). AllFit xs) (shifted_first es chain deltas n first) fits
-
-  in_list : (q : List ℕ) → in_chain (tree_of es) n q ≡ is_in q chain
-  in_list q = ap (is_in q) (chain_of_first es chain n is first)
+  abbrev chain : List (List ℕ)
+  chain = chain_of (tree_of es) n
 
   -- a place in between has the sums that it had
   sums_between : (q : List ℕ) (x : Place) → place_at mid q ≡ Some x → (r : Resource) → slice_index x.sums (place_of r) ≡ used_in es q r
@@ -95,17 +94,17 @@ module _ (old mid : Places) (n : List ℕ) (chain : List (List ℕ)) (deltas : L
 
   moves : (q : List ℕ) (r : Resource) → used_in then q r + cond (is_in q chain) (slice_index change.take (place_of r)) 0 ≡ used_in es q r + cond (is_in q chain) (slice_index change.give (place_of r)) 0
   moves q r =
-      (λ i. used_in then q r + cond (sym (in_list q) i) (own_before r i) 0)
+      ap (λ k. used_in then q r + cond (is_in q chain) k 0) (own_before r)
       ∙ used_shifted es n deltas place.entry (ascends-entries (entries_in old)) there q r
-      ∙ (λ i. used_in es q r + cond (in_list q i) (sym (own_after r) i) 0)
+      ∙ ap (λ k. used_in es q r + cond (is_in q chain) k 0) (sym (own_after r))
 
   own_within : (q : List ℕ) (r : Resource) → is_in q chain ≡ true → slice_index change.take (place_of r) ≤ used_in es q r
   own_within q r mem =
-      subst (λ (k : ℕ). k ≤ used_in es q r) (ap (λ b. cond b (own_of r place.entry) 0) (in_list q ∙ mem) ∙ sym (own_before r))
+      subst (λ (k : ℕ). k ≤ used_in es q r) (ap (λ b. cond b (own_of r place.entry) 0) mem ∙ sym (own_before r))
       (part_within (part_of (tree_of es) q r) n place.entry es (ascends-entries (entries_in old)) there)
 
   within_then : (q : List ℕ) (r : Resource) → used_in then q r < 2 ^ 128
-  within_then q r = less (used_in then q r) (total_of then r) (used_within (tree_of then) q r then) (fits_then r)
+  within_then q r = less (used_in then q r) (total_of then r) (used_within (tree_of then) q r then) (fits r)
     where
       less : (a b : ℕ) → a ≤ b → b < 2 ^ 128 → a < 2 ^ 128
       less a b le lt = omega (arith, le, lt)
@@ -128,14 +127,11 @@ module _ (old mid : Places) (n : List ℕ) (chain : List (List ℕ)) (deltas : L
   pub sums_shifted : (new : Places) → ((q : List ℕ) → IsAdjusted change.take change.give (is_in q chain) (place_at mid q) (place_at new q)) → IsSummed (place_at new) (ordered new)
   sums_shifted new is_new = record {
     sums = λ q x found r. at q x r (is_in q chain) refl (was_there change.take change.give (is_in q chain) (place_at mid q) x (subst (λ (w : Option Place). IsAdjusted change.take change.give (is_in q chain) (place_at mid q) w) found (is_new q))) ∙ sym (ap (λ (xs : Entries). used_in xs q r) whole);
-    closed = subst (λ (xs : Entries). AreClosed xs) (sym whole) closed_then;
+    ends = subst (λ (xs : Entries). AllEnd (tree_of xs)) (sym whole) (ends_shifted es n deltas summed.ends);
   }
     where
       whole : ordered new ≡ then
       whole = adjusted_entries change.take change.give (λ q. is_in q chain) mid new is_new ∙ changed
-
-      closed_then : AreClosed then
-      closed_then m q h = ap (λ f. is_there f q) (same_tree n deltas es) ∙ summed.closed m q (sym (ap (λ f. parent_of f m) (same_tree n deltas es)) ∙ h)
 
       at : (q : List ℕ) (x : Place) (r : Resource) (b : Bool) → is_in q chain ≡ b
           → (p : Place) × (place_at mid q ≡ Some p) × ((k : ℕ) → k < 15 → slice_index x.sums k ≡ cond (is_in q chain) (adjusted change.take change.give p.sums k) (slice_index p.sums k))

@@ -22,7 +22,7 @@ use Rattle.hx_forest.specs.declared.change.Change.TheVariants as tree
 use Rattle.hx_forest.proofs.Nodes.{node_of-without_node}
 use Rattle.hx_model.specs.Cases.{same_name}
 use Rattle.hx_model.specs.Charges.{charge_of, resources_for}
-use Rattle.hx_model.specs.Forest.{Forest, is_there, node_of, parent_of, chain_of, tail_of}
+use Rattle.hx_model.specs.Forest.{Forest, is_there, node_of, parent_of}
 use Rattle.hx_model.specs.First.{so}
 use Rattle.hx_model.specs.Quotas.{charge_before, charge_below}
 use Rattle.hx_model.specs.State.{Objects, object_at, ascends, after_writes}
@@ -31,16 +31,15 @@ use Rattle.hx_model.specs.declared.key.Write.TheVariants.{Put, Cut}
 use Rattle.hx_model.specs.declared.resource.Resource.{Resource}
 use Rattle.hx_model.proofs.Charging.{uncharged}
 use Rattle.hx_model.proofs.Climbing.{is_same, same_itself}
-use Rattle.hx_model.proofs.Opening.{chain_first}
 use Rattle.hx_model.proofs.Writes.{ascends_after}
 use Rattle.hx_store.specs.Changes.{id_of, object_of}
 use Rattle.hx_quota.specs.declared.change.CounterChange.{CounterChange}
+use Rattle.hx_quota.specs.declared.change.CounterChange.TheVariants.{Shift}
 use Rattle.hx_quota.specs.declared.entry.Delta.{Delta}
 use Rattle.hx_quota.specs.declared.entry.Entry.{Entry}
-use Rattle.hx_quota.specs.Counters.{Entries, CountersView, entry_of, place_of, own_of, own_in, with_shifted, sums_of, used_in}
-use Rattle.hx_quota.specs.Counting.{Counts, AreRegular, own_charge, changed, changed_all, MayChangeAll, changes_of_tree, deltas_of}
+use Rattle.hx_quota.specs.Counters.{Entries, CountersView, entry_of, place_of, own_of, own_in, with_shifted, sums_of, used_in, AllFit}
+use Rattle.hx_quota.specs.Counting.{AreRegular, own_charge, changed, changed_all, MayChangeAll, changes_of_tree, deltas_of}
 use Rattle.hx_quota.specs.SubtreeUsage.{Tells, IsCounted, HasTotals, IsReady, is_any, is_charged_kind, are_uncharged, is_staying, MayShift, IsHoused, AreOnce}
-use Rattle.hx_quota.proofs.CountingChains.{chains}
 use Rattle.hx_quota.proofs.CountingDeltas.{apart_deltas, old_deltas, deltas_none}
 use Rattle.hx_quota.proofs.CountingObjects.{ChargesMove, KeepsCharge, counts_then, put_moves, cut_moves, charged_there, own_alike, counts_none, writes_alike, writes_unchanged, put_unchanged, cut_unchanged}
 use Rattle.hx_quota.proofs.CountingRegular.{in_order, regular_none, regular_changed, regular_all, regular_shifted}
@@ -146,9 +145,9 @@ moves_by : (w : Write) (objects : Objects) → ascends objects ≡ true → Char
 moves_by (Put x) objects up = put_moves x objects up
 moves_by (Cut id) objects up = cut_moves id objects up
 
--- sums of a chain are those of its first member
-sums_own : (es : Entries) (n : List ℕ) (names : List (List ℕ)) (r : Resource) → slice_index (sums_of es (n ∷ names)) (place_of r) ≡ own_in es n r
-sums_own es n names r = at (entry_of es n)
+-- own sums of a namespace
+sums_own : (es : Entries) (n : List ℕ) (r : Resource) → slice_index (sums_of es (n ∷ [])) (place_of r) ≡ own_in es n r
+sums_own es n r = at (entry_of es n)
   where
     at : (o : Option Entry) → slice_index (option_map_or (λ e. e.own) o []) (place_of r) ≡ option_map_or (own_of r) o 0
     at None = refl
@@ -188,20 +187,17 @@ module _ (objects : Objects) (f : Forest) (es : Entries) (w : Write) (up : ascen
       at true is = refl
       at false out = absurd (some (deltas_none old new (same out)))
 
-  first : chain_of f n ≡ n ∷ tail_of (chain_of f n)
-  first = chain_first f n there
-
-  pub may_write : MayShift es (chain_of f n) (deltas_of old new)
-  may_write = subst (λ (names : List (List ℕ)). MayShift es names (deltas_of old new)) (sym first) (
-    chains objects f es tells.counts n ∙ first,
+  pub may_write : MayShift es n (deltas_of old new)
+  may_write = (
+    tells.counts.there n ∙ there,
     apart_deltas old new,
-    old_deltas old new (sums_of es (n ∷ tail_of (chain_of f n))) (λ r. subst (λ (k : ℕ). charge_before old r ≤ k) (sym (sums_own es n (tail_of (chain_of f n)) r ∙ tells.counts.own n r)) (charged_there objects (id_of w) up r)),
+    old_deltas old new (sums_of es (n ∷ [])) (λ r. subst (λ (k : ℕ). charge_before old r ≤ k) (sym (sums_own es n r ∙ tells.counts.own n r)) (charged_there objects (id_of w) up r)),
   )
 
-  pub tells_write : Tells after f (with_shifted (chain_of f n) (deltas_of old new) es)
+  pub tells_write : Tells after f (with_shifted (n ∷ []) (deltas_of old new) es)
   tells_write = record {
-    regular = regular_shifted (chain_of f n) (deltas_of old new) es tells.regular;
-    counts = subst (λ (names : List (List ℕ)). Counts after f (with_shifted names (deltas_of old new) es)) (sym first) (counts_then objects after f es n old new tells.regular tells.counts there (moves_by w objects up) (charged_there objects (id_of w) up));
+    regular = regular_shifted n (deltas_of old new) es tells.regular;
+    counts = counts_then objects after f es n old new tells.regular tells.counts there (moves_by w objects up) (charged_there objects (id_of w) up);
   }
 
 -- ---- writes of kinds that are charged nothing
@@ -268,17 +264,22 @@ module _ (objects : Objects) (f : Forest) (w : Write) (up : ascends objects ≡ 
   unchanged_some ds is none None next tells same = absurd tells
   unchanged_some ds is none (Some es) next tells same = subst (IsCounted (after_writes (w ∷ []) objects) f) (sym same) (unchanged_write objects f es w up (sym is ∙ none) tells)
 
-  pub shift_some : IsHoused (after_writes (w ∷ []) objects) f → (chain : List (List ℕ)) (ds : List Delta) → chain ≡ chain_of f (id_of w).ns → ds ≡ deltas_of (object_at objects (id_of w)) (object_of w) → ds ≢ []
-      → (o : Option Entries) → IsSomeAnd o (Tells objects f) → IsSomeAnd o (λ es. MayShift es chain ds)
-  shift_some housed chain ds along is some None tells = absurd tells
-  shift_some housed chain ds along is some (Some es) tells = subst (λ names. MayShift es names ds) (sym along) (subst (λ xs. MayShift es (chain_of f (id_of w).ns) xs) (sym is) (may_write objects f es w up housed tells (λ none. some (is ∙ none))))
+  pub shift_some : IsHoused (after_writes (w ∷ []) objects) f → (n : List ℕ) (ds : List Delta) → n ≡ (id_of w).ns → ds ≡ deltas_of (object_at objects (id_of w)) (object_of w) → ds ≢ []
+      → (o : Option Entries) → IsSomeAnd o (Tells objects f) → IsSomeAnd o (λ es. MayShift es n ds)
+  shift_some housed n ds here is some None tells = absurd tells
+  shift_some housed n ds here is some (Some es) tells = subst (λ k. MayShift es k ds) (sym here) (subst (λ xs. MayShift es (id_of w).ns xs) (sym is) (may_write objects f es w up housed tells (λ none. some (is ∙ none))))
 
-  pub shifted_some : IsHoused (after_writes (w ∷ []) objects) f → (chain : List (List ℕ)) (ds : List Delta) → chain ≡ chain_of f (id_of w).ns → ds ≡ deltas_of (object_at objects (id_of w)) (object_of w) → ds ≢ []
-      → (o next : Option Entries) → IsSomeAnd o (Tells objects f) → IfSome o (λ es. next ≡ Some (with_shifted chain ds es)) → IsCounted (after_writes (w ∷ []) objects) f next
-  shifted_some housed chain ds along is some None next tells made = absurd tells
-  shifted_some housed chain ds along is some (Some es) next tells made =
+  pub shifted_some : IsHoused (after_writes (w ∷ []) objects) f → (n : List ℕ) (ds : List Delta) → n ≡ (id_of w).ns → ds ≡ deltas_of (object_at objects (id_of w)) (object_of w) → ds ≢ []
+      → (o next : Option Entries) → IsSomeAnd o (Tells objects f) → IfSome o (λ es. next ≡ Some (with_shifted (n ∷ []) ds es)) → IsCounted (after_writes (w ∷ []) objects) f next
+  shifted_some housed n ds here is some None next tells made = absurd tells
+  shifted_some housed n ds here is some (Some es) next tells made =
       subst (IsCounted (after_writes (w ∷ []) objects) f) (sym made)
-      (subst (λ names. Tells (after_writes (w ∷ []) objects) f (with_shifted names ds es)) (sym along) (subst (λ xs. Tells (after_writes (w ∷ []) objects) f (with_shifted (chain_of f (id_of w).ns) xs es)) (sym is) (tells_write objects f es w up housed tells (λ none. some (is ∙ none)))))
+      (subst (λ k. Tells (after_writes (w ∷ []) objects) f (with_shifted (k ∷ []) ds es)) (sym here) (subst (λ xs. Tells (after_writes (w ∷ []) objects) f (with_shifted ((id_of w).ns ∷ []) xs es)) (sym is) (tells_write objects f es w up housed tells (λ none. some (is ∙ none)))))
+
+pub may_shift_some : (o : Option Entries) (n : List ℕ) (ds : List Delta) → IsSomeAnd o (λ es. MayShift es n ds) → IfSome o (λ es. (k : List ℕ) → MayShift es k ds → AllFit (with_shifted (k ∷ []) ds es))
+    → (changes : List CounterChange) → changes ≡ Shift n ds ∷ [] → IsSomeAnd o (λ es. MayChangeAll changes es)
+may_shift_some None n ds may fits changes is = absurd may
+may_shift_some (Some es) n ds may fits changes is = subst (λ cs. MayChangeAll cs es) (sym is) ((may.0, may.1, may.2, fits n may), tt)
 
 pub uncharged_some : (objects : Objects) (f : Forest) (ws : List Write) → ascends objects ≡ true → are_uncharged ws ≡ true → (next : Option Entries) → IsCounted objects f next → IsCounted (after_writes ws objects) f next
 uncharged_some objects f ws up none None counted = tt

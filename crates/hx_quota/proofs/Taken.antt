@@ -1,46 +1,40 @@
 -- Sums that go from the namespaces above one to those above its new parent.
---     distinct_from, distinct_to      the names of chains are distinct
 --     may_take, may_give              sums may be taken off, and then be added
 --     sums_taken                      they are then those of the subtrees after the move
 use Rattle.std.specs.Prelude.{slice_index}
-use Rattle.std.proofs.Common.{◌≡◌, ℕ, ◌+◌, ◌-◌, ◌<◌, ◌≤◌, ◌^◌, Bool, true, false, cond, Option, Some, None, List, [], ◌∷◌, replicate, refl, sym, ap, subst, ◌∙◌, arith}
-use Rattle.std.specs.List.{IsDistinct}
-use Rattle.std.specs.Str.{bytes_eq}
-use Rattle.std.proofs.lemmas.Map.Keys.{IsDistinct-tail}
+use Rattle.std.proofs.Common.{◌≡◌, ℕ, ◌+◌, ◌-◌, ◌<◌, ◌≤◌, ◌^◌, Bool, true, false, cond, Option, Some, List, replicate, refl, sym, ap, subst, ◌∙◌, arith}
 use Rattle.hx_model.specs.Forest.{is_in, is_there, parent_of}
+use Rattle.hx_model.specs.Moves.{chain_from}
 use Rattle.hx_model.specs.declared.resource.Resource.{Resource}
-use Rattle.hx_model.proofs.Walking.{chain_there}
 use Rattle.hx_quota.specs.declared.places.Place.{Place}
-use Rattle.hx_quota.specs.Counters.{Entries, tree_of, place_of, used_in, total_of, with_parent, IsBehind, IsAbove, AllFit}
+use Rattle.hx_quota.specs.Counters.{Entries, tree_of, place_of, used_in, total_of, with_parent, AllFit}
 use Rattle.hx_quota.specs.Inside.{Places, place_at, ordered, IsFree, MayAdjust, IsAdjusted, IsSummed}
 use Rattle.hx_quota.proofs.Adjusting.{may_by, was_there}
 use Rattle.hx_quota.proofs.Deltas.{in_place}
+use Rattle.hx_quota.proofs.Ending.{free}
 use Rattle.hx_quota.proofs.Fitting.{has_nothing, fits_moved, used_within}
 use Rattle.hx_quota.proofs.Moved.{rest_of, used_before, used_after}
-
-pub distinct_from : (es : Entries) (n : List ℕ) (from : List (List ℕ)) → IsBehind es n from → IsDistinct bytes_eq from
-distinct_from es n from is = IsDistinct-tail bytes_eq n from (subst (λ (xs : List (List ℕ)). IsDistinct bytes_eq xs) is (chain_there (tree_of es) n).distinct)
-
-none_distinct : IsDistinct bytes_eq []
-unfolding IsDistinct
-none_distinct = tt
-
-pub distinct_to : (es : Entries) (parent : Option (List ℕ)) (to : List (List ℕ)) → IsAbove es parent to → IsDistinct bytes_eq to
-distinct_to es None to is = subst (λ (xs : List (List ℕ)). IsDistinct bytes_eq xs) (sym is) none_distinct
-distinct_to es (Some p) [] is = absurd is
-distinct_to es (Some p) (n ∷ names) is = subst (λ (xs : List (List ℕ)). IsDistinct bytes_eq xs) is.1 (chain_there (tree_of es) n).distinct
 
 abbrev zeros : List ℕ
 zeros = replicate 15 0
 
-module _ (old : Places) (n : List ℕ) (parent : Option (List ℕ)) (from to : List (List ℕ)) (there : is_there (tree_of (ordered old)) n ≡ true) (is_from : IsBehind (ordered old) n from)
-    (is_to : IsAbove (ordered old) parent to) (free_old : IsFree (tree_of (ordered old)) n (parent_of (tree_of (ordered old)) n)) (free_new : IsFree (tree_of (ordered old)) n parent)
+module _ (old : Places) (n : List ℕ) (parent : Option (List ℕ)) (there : is_there (tree_of (ordered old)) n ≡ true) (free_new : IsFree (tree_of (ordered old)) n parent)
     (fits : AllFit (ordered old)) (summed : IsSummed (place_at old) (ordered old)) (mine : Place) (has : place_at old n ≡ Some mine) where
   abbrev es : Entries
   es = ordered old
 
   abbrev then : Entries
   then = with_parent n parent es
+
+  -- those above it now, and then
+  abbrev from : List (List ℕ)
+  from = chain_from (tree_of es) (parent_of (tree_of es) n)
+
+  abbrev to : List (List ℕ)
+  to = chain_from (tree_of es) parent
+
+  free_old : IsFree (tree_of es) n (parent_of (tree_of es) n)
+  free_old = free (tree_of es) n (summed.ends n there)
 
   -- what others have
   abbrev rest : List ℕ → Resource → ℕ
@@ -50,10 +44,10 @@ module _ (old : Places) (n : List ℕ) (parent : Option (List ℕ)) (from to : L
   own_sum r = summed.sums n mine has r
 
   before : (q : List ℕ) (r : Resource) → used_in es q r ≡ rest q r + cond (is_in q from) (slice_index mine.sums (place_of r)) 0
-  before q r = used_before es n there free_old from is_from q r ∙ ap (λ k. rest q r + cond (is_in q from) k 0) (sym (own_sum r))
+  before q r = used_before es n there free_old q r ∙ ap (λ k. rest q r + cond (is_in q from) k 0) (sym (own_sum r))
 
   after : (q : List ℕ) (r : Resource) → used_in then q r ≡ rest q r + cond (is_in q to) (slice_index mine.sums (place_of r)) 0
-  after q r = used_after es n there free_old parent to is_to free_new q r ∙ ap (λ k. rest q r + cond (is_in q to) k 0) (sym (own_sum r))
+  after q r = used_after es n there free_old parent free_new q r ∙ ap (λ k. rest q r + cond (is_in q to) k 0) (sym (own_sum r))
 
   within_now : (q : List ℕ) (r : Resource) → used_in es q r < 2 ^ 128
   within_now q r = less (used_in es q r) (total_of es r) (used_within (tree_of es) q r es) (fits r)

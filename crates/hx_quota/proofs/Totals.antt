@@ -3,7 +3,7 @@
 --     set_fits                                        each fits, where one is set to what does
 --     old_totals, fit_totals, shifted_totals          where own sums of one are shifted
 --     totals_fit                                      all fits then, where the totals do
-use Rattle.std.proofs.Common.{◌≡◌, ℕ, zero, suc, ◌+◌, ◌≤◌, ◌<◌, ◌^◌, true, Option, Some, None, List, [], ◌∷◌, length, refl, sym, ap, subst, ◌∙◌, arith, true≢false}
+use Rattle.std.proofs.Common.{◌≡◌, ℕ, zero, suc, ◌+◌, ◌≤◌, ◌<◌, ◌^◌, Option, Some, None, List, [], ◌∷◌, length, refl, sym, ap, subst, ◌∙◌, arith, true≢false}
 use Rattle.std.specs.Prelude.{is_some, slice_index, slice_set}
 use Rattle.std.specs.Option.{option_map_or}
 use Rattle.hx_model.specs.declared.resource.Resource.{Resource}
@@ -17,9 +17,7 @@ use Rattle.hx_quota.proofs.CountingDeltas.{shifted_at, total_shifted}
 use Rattle.hx_quota.proofs.CountingRegular.{in_order}
 use Rattle.hx_quota.proofs.Cutting.{sum-cut}
 use Rattle.hx_quota.proofs.Fitting.{has_nothing}
-use Rattle.hx_quota.proofs.Shifted.{first_there}
 use Rattle.hx_quota.proofs.Sums.{sum-with_entry, sum-same, part-le}
-use Rattle.hx_quota.proofs.UsedSums.{in_tree}
 
 plain : (k : ℕ) → k + 0 ≡ k
 plain k = omega arith
@@ -64,34 +62,29 @@ old_within own totals (d ∷ deltas) have within = (both d.old (slice_index own 
     both a b c e f = omega (arith, e, f)
 
 module _ (totals : List ℕ) (es : Entries) (regular : AreRegular es) (long : length totals ≡ 15) (whole : HasTotals totals es) where
-  -- the first of a chain is there
-  first_of : (n : List ℕ) (names : List (List ℕ)) (deltas : List Delta) → MayShift es (n ∷ names) deltas → (entry : Entry) × (entry_of es n ≡ Some entry)
-  first_of n names deltas may = at (entry_of es n) refl
+  -- the namespace is there
+  entry_there : (n : List ℕ) (deltas : List Delta) → MayShift es n deltas → (entry : Entry) × (entry_of es n ≡ Some entry)
+  entry_there n deltas may = at (entry_of es n) refl
     where
-      there : is_some (entry_of es n) ≡ true
-      there = sym (in_tree es n) ∙ first_there es (n ∷ names) n may.0 refl
-
       at : (o : Option Entry) → entry_of es n ≡ o → (entry : Entry) × (entry_of es n ≡ Some entry)
-      at None is = absurd (true≢false (sym there ∙ ap is_some is))
+      at None is = absurd (true≢false (sym may.0 ∙ ap is_some is))
       at (Some entry) is = (entry, is)
 
-  own_old : (n : List ℕ) (names : List (List ℕ)) (deltas : List Delta) (may : MayShift es (n ∷ names) deltas) (entry : Entry) → entry_of es n ≡ Some entry → HaveOld deltas entry.own
-  own_old n names deltas may entry is = subst (λ (xs : List ℕ). HaveOld deltas xs) (ap (λ (o : Option Entry). option_map_or (λ e. e.own) o []) is) may.2
+  own_old : (n : List ℕ) (deltas : List Delta) (may : MayShift es n deltas) (entry : Entry) → entry_of es n ≡ Some entry → HaveOld deltas entry.own
+  own_old n deltas may entry is = subst (λ (xs : List ℕ). HaveOld deltas xs) (ap (λ (o : Option Entry). option_map_or (λ e. e.own) o []) is) may.2
 
-  pub old_totals : (chain : List (List ℕ)) (deltas : List Delta) → MayShift es chain deltas → HaveOld deltas totals
-  old_totals [] deltas may = absurd may.0
-  old_totals (n ∷ names) deltas may =
-      let found = first_of n names deltas may in
-      old_within found.0.own totals deltas (own_old n names deltas may found.0 found.1) (λ r. subst (λ (k : ℕ). own_of r found.0 ≤ k) (sym (whole r)) (part-le (own_of r) n found.0 es found.1))
+  pub old_totals : (n : List ℕ) (deltas : List Delta) → MayShift es n deltas → HaveOld deltas totals
+  old_totals n deltas may =
+      let found = entry_there n deltas may in
+      old_within found.0.own totals deltas (own_old n deltas may found.0 found.1) (λ r. subst (λ (k : ℕ). own_of r found.0 ≤ k) (sym (whole r)) (part-le (own_of r) n found.0 es found.1))
 
-  pub shifted_totals : (chain : List (List ℕ)) (deltas : List Delta) → MayShift es chain deltas → HasTotals (shifted deltas totals) (with_shifted chain deltas es)
-  shifted_totals [] deltas may = absurd may.0
-  shifted_totals (n ∷ names) deltas may = λ r.
-      let found = first_of n names deltas may in
-      shifted_at deltas totals r long may.1 ∙ (rw (whole r) (sym (total_shifted es n names found.0 (in_order es regular) found.1 (regular.long n found.0 found.1) deltas may.1 (own_old n names deltas may found.0 found.1) r)))
+  pub shifted_totals : (n : List ℕ) (deltas : List Delta) → MayShift es n deltas → HasTotals (shifted deltas totals) (with_shifted (n ∷ []) deltas es)
+  shifted_totals n deltas may = λ r.
+      let found = entry_there n deltas may in
+      shifted_at deltas totals r long may.1 ∙ (rw (whole r) (sym (total_shifted es n [] found.0 (in_order es regular) found.1 (regular.long n found.0 found.1) deltas may.1 (own_old n deltas may found.0 found.1) r)))
 
-  pub fit_totals : (chain : List (List ℕ)) (deltas : List Delta) → MayShift es chain deltas → AllFit (with_shifted chain deltas es) → OwnFit (shifted deltas totals)
-  fit_totals chain deltas may fits r = subst (λ (k : ℕ). k < 2 ^ 128) (sym (shifted_totals chain deltas may r)) (fits r)
+  pub fit_totals : (n : List ℕ) (deltas : List Delta) → MayShift es n deltas → AllFit (with_shifted (n ∷ []) deltas es) → OwnFit (shifted deltas totals)
+  fit_totals n deltas may fits r = subst (λ (k : ℕ). k < 2 ^ 128) (sym (shifted_totals n deltas may r)) (fits r)
 
-  pub totals_fit : (chain : List (List ℕ)) (deltas : List Delta) → OwnFit (shifted deltas totals) → MayShift es chain deltas → AllFit (with_shifted chain deltas es)
-  totals_fit chain deltas fits may r = subst (λ (k : ℕ). k < 2 ^ 128) (shifted_totals chain deltas may r) (fits r)
+  pub totals_fit : (n : List ℕ) (deltas : List Delta) → OwnFit (shifted deltas totals) → MayShift es n deltas → AllFit (with_shifted (n ∷ []) deltas es)
+  totals_fit n deltas fits may r = subst (λ (k : ℕ). k < 2 ^ 128) (shifted_totals n deltas may r) (fits r)

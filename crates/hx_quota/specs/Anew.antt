@@ -1,37 +1,18 @@
 -- Sums over subtrees that are formed anew, namespace by namespace.
---     ends_by, ends_up      a walk up the parents ends at a namespace without one
---     AllEnd, all_ended     all walks do, and all from places
+--     all_ended             all walks up the parents from places end at a namespace without one
 --     name_at, chain_at     the name at an index of entries, and its chain
 --     chain_behind          that of its parent
 --     with_sums, cleared    places with other sums at an index, and with none
 --     HasFirst              the sums of places are those of subtrees, as far as the first places are in them
-use Rattle.std.specs.Prelude.{◌≡◌, ℕ, zero, suc, Bool, true, false, ◌&&◌, List, [], ◌∷◌, length, map, replicate, sum_by, take, Option, Some, None, option_and_then, option_map, slice_get, slice_index}
+use Rattle.std.specs.Prelude.{◌≡◌, ℕ, zero, suc, Bool, List, [], ◌∷◌, map, replicate, sum_by, take, Option, Some, option_and_then, option_map, slice_get, slice_index}
 use Rattle.std.specs.List.{list_all}
-use Rattle.hx_model.specs.Forest.{Forest, is_there, parent_of}
+use Rattle.hx_model.specs.Forest.{parent_of}
 use Rattle.hx_model.specs.Moves.{chain_from}
 use Rattle.hx_model.specs.declared.resource.Resource.{Resource}
 use Rattle.hx_quota.specs.declared.entry.Entry.{Entry}
 use Rattle.hx_quota.specs.declared.places.Place.{Place}
 use Rattle.hx_quota.specs.Counters.{tree_of, part_of, place_of}
-use Rattle.hx_quota.specs.Inside.{Places, entries_from, entries_in, ordered, place_at}
-
--- ---- walks
-
--- a walk up from there ends at a namespace without a parent, in at most so many steps
-abbrev pub ends_by : ℕ → Forest → Option (List ℕ) → Bool
-ends_by left f None = true
-ends_by zero f (Some n) = false
-ends_by (suc left) f (Some n) = is_there f n && ends_by left f (parent_of f n)
-
--- the same of a name: no chain is longer than the forest
-abbrev pub ends_up : Forest → List ℕ → Bool
-ends_up f n = ends_by (length f) f (Some n)
-
--- each walk up does: none comes round
-abbrev pub AllEnd : Forest → Type 0
-AllEnd f = (n : List ℕ) → is_there f n ≡ true → ends_up f n ≡ true
-
--- ---- places
+use Rattle.hx_quota.specs.Inside.{Places, entries_from, entries_in, ordered, place_at, ends_up}
 
 -- the name at an index
 abbrev pub name_at : List (List ℕ × Entry) → ℕ → Option (List ℕ)

@@ -7,21 +7,19 @@
 --     MayChange, MayChangeAll   what the changes need
 --     changes_of_tree f c    the changes by a change of the tree
 --     deltas_of old new      what an object is charged that stands in the place of another, resource by resource
---     changes_of_object      the changes by an object
 -- Counters know no parent that isn't there: a namespace that others named before it came takes them in.
-use Rattle.std.specs.Prelude.{◌≡◌, ℕ, Bool, true, not, nat_eq, List, [], ◌∷◌, ◌++◌, length, map, filter, sum_by, Option, Some, None, option_and_then, is_some, if◌then◌else◌}
+use Rattle.std.specs.Prelude.{◌≡◌, ℕ, Bool, true, not, nat_eq, List, [], ◌∷◌, ◌++◌, length, map, filter, sum_by, Option, Some, None, option_and_then, is_some, IfSome, if◌then◌else◌}
 use Rattle.std.specs.Str.{bytes_eq}
 use Rattle.hx_object.specs.declared.object.Object.{Object}
 use Rattle.hx_forest.specs.declared.change.Change.{Change as TreeChange}
 use Rattle.hx_forest.specs.declared.change.Change.TheVariants as tree
 use Rattle.hx_model.specs.Charges.{all_resources, charge_of}
 use Rattle.hx_model.specs.First.{so}
-use Rattle.hx_model.specs.Forest.{Forest, chain_of, children_of, is_there, parent_of, subtree_of, tail_of}
-use Rattle.hx_model.specs.Moves.{chain_from}
+use Rattle.hx_model.specs.Forest.{Forest, children_of, is_there, parent_of, subtree_of}
 use Rattle.hx_model.specs.Quotas.{charge_before}
 use Rattle.hx_model.specs.State.{Objects}
 use Rattle.hx_model.specs.declared.resource.Resource.{Resource}
-use Rattle.hx_quota.specs.Counters.{Entries, entry_of, tree_of, own_in, with_entry, new_entry, without_entry, with_parent, with_shifted, sums_of, IsChain, IsBehind, IsAbove, AreApart, HaveOld, AllFit}
+use Rattle.hx_quota.specs.Counters.{Entries, entry_of, tree_of, own_in, with_entry, new_entry, without_entry, with_parent, with_shifted, sums_of, AreApart, HaveOld, AllFit}
 use Rattle.hx_quota.specs.declared.change.CounterChange.{CounterChange}
 use Rattle.hx_quota.specs.declared.change.CounterChange.TheVariants.{Add, Move, Shift, Remove}
 use Rattle.hx_quota.specs.Inside.{entries_from}
@@ -61,8 +59,8 @@ pub record AreRegular (es : Entries) : Type 0 where
 
 abbrev pub changed : CounterChange → Entries → Entries
 changed (Add name) es = with_entry name new_entry es
-changed (Move moved parent from to) es = with_parent moved parent es
-changed (Shift chain deltas) es = with_shifted chain deltas es
+changed (Move moved parent) es = with_parent moved parent es
+changed (Shift n deltas) es = with_shifted (n ∷ []) deltas es
 changed (Remove name) es = without_entry name es
 
 abbrev pub changed_all : List CounterChange → Entries → Entries
@@ -72,8 +70,8 @@ changed_all (c ∷ changes) es = changed_all changes (changed c es)
 -- what the calls need that make them
 abbrev pub MayChange : CounterChange → Entries → Type 0
 MayChange (Add name) es = entry_of es name ≡ None
-MayChange (Move moved parent from to) es = (is_some (entry_of es moved) ≡ true) × IsBehind es moved from × IsAbove es parent to
-MayChange (Shift chain deltas) es = IsChain es chain × AreApart deltas × HaveOld deltas (sums_of es chain) × AllFit (with_shifted chain deltas es)
+MayChange (Move moved parent) es = (is_some (entry_of es moved) ≡ true) × IfSome parent (λ p. is_some (entry_of es p) ≡ true)
+MayChange (Shift n deltas) es = (is_some (entry_of es n) ≡ true) × AreApart deltas × HaveOld deltas (sums_of es (n ∷ [])) × AllFit (with_shifted (n ∷ []) deltas es)
 MayChange (Remove name) es = (is_some (entry_of es name) ≡ true) × ((r : Resource) → own_in es name r ≡ 0) × (subtree_of (tree_of es) name ≡ name ∷ [])
 
 abbrev pub MayChangeAll : List CounterChange → Entries → Type 0
@@ -85,26 +83,22 @@ MayChangeAll (c ∷ changes) es = MayChange c es × MayChangeAll changes (change
 -- it comes under its parent, where that is there then
 abbrev pub under_parent : Forest → List ℕ → Option (List ℕ) → List CounterChange
 under_parent f n None = []
-under_parent f n (Some p) = if is_there f p then Move n (Some p) [] (chain_of f p) ∷ [] else (if bytes_eq n p then Move n (Some n) [] (n ∷ []) ∷ [] else [])
-
--- the chain of a namespace that has come
-abbrev pub chain_new : Forest → List ℕ → Option (List ℕ) → List (List ℕ)
-chain_new f n parent = n ∷ chain_from f parent
+under_parent f n (Some p) = if is_there f p then Move n (Some p) ∷ [] else (if bytes_eq n p then Move n (Some n) ∷ [] else [])
 
 -- those that named it before come under it
-abbrev pub taken_in : Forest → List ℕ → Option (List ℕ) → List CounterChange
-taken_in f n parent = map (λ c. Move c (Some n) [] (chain_new f n parent)) (children_of f n)
+abbrev pub taken_in : Forest → List ℕ → List CounterChange
+taken_in f n = map (λ c. Move c (Some n)) (children_of f n)
 
 -- those that name it have no parent that is there any more
 abbrev pub let_go : Forest → List ℕ → List CounterChange
-let_go f n = map (λ c. Move c None (tail_of (chain_of f c)) []) (children_of f n)
+let_go f n = map (λ c. Move c None) (children_of f n)
 
 -- a namespace gets a parent, where both are there
 abbrev pub moved_under : Forest → List ℕ → Option (List ℕ) → List CounterChange
-moved_under f n parent = if is_there f n then Move n (option_and_then (if_there f) parent) (tail_of (chain_of f n)) (chain_from f parent) ∷ [] else []
+moved_under f n parent = if is_there f n then Move n (option_and_then (if_there f) parent) ∷ [] else []
 
 abbrev pub changes_of_tree : Forest → TreeChange → List CounterChange
-changes_of_tree f (tree.Add name node) = Add name ∷ (under_parent f name node.parent ++ taken_in f name node.parent)
+changes_of_tree f (tree.Add name node) = Add name ∷ (under_parent f name node.parent ++ taken_in f name)
 changes_of_tree f (tree.SetParent name parent) = moved_under f name parent
 changes_of_tree f (tree.SetTerminating name) = []
 changes_of_tree f (tree.Remove name) = let_go f name ++ Remove name ∷ []
@@ -121,11 +115,3 @@ delta_by old new r = record { resource = r; old = charge_before old r; new = cha
 -- what is charged before and then, of each resource of which that changes
 abbrev pub deltas_of : Option Object → Option Object → List Delta
 deltas_of old new = map (delta_by old new) (filter (is_recharged old new) all_resources)
-
--- where something changes, what the namespace has
-abbrev pub shifted_by : List (List ℕ) → List Delta → List CounterChange
-shifted_by chain [] = []
-shifted_by chain (d ∷ deltas) = Shift chain (d ∷ deltas) ∷ []
-
-abbrev pub changes_of_object : Forest → List ℕ → Option Object → Option Object → List CounterChange
-changes_of_object f n old new = shifted_by (chain_of f n) (deltas_of old new)

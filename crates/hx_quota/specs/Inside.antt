@@ -10,12 +10,14 @@
 --     IsAdjusted            a place has sums that are adjusted, where a test holds
 --     HasShifted            the own sums of a place are shifted
 --     SameSums              a place was there with the same sums
+--     ends_by, ends_up      a walk up the parents ends at a namespace without one
+--     AllEnd                all walks do
 --     AreClosed             all parents are there
 --     IsFree                a namespace isn't in the chain of a parent
 --     is_plain_move         a move neither parts nor makes a cycle
 --     HasUsage              the sums of places are those of subtrees
 --     IsSummed, IsKept      the sums of places are those of their subtrees, unless that is lost
-use Rattle.std.specs.Prelude.{◌≡◌, ℕ, ◌+◌, ◌-◌, ◌<◌, ◌≤◌, ◌^◌, Bool, true, false, not, ◌&&◌, List, [], ◌∷◌, map, Option, Some, None, slice_index, slice_set, if◌then◌else◌}
+use Rattle.std.specs.Prelude.{◌≡◌, ℕ, zero, suc, ◌+◌, ◌-◌, ◌<◌, ◌≤◌, ◌^◌, Bool, true, false, not, ◌&&◌, List, [], ◌∷◌, length, map, Option, Some, None, slice_index, slice_set, if◌then◌else◌}
 use Rattle.std.specs.Map.{lookup}
 use Rattle.std.specs.Option.{option_map_or}
 use Rattle.std.specs.Str.{bytes_eq}
@@ -90,6 +92,20 @@ HasShifted old new n deltas change =
 abbrev pub SameSums : Option Place → Place → Type 0
 SameSums old p = (q : Place) × (old ≡ Some q) × (p.sums ≡ q.sums)
 
+-- a walk up from there ends at a namespace without a parent, in at most so many steps
+abbrev pub ends_by : ℕ → Forest → Option (List ℕ) → Bool
+ends_by left f None = true
+ends_by zero f (Some n) = false
+ends_by (suc left) f (Some n) = is_there f n && ends_by left f (parent_of f n)
+
+-- the same of a name: no chain is longer than the forest
+abbrev pub ends_up : Forest → List ℕ → Bool
+ends_up f n = ends_by (length f) f (Some n)
+
+-- each walk up does: none comes round
+abbrev pub AllEnd : Forest → Type 0
+AllEnd f = (n : List ℕ) → is_there f n ≡ true → ends_up f n ≡ true
+
 -- all parents are there
 abbrev pub AreClosed : Entries → Type 0
 AreClosed es = (m q : List ℕ) → parent_of (tree_of es) m ≡ Some q → is_there (tree_of es) q ≡ true
@@ -106,10 +122,10 @@ is_plain_move es n parent = not (option_map_or (λ p. in_chain (tree_of es) p n)
 abbrev pub HasUsage : Places → Entries → Type 0
 HasUsage places es = (n : List ℕ) (p : Place) → place_at places n ≡ Some p → (r : Resource) → slice_index p.sums (place_of r) ≡ used_in es n r
 
--- the sums of each place are those of its subtree, and all parents are there
+-- the sums of each place are those of its subtree, and each walk up the parents ends
 pub record IsSummed (at : List ℕ → Option Place) (es : Entries) : Type 0 where
   pub sums : (n : List ℕ) (p : Place) → at n ≡ Some p → (r : Resource) → slice_index p.sums (place_of r) ≡ used_in es n r
-  pub closed : AreClosed es
+  pub ends : AllEnd (tree_of es)
 
 -- that, unless it is lost
 abbrev pub IsKept : Ledger → Type 0

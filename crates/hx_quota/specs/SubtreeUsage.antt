@@ -6,12 +6,15 @@
 --     is_charged_kind        objects of a kind may be charged
 --     are_uncharged          writes of other kinds
 --     is_staying             a change of the tree that leaves all parents of a forest
+--     is_told_tree           changes of the tree that are told
+--     is_one_alone           one write that leaves the tree as it is
+--     are_told               writes that are told, with the changes of the tree by them
 --     AreOnce                each that names a namespace that comes or goes is there once
 --     deltas_among           what is charged before and then, of some resources
 --     MayShift               what a shift needs beside that it fits
 --     IsHoused               nothing is charged where there is no namespace
 --     MayStage               what writes need, and the changes of the tree by them
-use Rattle.std.specs.Prelude.{◌≡◌, ◌≤◌, ℕ, Bool, true, false, not, List, [], ◌∷◌, length, map, filter, slice_index, Option, IfSome, refl}
+use Rattle.std.specs.Prelude.{◌≡◌, ◌≤◌, ℕ, Bool, true, false, not, ◌&&◌, ◌||◌, List, [], ◌∷◌, length, map, filter, slice_index, Option, IfSome, is_some, refl}
 use Rattle.std.specs.Coded.{Coded, code_by, coded×, coded_list, coded_ℕ, coded_option}
 use Rattle.std.specs.List.{list_all, IsDistinct}
 use Rattle.std.specs.Str.{bytes_eq}
@@ -30,7 +33,7 @@ use Rattle.hx_store.specs.Changes.{id_of}
 use Rattle.hx_quota.specs.contracts.entry.Entry as entry
 use Rattle.hx_quota.specs.declared.change.CounterChange.{CounterChange}
 use Rattle.hx_quota.specs.declared.entry.Delta.{Delta}
-use Rattle.hx_quota.specs.Counters.{Entries, CountersView, place_of, total_of, sums_of, IsChain, AreApart, HaveOld}
+use Rattle.hx_quota.specs.Counters.{Entries, CountersView, entry_of, place_of, total_of, sums_of, AreApart, HaveOld}
 use Rattle.hx_quota.specs.Counting.{Counts, AreRegular, MayChangeAll, own_charge, is_recharged, delta_by}
 
 -- the entries that count, none where that is lost: now, and once the staged changes are made
@@ -86,6 +89,20 @@ is_staying f (tree.SetTerminating name) = true
 is_staying f (tree.SetParent name parent) = same_name (parent_of f name) parent
 is_staying f _ = false
 
+-- one change of the tree at most is told, and several that leave all parents
+abbrev pub is_told_tree : Forest → List TreeChange → Bool
+is_told_tree f (c ∷ []) = true
+is_told_tree f changes = list_all (is_staying f) changes
+
+-- one write that leaves the tree as it is
+abbrev pub is_one_alone : List Write → List TreeChange → Bool
+is_one_alone (w ∷ []) [] = true
+is_one_alone writes changes = false
+
+-- such a write is told, and so are writes that change no charge where the changes of the tree by them are
+abbrev pub are_told : Forest → List Write → List TreeChange → Bool
+are_told f writes changes = is_one_alone writes changes || (are_uncharged writes && is_told_tree f changes)
+
 -- each that names a namespace that comes or goes is there once
 abbrev pub AreOnce : Forest → TreeChange → Type 0
 AreOnce f (tree.Add name node) = IsDistinct bytes_eq (children_of f name)
@@ -97,9 +114,9 @@ AreOnce f (tree.Remove name) = IsDistinct bytes_eq (children_of f name)
 abbrev pub deltas_among : List Resource → Option Object → Option Object → List Delta
 deltas_among resources old new = map (delta_by old new) (filter (is_recharged old new) resources)
 
--- the sums of the first of a chain may be shifted, if what all have together fits then
-abbrev pub MayShift : Entries → List (List ℕ) → List Delta → Type 0
-MayShift es chain deltas = IsChain es chain × AreApart deltas × HaveOld deltas (sums_of es chain)
+-- the sums of a namespace may be shifted, if what all have together fits then
+abbrev pub MayShift : Entries → List ℕ → List Delta → Type 0
+MayShift es n deltas = (is_some (entry_of es n) ≡ true) × AreApart deltas × HaveOld deltas (sums_of es (n ∷ []))
 
 -- nothing is charged where there is no namespace
 abbrev pub IsHoused : Objects → Forest → Type 0

@@ -38,15 +38,10 @@ fn make(counters: &mut Counters, totals: &mut [u128; 15], change: CounterChange)
 {
     match change {
         CounterChange::Add { name } => counters.add(name),
-        CounterChange::Move {
-            moved,
-            parent,
-            from,
-            to,
-        } => counters.move_subtree(&moved, parent, from.as_slice(), to.as_slice()),
-        CounterChange::Shift { chain, deltas } => {
+        CounterChange::Move { moved, parent } => counters.move_under(&moved, parent),
+        CounterChange::Shift { ns, deltas } => {
             shift(totals, deltas.as_slice());
-            counters.shift(chain.as_slice(), deltas.as_slice());
+            counters.shift_at(&ns, deltas.as_slice());
         }
         CounterChange::Remove { name } => counters.remove(&name),
     }

@@ -1,5 +1,5 @@
 // The counters.
-ghost use Rattle.std.specs.Prelude.{◌≡◌, ◌+◌, ◌≤◌, true, Some, None, is_some, [], ◌∷◌, OnOk};
+ghost use Rattle.std.specs.Prelude.{◌≡◌, ◌+◌, ◌≤◌, true, Some, None, is_some, [], ◌∷◌, IfSome, OnOk};
 ghost use Rattle.hx_model.specs.Forest.{subtree_of};
 ghost use Rattle.hx_quota.specs.Counters.{entry_of, tree_of, own_in, used_in, with_entry, new_entry, without_entry, with_parent, with_shifted, sums_of, IsChain, IsBehind, IsAbove, AreApart, HaveOld, AllFit};
 
@@ -91,7 +91,21 @@ impl Counters {
         ensures entries { self.new.entries ≡ with_shifted chain.now deltas.now self.old.entries }
         ensures room { self.old.spare ≤ self.new.spare }
     {
-        self.ledger.shift(chain, deltas);
+        if let Some(ns) = chain.first() {
+            self.shift_at(ns, deltas);
+        }
+    }
+
+    /// The same of a namespace, whose chain is found among those that are there. It takes no memory.
+    pub(crate) fn shift_at(&mut self, ns: &Text, deltas: &[Delta])
+        requires there { is_some (entry_of self.old.entries ns.now) ≡ true }
+        requires apart { AreApart deltas.now }
+        requires old { HaveOld deltas.now (sums_of self.old.entries (ns.now ∷ [])) }
+        requires fits { AllFit (with_shifted (ns.now ∷ []) deltas.now self.old.entries) }
+        ensures entries { self.new.entries ≡ with_shifted (ns.now ∷ []) deltas.now self.old.entries }
+        ensures room { self.old.spare ≤ self.new.spare }
+    {
+        self.ledger.shift(ns, deltas);
     }
 
     /// Gives a namespace another parent, or none. `from` is its chain behind it, and `to` the chain of the new parent, which is there. It takes no memory.
@@ -102,6 +116,16 @@ impl Counters {
         ensures entries { self.new.entries ≡ with_parent moved.now parent self.old.entries }
         ensures room { self.old.spare ≤ self.new.spare }
     {
-        self.ledger.move_subtree(moved, parent, from, to);
+        self.move_under(moved, parent);
+    }
+
+    /// The same, where the chains are found among the namespaces that are there. It takes no memory.
+    pub(crate) fn move_under(&mut self, moved: &Text, parent: Option<Text>)
+        requires there { is_some (entry_of self.old.entries moved.now) ≡ true }
+        requires given { IfSome parent (λ p. is_some (entry_of self.old.entries p) ≡ true) }
+        ensures entries { self.new.entries ≡ with_parent moved.now parent self.old.entries }
+        ensures room { self.old.spare ≤ self.new.spare }
+    {
+        self.ledger.move_subtree(moved, parent);
     }
 }

@@ -1,16 +1,16 @@
 // Sums over subtrees, formed anew.
-ghost use Rattle.std.specs.Prelude.{◌≡◌, ℕ, ◌+◌, ◌<◌, ◌≤◌, true, Some, List, length, slice_get, option_map, option_copied, option_and_then};
+ghost use Rattle.std.specs.Prelude.{◌≡◌, ℕ, ◌+◌, ◌<◌, ◌≤◌, true, Some, List, length, slice_get};
 ghost use Rattle.std.specs.List.{IsDistinct};
 ghost use Rattle.std.specs.Map.{keys_of};
 ghost use Rattle.std.specs.Str.{bytes_eq};
 ghost use Rattle.indexmap.specs.IndexMap.{spare};
-ghost use Rattle.hx_model.specs.Forest.{is_in, parent_of, chain_of};
 ghost use Rattle.hx_quota.specs.Counters.{tree_of, AllFit};
-ghost use Rattle.hx_quota.specs.Inside.{entries_in, ordered, place_at, MayAdjust, IsAdjusted, IsSummed};
-ghost use Rattle.hx_quota.specs.Anew.{AllEnd, ends_up, all_ended, name_at, chain_at, chain_behind, with_sums, cleared, HasFirst};
+ghost use Rattle.hx_quota.specs.Inside.{entries_in, ordered, place_at, IsSummed, AllEnd, ends_up};
+ghost use Rattle.hx_quota.specs.Anew.{all_ended, cleared, HasFirst};
 
+use crate::climbing::{adjust_up, set_sums};
 use crate::entry::Entry;
-use crate::places::{Change, Place, PlaceMap, adjust};
+use crate::places::{Change, Place, PlaceMap};
 use hx_object::Text;
 
 /// Forms the sums of all places anew, where each walk up the parents ends at a namespace without one, and says whether that is so. It takes no memory, and as many steps as all chains have members.
@@ -109,47 +109,7 @@ fn add_up(places: &mut PlaceMap, at: usize)
         take: [0; 15],
         give: own_at(places, at),
     };
-    adjust_up(places, at, &change);
-}
-
-/// Changes the sums of the namespace at an index, and of all above it.
-fn adjust_up(places: &mut PlaceMap, first: usize, change: &Change)
-    requires ends { AllEnd (tree_of (ordered places.old.entries)) }
-    requires distinct { IsDistinct bytes_eq (keys_of (entries_in places.old.entries)) }
-    requires may { (q : List ℕ) (p : Place) → is_in q (chain_at (entries_in places.old.entries) (Some first)) ≡ true → place_at places.old.entries q ≡ Some p → MayAdjust change.now.take change.now.give p.sums }
-    ensures entries { entries_in places.new.entries ≡ entries_in places.old.entries }
-    ensures sums { (q : List ℕ) → IsAdjusted change.now.take change.now.give (is_in q (chain_at (entries_in places.old.entries) (Some first))) (place_at places.old.entries q) (place_at places.new.entries q) }
-    ensures room { spare places.old ≤ spare places.new }
-{
-    let mut next = Some(first);
-    while let Some(at) = next {
-        let Some(mut sums) = sums_at(places, at) else {
-            return;
-        };
-        adjust(&mut sums, change);
-        set_sums(places, at, sums);
-        next = parent_index(places, at);
-    }
-}
-
-/// The index of the parent of the namespace at an index.
-fn parent_index(places: &PlaceMap, at: usize) -> Option<usize>
-    ensures { chain_at (entries_in places.now.entries) result ≡ chain_behind (entries_in places.now.entries) at }
-{
-    match parent_at(places, at) {
-        Some(parent) => index_of(places, parent),
-        None => None,
-    }
-}
-
-/// Its name.
-fn parent_at(places: &PlaceMap, at: usize) -> Option<&Text>
-    ensures { option_copied result ≡ option_and_then (parent_of (tree_of (ordered places.now.entries))) (name_at (entries_in places.now.entries) at) }
-{
-    match places.get_index(at) {
-        Some((_name, place)) => place.entry.parent.as_ref(),
-        None => None,
-    }
+    adjust_up(places, Some(at), &change);
 }
 
 /// What the namespace at an index has by itself.
@@ -160,31 +120,4 @@ fn own_at(places: &PlaceMap, at: usize) -> [u128; 15]
         Some((_name, place)) => place.entry.own,
         None => [0; 15],
     }
-}
-
-/// The sums of the namespace at an index.
-fn sums_at(places: &PlaceMap, at: usize) -> Option<[u128; 15]>
-    ensures { result ≡ option_map (λ e. e.1.sums) (slice_get places.now.entries at) }
-{
-    match places.get_index(at) {
-        Some((_name, place)) => Some(place.sums),
-        None => None,
-    }
-}
-
-/// Gives the namespace at an index other sums.
-fn set_sums(places: &mut PlaceMap, at: usize, sums: [u128; 15])
-    ensures places { places.new.entries ≡ with_sums at sums places.old.entries }
-    ensures room { spare places.old ≤ spare places.new }
-{
-    if let Some(place) = places.get_index_mut(at) {
-        place.sums = sums;
-    }
-}
-
-/// The index of a namespace.
-fn index_of(places: &PlaceMap, name: &Text) -> Option<usize>
-    ensures { chain_at (entries_in places.now.entries) result ≡ chain_of (tree_of (ordered places.now.entries)) name.now }
-{
-    places.get_index_of(name)
 }

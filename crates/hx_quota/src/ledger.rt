@@ -1,15 +1,15 @@
 // Namespaces, what they have by themselves, and with all below them.
-ghost use Rattle.std.specs.Prelude.{◌≡◌, ◌+◌, ◌≤◌, true, None, is_some, [], ◌∷◌, OnOk};
+ghost use Rattle.std.specs.Prelude.{◌≡◌, ◌+◌, ◌≤◌, true, None, is_some, [], ◌∷◌, IfSome, OnOk};
 ghost use Rattle.indexmap.specs.IndexMap.{spare};
 ghost use Rattle.hx_model.specs.Forest.{subtree_of};
 ghost use Rattle.hx_model.specs.declared.resource.Resource.{Resource};
-ghost use Rattle.hx_quota.specs.Counters.{entry_of, tree_of, own_in, with_entry, new_entry, without_entry, with_parent, with_shifted, sums_of, IsChain, IsBehind, IsAbove, AreApart, HaveOld, AllFit};
-ghost use Rattle.hx_quota.specs.Inside.{entries_of, IsKept};
-ghost use Rattle.hx_quota.specs.Anew.{AllEnd};
+ghost use Rattle.hx_quota.specs.Counters.{entry_of, tree_of, own_in, with_entry, new_entry, without_entry, with_parent, with_shifted, sums_of, AreApart, HaveOld, AllFit};
+ghost use Rattle.hx_quota.specs.Inside.{entries_of, IsKept, AllEnd};
 
+use crate::climbing::{adjust_up, index_of, take_over};
 use crate::entry::{Delta, Entry};
 use crate::forming::form_anew;
-use crate::places::{Place, PlaceMap, adjust_along, set_parent, shift_own, take_over};
+use crate::places::{Place, PlaceMap, set_parent, shift_own};
 use hx_model::Resource;
 use hx_object::{NoMemory, Text};
 use indexmap::IndexMap;
@@ -20,7 +20,7 @@ use std::hash::RandomState;
 #[derive(Drop)]
 pub(crate) struct Ledger {
     pub(crate) places: PlaceMap,
-    /// The sums of the places are those of their subtrees. This is lost where a move makes a cycle, and is so again after a move that leaves none.
+    /// The sums of the places are those of their subtrees, and each walk up the parents ends. This is lost where a move makes a cycle, and is so again after a move that leaves none.
     pub(crate) summed: bool,
 }
 
@@ -73,41 +73,32 @@ impl Ledger {
         let _place = self.places.swap_remove(ns);
     }
 
-    /// Shifts the own sums of the first of a chain, and with them the sums of all its members.
-    pub(crate) fn shift(&mut self, chain: &[Text], deltas: &[Delta])
-        requires chain { IsChain (entries_of self.old) chain.now }
+    /// Shifts the own sums of a namespace, and with them the sums of all members of its chain. It takes no memory.
+    pub(crate) fn shift(&mut self, ns: &Text, deltas: &[Delta])
+        requires there { is_some (entry_of (entries_of self.old) ns.now) ≡ true }
         requires apart { AreApart deltas.now }
-        requires old { HaveOld deltas.now (sums_of (entries_of self.old) chain.now) }
-        requires fits { AllFit (with_shifted chain.now deltas.now (entries_of self.old)) }
+        requires old { HaveOld deltas.now (sums_of (entries_of self.old) (ns.now ∷ [])) }
+        requires fits { AllFit (with_shifted (ns.now ∷ []) deltas.now (entries_of self.old)) }
         requires kept { IsKept self.old }
-        ensures entries { entries_of self.new ≡ with_shifted chain.now deltas.now (entries_of self.old) }
+        ensures entries { entries_of self.new ≡ with_shifted (ns.now ∷ []) deltas.now (entries_of self.old) }
         ensures room { spare self.old.places ≤ spare self.new.places }
         ensures kept { IsKept self.new }
     {
-        let Some(ns) = chain.first() else {
-            return;
-        };
         let Some(change) = shift_own(&mut self.places, ns, deltas) else {
             return;
         };
         if self.summed {
-            adjust_along(&mut self.places, chain, &change);
+            let first = index_of(&self.places, ns);
+            adjust_up(&mut self.places, first, &change);
         }
     }
 
     /// Gives a namespace another parent, or none, and takes what it has with all below it from the namespaces that were above it to those that are.
     ///
     /// Where that parts or makes a cycle, or one was there before, all sums are formed anew, if each walk up the parents ends then. It takes as many steps as all chains together have members, and no memory. No other move does so.
-    pub(crate) fn move_subtree(
-        &mut self,
-        moved: &Text,
-        parent: Option<Text>,
-        from: &[Text],
-        to: &[Text],
-    )
+    pub(crate) fn move_subtree(&mut self, moved: &Text, parent: Option<Text>)
         requires there { is_some (entry_of (entries_of self.old) moved.now) ≡ true }
-        requires from { IsBehind (entries_of self.old) moved.now from.now }
-        requires to { IsAbove (entries_of self.old) parent to.now }
+        requires given { IfSome parent (λ p. is_some (entry_of (entries_of self.old) p) ≡ true) }
         requires fits { AllFit (entries_of self.old) }
         requires kept { IsKept self.old }
         ensures entries { entries_of self.new ≡ with_parent moved.now parent (entries_of self.old) }
@@ -116,7 +107,7 @@ impl Ledger {
         ensures again { AllEnd (tree_of (entries_of self.new)) → self.new.summed ≡ true }
     {
         if self.is_plain_move(moved, parent.as_ref()) {
-            take_over(&mut self.places, moved, parent.as_ref(), from, to);
+            take_over(&mut self.places, moved, parent.as_ref());
             set_parent(&mut self.places, moved, parent);
         } else {
             set_parent(&mut self.places, moved, parent);

@@ -5,6 +5,7 @@
 
 mod change;
 mod changing;
+mod climbing;
 mod counters;
 mod entry;
 mod forming;

@@ -1,11 +1,8 @@
-// Sums over subtrees, which are adjusted along chains.
-ghost use Rattle.std.specs.Prelude.{◌≡◌, ℕ, ◌<◌, ◌≤◌, true, false, Some, None, is_some, List, MatchOption, slice_index, option_copied};
-ghost use Rattle.std.specs.List.{IsDistinct};
-ghost use Rattle.std.specs.Str.{bytes_eq};
+// What is kept of namespaces, by their names.
+ghost use Rattle.std.specs.Prelude.{◌≡◌, ℕ, ◌<◌, ◌≤◌, true, Some, None, is_some, List, MatchOption, slice_index};
 ghost use Rattle.indexmap.specs.IndexMap.{spare};
-ghost use Rattle.hx_model.specs.Forest.{is_in, parent_of};
-ghost use Rattle.hx_quota.specs.Counters.{entry_of, tree_of, shifted, with_parent, IsBehind, IsAbove, AreApart, HaveOld, AllFit};
-ghost use Rattle.hx_quota.specs.Inside.{place_at, ordered, adjusted, OwnFit, MayAdjust, IsAdjusted, HasShifted, SameSums, HasUsage, IsFree, IsSummed};
+ghost use Rattle.hx_quota.specs.Counters.{entry_of, shifted, with_parent, AreApart, HaveOld};
+ghost use Rattle.hx_quota.specs.Inside.{place_at, ordered, adjusted, OwnFit, MayAdjust, HasShifted, SameSums};
 
 use crate::entry::{Delta, Entry};
 use crate::shifting::shift;
@@ -29,20 +26,6 @@ pub(crate) struct Change {
 
 /// Places by the names of their namespaces.
 pub(crate) type PlaceMap = IndexMap<Text, Place, RandomState>;
-
-/// Changes the sums of namespaces.
-pub(crate) fn adjust_along(places: &mut PlaceMap, names: &[Text], change: &Change)
-    requires distinct { IsDistinct bytes_eq names.now }
-    requires may { (q : List ℕ) (p : Place) → is_in q names.now ≡ true → place_at places.old.entries q ≡ Some p → MayAdjust change.now.take change.now.give p.sums }
-    ensures places { (q : List ℕ) → IsAdjusted change.now.take change.now.give (is_in q names.now) (place_at places.old.entries q) (place_at places.new.entries q) }
-    ensures room { spare places.old ≤ spare places.new }
-{
-    for name in names {
-        if let Some(place) = places.get_mut(name) {
-            adjust(&mut place.sums, change);
-        }
-    }
-}
 
 /// Changes sums.
 pub(crate) fn adjust(sums: &mut [u128; 15], change: &Change)
@@ -79,39 +62,4 @@ pub(crate) fn set_parent(places: &mut PlaceMap, ns: &Text, parent: Option<Text>)
     if let Some(place) = places.get_mut(ns) {
         place.entry.parent = parent;
     }
-}
-
-/// Takes the sums of a namespace that gets another parent from the namespaces above it to those above that one.
-pub(crate) fn take_over(
-    places: &mut PlaceMap,
-    moved: &Text,
-    parent: Option<&Text>,
-    from: &[Text],
-    to: &[Text],
-)
-    requires there { is_some (entry_of (ordered places.old.entries) moved.now) ≡ true }
-    requires from { IsBehind (ordered places.old.entries) moved.now from.now }
-    requires to { IsAbove (ordered places.old.entries) (option_copied parent) to.now }
-    requires apart { IsFree (tree_of (ordered places.old.entries)) moved.now (parent_of (tree_of (ordered places.old.entries)) moved.now) }
-    requires open { IsFree (tree_of (ordered places.old.entries)) moved.now (option_copied parent) }
-    requires fits { AllFit (ordered places.old.entries) }
-    requires summed { IsSummed (place_at places.old.entries) (ordered places.old.entries) }
-    ensures entries { ordered places.new.entries ≡ ordered places.old.entries }
-    ensures sums { HasUsage places.new.entries (with_parent moved.now (option_copied parent.entry) (ordered places.old.entries)) }
-    ensures room { spare places.old ≤ spare places.new }
-{
-    let Some(place) = places.get(moved) else {
-        return;
-    };
-    let sums = place.sums;
-    let off = Change {
-        take: sums,
-        give: [0; 15],
-    };
-    let on = Change {
-        take: [0; 15],
-        give: sums,
-    };
-    adjust_along(places, from, &off);
-    adjust_along(places, to, &on);
 }

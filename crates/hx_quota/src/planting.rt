@@ -2,15 +2,14 @@
 ghost use Rattle.std.specs.Prelude.{◌≡◌, [], ◌∷◌, ◌++◌, IfOk, OnOk, Some, option_copied, option_and_then};
 ghost use Rattle.std.specs.List.{IsDistinct};
 ghost use Rattle.std.specs.Str.{bytes_eq};
-ghost use Rattle.hx_model.specs.Forest.{chain_of, tail_of, children_of};
-ghost use Rattle.hx_model.specs.Moves.{chain_from};
-ghost use Rattle.hx_quota.specs.Counting.{changes_of_tree, under_parent, taken_in, let_go, moved_under, chain_new, if_there};
+ghost use Rattle.hx_model.specs.Forest.{children_of};
+ghost use Rattle.hx_quota.specs.Counting.{changes_of_tree, under_parent, taken_in, let_go, moved_under, if_there};
 ghost use Rattle.hx_quota.specs.SubtreeUsage.{AreOnce};
 ghost use Rattle.hx_quota.specs.declared.change.CounterChange.TheVariants as of;
 
 use crate::change::CounterChange;
 use hx_forest::{Change as TreeChange, Forest};
-use hx_object::{List, NoMemory, Text};
+use hx_object::{NoMemory, Text};
 use std::alloc::Global;
 
 /// The changes of the counters by a change of the tree.
@@ -38,21 +37,20 @@ fn adding(
     parent: Option<&Text>,
 ) -> Result<Vec<CounterChange>, NoMemory>
     ensures once { OnOk result (IsDistinct bytes_eq (children_of forest.now.nodes name.now)) }
-    ensures changes { IfOk result (λ changes. changes.items ≡ of.Add name.now ∷ (under_parent forest.now.nodes name.now (option_copied parent.entry) ++ taken_in forest.now.nodes name.now (option_copied parent.entry))) }
+    ensures changes { IfOk result (λ changes. changes.items ≡ of.Add name.now ∷ (under_parent forest.now.nodes name.now (option_copied parent.entry) ++ taken_in forest.now.nodes name.now)) }
 {
     let mut changes = Vec::new(alloc);
     changes.push(CounterChange::Add {
         name: name.clone()?,
     })?;
-    push_under(&mut changes, alloc, forest, name, parent)?;
-    push_taken_in(&mut changes, alloc, forest, name, parent)?;
+    push_under(&mut changes, forest, name, parent)?;
+    push_taken_in(&mut changes, forest, name)?;
     Ok(changes)
 }
 
 /// A namespace that comes goes under its parent, where that is there then.
 fn push_under(
     changes: &mut Vec<CounterChange>,
-    alloc: Global,
     forest: &Forest,
     name: &Text,
     parent: Option<&Text>,
@@ -63,13 +61,10 @@ fn push_under(
         return Ok(());
     };
     if forest.node(parent).is_some() {
-        let to = forest.chain(parent)?;
-        return push_move(changes, name, Some(parent.clone()?), Vec::new(alloc), to);
+        return push_move(changes, name, Some(parent.clone()?));
     }
     if name.as_str() == parent.as_str() {
-        let mut to = Vec::new(alloc);
-        to.push(name.clone()?)?;
-        return push_move(changes, name, Some(name.clone()?), Vec::new(alloc), to);
+        return push_move(changes, name, Some(name.clone()?));
     }
     Ok(())
 }
@@ -77,17 +72,14 @@ fn push_under(
 /// Those that named a namespace before it comes get it as their parent.
 fn push_taken_in(
     changes: &mut Vec<CounterChange>,
-    alloc: Global,
     forest: &Forest,
     name: &Text,
-    parent: Option<&Text>,
 ) -> Result<(), NoMemory>
     ensures once { IsDistinct bytes_eq (children_of forest.now.nodes name.now) }
-    ensures changes { OnOk result (changes.new.items ≡ changes.old.items ++ taken_in forest.now.nodes name.now (option_copied parent.entry)) }
+    ensures changes { OnOk result (changes.new.items ≡ changes.old.items ++ taken_in forest.now.nodes name.now) }
 {
     for child in children(forest, name) {
-        let to = chain_new(alloc, forest, name, parent)?;
-        push_move(changes, child, Some(name.clone()?), Vec::new(alloc), to)?;
+        push_move(changes, child, Some(name.clone()?))?;
     }
     Ok(())
 }
@@ -106,9 +98,7 @@ fn moving(
         return Ok(changes);
     }
     let above = parent_there(forest, parent)?;
-    let from = chain_behind(forest, name)?;
-    let to = chain_from(alloc, forest, parent)?;
-    push_move(&mut changes, name, above, from, to)?;
+    push_move(&mut changes, name, above)?;
     Ok(changes)
 }
 
@@ -118,7 +108,7 @@ fn removing(alloc: Global, forest: &Forest, name: &Text) -> Result<Vec<CounterCh
     ensures changes { IfOk result (λ changes. changes.items ≡ let_go forest.now.nodes name.now ++ of.Remove name.now ∷ []) }
 {
     let mut changes = Vec::new(alloc);
-    push_let_go(&mut changes, alloc, forest, name)?;
+    push_let_go(&mut changes, forest, name)?;
     changes.push(CounterChange::Remove {
         name: name.clone()?,
     })?;
@@ -128,7 +118,6 @@ fn removing(alloc: Global, forest: &Forest, name: &Text) -> Result<Vec<CounterCh
 /// Those that name a namespace get no parent.
 fn push_let_go(
     changes: &mut Vec<CounterChange>,
-    alloc: Global,
     forest: &Forest,
     name: &Text,
 ) -> Result<(), NoMemory>
@@ -136,8 +125,7 @@ fn push_let_go(
     ensures changes { OnOk result (changes.new.items ≡ changes.old.items ++ let_go forest.now.nodes name.now) }
 {
     for child in children(forest, name) {
-        let from = chain_behind(forest, child)?;
-        push_move(changes, child, None, from, Vec::new(alloc))?;
+        push_move(changes, child, None)?;
     }
     Ok(())
 }
@@ -155,18 +143,11 @@ fn push_move(
     changes: &mut Vec<CounterChange>,
     moved: &Text,
     parent: Option<Text>,
-    from: Vec<Text>,
-    to: Vec<Text>,
 ) -> Result<(), NoMemory>
-    ensures { OnOk result (changes.new.items ≡ changes.old.items ++ of.Move moved.now parent from.items to.items ∷ []) }
+    ensures { OnOk result (changes.new.items ≡ changes.old.items ++ of.Move moved.now parent ∷ []) }
 {
     let moved = moved.clone()?;
-    changes.push(CounterChange::Move {
-        moved,
-        parent,
-        from: List::of(from),
-        to: List::of(to),
-    })?;
+    changes.push(CounterChange::Move { moved, parent })?;
     Ok(())
 }
 
@@ -181,40 +162,4 @@ fn parent_there(forest: &Forest, parent: Option<&Text>) -> Result<Option<Text>, 
         return Ok(None);
     }
     Ok(Some(parent.clone()?))
-}
-
-/// The chain of a namespace behind it.
-fn chain_behind(forest: &Forest, name: &Text) -> Result<Vec<Text>, NoMemory>
-    ensures { IfOk result (λ names. names.items ≡ tail_of (chain_of forest.now.nodes name.now)) }
-{
-    let mut names = forest.chain(name)?;
-    if !names.is_empty() {
-        let _first = names.remove(0);
-    }
-    Ok(names)
-}
-
-/// The chain of a parent, where there is one.
-fn chain_from(alloc: Global, forest: &Forest, parent: Option<&Text>) -> Result<Vec<Text>, NoMemory>
-    ensures { IfOk result (λ names. names.items ≡ chain_from forest.now.nodes (option_copied parent.entry)) }
-{
-    match parent {
-        Some(parent) => forest.chain(parent),
-        None => Ok(Vec::new(alloc)),
-    }
-}
-
-/// The chain of a namespace that comes under a parent.
-fn chain_new(
-    alloc: Global,
-    forest: &Forest,
-    name: &Text,
-    parent: Option<&Text>,
-) -> Result<Vec<Text>, NoMemory>
-    ensures { IfOk result (λ names. names.items ≡ chain_new forest.now.nodes name.now (option_copied parent.entry)) }
-{
-    let mut names = Vec::new(alloc);
-    names.push(name.clone()?)?;
-    names.append(&mut chain_from(alloc, forest, parent)?)?;
-    Ok(names)
 }

@@ -1,12 +1,12 @@
 // What writes change of the counters.
-ghost use Rattle.std.specs.Prelude.{◌≡◌, ℕ, List, [], ◌∷◌, true, Some, IsSomeAnd, IfSome, OnOk, IfOk, option_copied};
+ghost use Rattle.std.specs.Prelude.{◌≡◌, ℕ, List, [], ◌∷◌, true, Some, is_some, IsSomeAnd, IfSome, OnOk, IfOk, option_copied};
 ghost use Rattle.std.specs.List.{list_all};
 ghost use Rattle.hx_forest.specs.Kept.{changed_by, changed_by_all, MayChange as MayChangeTree, MayChangeAll as MayChangeTreeAll};
 ghost use Rattle.hx_model.specs.State.{object_at, after_writes, ascends};
 ghost use Rattle.hx_store.specs.Changes.{id_of, object_of};
 ghost use Rattle.hx_quota.specs.Counters.{AllFit, with_shifted};
 ghost use Rattle.hx_quota.specs.Counting.{deltas_of};
-ghost use Rattle.hx_quota.specs.SubtreeUsage.{Tells, IsCounted, MayStage, MayShift, IsHoused, is_charged_kind, are_uncharged, is_staying, deltas_among};
+ghost use Rattle.hx_quota.specs.SubtreeUsage.{Tells, IsCounted, MayStage, MayShift, IsHoused, is_charged_kind, are_uncharged, is_staying, is_told_tree, is_one_alone, deltas_among};
 
 use crate::change::CounterChange;
 use crate::changing::totals_after;
@@ -34,6 +34,7 @@ impl Usage {
         requires housed { IsHoused store.now.objects (changed_by_all tree.now forest.now.nodes) }
         ensures now { self.new.now ≡ self.old.now }
         ensures next { OnOk result (IsCounted store.now.objects (changed_by_all tree.now forest.now.nodes) self.new.next) }
+        ensures told { OnOk result (is_told_tree forest.now.nodes tree.now ≡ true → is_some self.new.next ≡ true) }
     {
         if leaves_parents(forest, tree) {
             return Ok(());
@@ -57,6 +58,7 @@ impl Usage {
         requires housed { IsHoused store.now.objects (changed_by change.now forest.now.nodes) }
         ensures now { self.new.now ≡ self.old.now }
         ensures next { OnOk result (IsCounted store.now.objects (changed_by change.now forest.now.nodes) self.new.next) }
+        ensures told { OnOk result (is_some self.new.next ≡ true) }
     {
         let changes = changes_of_tree(self.alloc, forest, change)?;
         self.stage_changes(changes)
@@ -75,6 +77,7 @@ impl Usage {
         requires may { MayStage store.now.objects forest.now.nodes writes.now tree.now }
         ensures now { self.new.now ≡ self.old.now }
         ensures next { OnOk result (IsCounted (after_writes writes.now store.now.objects) (changed_by_all tree.now forest.now.nodes) self.new.next) }
+        ensures told { OnOk result (is_one_alone writes.now tree.now ≡ true → is_some self.new.next ≡ true) }
     {
         if let [write] = writes
             && tree.is_empty()
@@ -98,25 +101,26 @@ impl Usage {
         requires housed { IsHoused (after_writes (write.now ∷ []) store.now.objects) forest.now.nodes }
         ensures now { self.new.now ≡ self.old.now }
         ensures next { OnOk result (IsCounted (after_writes (write.now ∷ []) store.now.objects) forest.now.nodes self.new.next) }
+        ensures told { OnOk result (is_some self.new.next ≡ true) }
     {
         let deltas = deltas_of(store, write)?;
         if deltas.is_empty() {
             return Ok(());
         }
-        let chain = forest.chain(&write.id().ns)?;
-        self.stage_shift(chain, deltas)
+        let ns = write.id().ns.clone()?;
+        self.stage_shift(ns, deltas)
     }
 
-    /// Stages that the first of a chain gets other sums.
-    fn stage_shift(&mut self, chain: Vec<Text>, deltas: Vec<Delta>) -> Result<(), NoMemory>
-        requires { IsSomeAnd self.old.now (λ es. MayShift es chain.items deltas.items) }
+    /// Stages that a namespace gets other sums.
+    fn stage_shift(&mut self, ns: Text, deltas: Vec<Delta>) -> Result<(), NoMemory>
+        requires { IsSomeAnd self.old.now (λ es. MayShift es ns deltas.items) }
         ensures now { self.new.now ≡ self.old.now }
-        ensures next { OnOk result (IfSome self.old.now (λ es. self.new.next ≡ Some (with_shifted chain.items deltas.items es))) }
+        ensures next { OnOk result (IfSome self.old.now (λ es. self.new.next ≡ Some (with_shifted (ns ∷ []) deltas.items es))) }
     {
         self.check_fit(&deltas)?;
         let mut changes = Vec::new(self.alloc);
         changes.push(CounterChange::Shift {
-            chain: List::of(chain),
+            ns,
             deltas: List::of(deltas),
         })?;
         self.stage_changes(changes)
@@ -124,7 +128,7 @@ impl Usage {
 
     /// Checks that what all namespaces have together fits after deltas.
     fn check_fit(&self, deltas: &[Delta]) -> Result<(), NoMemory>
-        ensures { OnOk result (IfSome self.now.now (λ es. (chain : List (List ℕ)) → MayShift es chain deltas.now → AllFit (with_shifted chain deltas.now es))) }
+        ensures { OnOk result (IfSome self.now.now (λ es. (ns : List ℕ) → MayShift es ns deltas.now → AllFit (with_shifted (ns ∷ []) deltas.now es))) }
     {
         totals_after(&self.totals, deltas)?;
         Ok(())

@@ -1,10 +1,10 @@
 // What subtrees use.
-ghost use Rattle.std.specs.Prelude.{◌≡◌, [], OnOk, IfOk, IsSomeAnd, IfSome, Some, None, sum_by};
+ghost use Rattle.std.specs.Prelude.{◌≡◌, [], OnOk, IfOk, IsSomeAnd, IfSome, Some, None, is_some, true, sum_by};
 ghost use Rattle.hx_model.specs.Quotas.{charge_below};
 ghost use Rattle.hx_model.specs.State.{after_writes};
 ghost use Rattle.hx_forest.specs.Kept.{changed_by_all};
 ghost use Rattle.hx_quota.specs.Counting.{MayChangeAll, changed_all};
-ghost use Rattle.hx_quota.specs.SubtreeUsage.{IsCounted, MayStage};
+ghost use Rattle.hx_quota.specs.SubtreeUsage.{IsCounted, MayStage, are_told};
 
 use crate::change::CounterChange;
 use crate::changing::make_all;
@@ -84,7 +84,7 @@ impl Usage {
         used_by_walk(store, forest, ns, resource)
     }
 
-    /// Stages what writes change, and the changes of the tree by them, in the place of what was staged before: room is made for it. It is called before either is staged or made, and changes nothing that is counted now.
+    /// Stages what writes change, and the changes of the tree by them, in the place of what was staged before: room is made for it. It is called before either is staged or made, and changes nothing that is counted now. What is told stays counted: one write at most that changes a charge, without a change of the tree, or writes that change no charge, with one change of the tree at most or several that leave all parents. By others the counts are lost.
     pub fn stage(
         &mut self,
         store: &Store,
@@ -96,6 +96,7 @@ impl Usage {
         requires may { MayStage store.now.objects forest.now.nodes writes.now tree.now }
         ensures now { self.new.now ≡ self.old.now }
         ensures next { OnOk result (IsCounted (after_writes writes.now store.now.objects) (changed_by_all tree.now forest.now.nodes) self.new.next) }
+        ensures told { OnOk result (are_told forest.now.nodes writes.now tree.now ≡ true → IfSome self.old.now (λ es. is_some self.new.next ≡ true)) }
     {
         self.discard();
         if !self.counts {

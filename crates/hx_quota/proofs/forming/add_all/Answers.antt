@@ -4,8 +4,8 @@ use Rattle.std.specs.Map.{keys_of}
 use Rattle.std.specs.Str.{bytes_eq}
 use Rattle.hx_quota.specs.declared.entry.Entry.{Entry}
 use Rattle.hx_quota.specs.Counters.{tree_of, AllFit}
-use Rattle.hx_quota.specs.Inside.{entries_from, entries_in}
-use Rattle.hx_quota.specs.Anew.{AllEnd, HasFirst}
+use Rattle.hx_quota.specs.Inside.{entries_from, entries_in, AllEnd}
+use Rattle.hx_quota.specs.Anew.{HasFirst}
 use Rattle.hx_quota.proofs.Placed.{same_keys, same_count}
 use Rattle.hx_quota.proofs.forming.add_all.Goals as goal
 

@@ -1,8 +1,8 @@
 use Rattle.std.specs.Prelude.{◌≡◌}
 use Rattle.std.specs.List.{list_all}
 use Rattle.hx_quota.specs.Counters.{tree_of}
-use Rattle.hx_quota.specs.Inside.{ordered}
-use Rattle.hx_quota.specs.Anew.{ends_up, all_ended}
+use Rattle.hx_quota.specs.Inside.{ordered, ends_up}
+use Rattle.hx_quota.specs.Anew.{all_ended}
 use Rattle.hx_quota.proofs.forming.all_end.Given as goal
 
 -- the walks from those that are left end exactly where all do

@@ -1,8 +1,7 @@
 use Rattle.std.proofs.Common.{rules, ◌≡◌, ◌-◌, ◌<◌, false, Some, None, is_some, option_copied, option_map, sym, ap, ◌∙◌, arith}
 use Rattle.hx_model.specs.Forest.{node_of, is_there}
 use Rattle.hx_quota.specs.Counters.{entry_of, node_for, tree_of}
-use Rattle.hx_quota.specs.Inside.{ordered}
-use Rattle.hx_quota.specs.Anew.{ends_by}
+use Rattle.hx_quota.specs.Inside.{ordered, ends_by}
 use Rattle.hx_quota.proofs.Ending.{ends_on, ends_out, ends_top}
 use Rattle.hx_quota.proofs.Placed.{entry_in, entry_at}
 use Rattle.hx_quota.proofs.Trees.{node_of-tree}

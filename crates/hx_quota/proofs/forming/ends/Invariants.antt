@@ -1,7 +1,6 @@
 use Rattle.std.specs.Prelude.{◌≡◌, option_copied}
 use Rattle.hx_quota.specs.Counters.{tree_of}
-use Rattle.hx_quota.specs.Inside.{ordered}
-use Rattle.hx_quota.specs.Anew.{ends_by, ends_up}
+use Rattle.hx_quota.specs.Inside.{ordered, ends_by, ends_up}
 use Rattle.hx_quota.proofs.forming.ends.Given as goal
 
 -- what is left of the walk ends exactly where the whole does

@@ -1,7 +1,5 @@
-use Rattle.hx_quota.specs.Inside.{entries_of}
-use Rattle.hx_quota.proofs.Fitting.{fits_moved}
+use Rattle.hx_quota.proofs.Shifted.{above_there}
 use Rattle.hx_quota.proofs.counters.Counters.move_subtree.Goals as goal
 
-pub invariant_of-self : goal.invariant_of-self
-invariant_of-self c =
-    (fits_moved (entries_of c.self.inside.ledger) (entries_of c.move_subtree.new.self) c.args.moved.now c.args.parent c.move_subtree.ensures.entries c.self.invariant.0, c.move_subtree.ensures.kept)
+pub move_under-requires-clause-given : goal.move_under-requires-clause-given
+move_under-requires-clause-given c = above_there c.args.self.now.entries c.args.parent c.args.to.now c.requires.to

@@ -2,7 +2,7 @@ use Rattle.std.proofs.Common.{rules, ◌≡◌, ◌∙◌, Some, option_map, sli
 use Rattle.std.specs.Map.Iter.{deref_pair}
 use Rattle.hx_quota.specs.Inside.{place_at}
 use Rattle.hx_quota.proofs.Formed.{parent_is, no_parent}
-use Rattle.hx_quota.proofs.forming.parent_at.Goals as goal
+use Rattle.hx_quota.proofs.climbing.parent_at.Goals as goal
 
 pub returns-in-Some : goal.returns-in-Some
 returns-in-Some c =

@@ -2,7 +2,7 @@ use Rattle.std.proofs.Common.{◌≡◌, ◌∙◌, Some, None, slice_get, ap, s
 use Rattle.std.specs.Map.{values_of}
 use Rattle.std.specs.Option.{option_copied_mut}
 use Rattle.hx_quota.proofs.Indexed.{value_with, none_with}
-use Rattle.hx_quota.proofs.forming.set_sums.Goals as goal
+use Rattle.hx_quota.proofs.climbing.set_sums.Goals as goal
 
 pub returns-in-Some-clause-places : goal.returns-in-Some-clause-places
 returns-in-Some-clause-places c =

@@ -1,0 +1,123 @@
+// Walks up the places by their indices, and sums that are adjusted along them.
+ghost use Rattle.std.specs.Prelude.{◌≡◌, ℕ, ◌≤◌, true, is_some, IfSome, List, slice_get, option_map, option_copied, option_and_then};
+ghost use Rattle.std.specs.List.{IsDistinct};
+ghost use Rattle.std.specs.Map.{keys_of};
+ghost use Rattle.std.specs.Str.{bytes_eq};
+ghost use Rattle.indexmap.specs.IndexMap.{spare};
+ghost use Rattle.hx_model.specs.Forest.{is_in, parent_of, chain_of};
+ghost use Rattle.hx_model.specs.Moves.{chain_from};
+ghost use Rattle.hx_quota.specs.Counters.{entry_of, tree_of, with_parent, AllFit};
+ghost use Rattle.hx_quota.specs.Inside.{entries_in, ordered, place_at, MayAdjust, IsAdjusted, HasUsage, IsFree, IsSummed, AllEnd};
+ghost use Rattle.hx_quota.specs.Anew.{name_at, chain_at, chain_behind, with_sums};
+
+use crate::places::{Change, Place, PlaceMap, adjust};
+use hx_object::Text;
+
+/// Takes the sums of a namespace that gets another parent from the namespaces above it to those above that one. It takes no memory.
+pub(crate) fn take_over(places: &mut PlaceMap, moved: &Text, parent: Option<&Text>)
+    requires there { is_some (entry_of (ordered places.old.entries) moved.now) ≡ true }
+    requires given { IfSome (option_copied parent) (λ p. is_some (entry_of (ordered places.old.entries) p) ≡ true) }
+    requires open { IsFree (tree_of (ordered places.old.entries)) moved.now (option_copied parent) }
+    requires fits { AllFit (ordered places.old.entries) }
+    requires summed { IsSummed (place_at places.old.entries) (ordered places.old.entries) }
+    ensures entries { ordered places.new.entries ≡ ordered places.old.entries }
+    ensures sums { HasUsage places.new.entries (with_parent moved.now (option_copied parent.entry) (ordered places.old.entries)) }
+    ensures room { spare places.old ≤ spare places.new }
+{
+    let Some(at) = index_of(places, moved) else {
+        return;
+    };
+    let Some(sums) = sums_at(places, at) else {
+        return;
+    };
+    let from = parent_index(places, at);
+    let to = index_from(places, parent);
+    let off = Change {
+        take: sums,
+        give: [0; 15],
+    };
+    let on = Change {
+        take: [0; 15],
+        give: sums,
+    };
+    adjust_up(places, from, &off);
+    adjust_up(places, to, &on);
+}
+
+/// Changes the sums of the namespace at an index, and of all above it. It takes no memory.
+pub(crate) fn adjust_up(places: &mut PlaceMap, first: Option<usize>, change: &Change)
+    requires ends { AllEnd (tree_of (ordered places.old.entries)) }
+    requires distinct { IsDistinct bytes_eq (keys_of (entries_in places.old.entries)) }
+    requires may { (q : List ℕ) (p : Place) → is_in q (chain_at (entries_in places.old.entries) first) ≡ true → place_at places.old.entries q ≡ Some p → MayAdjust change.now.take change.now.give p.sums }
+    ensures entries { entries_in places.new.entries ≡ entries_in places.old.entries }
+    ensures sums { (q : List ℕ) → IsAdjusted change.now.take change.now.give (is_in q (chain_at (entries_in places.old.entries) first)) (place_at places.old.entries q) (place_at places.new.entries q) }
+    ensures room { spare places.old ≤ spare places.new }
+{
+    let mut next = first;
+    while let Some(at) = next {
+        let Some(mut sums) = sums_at(places, at) else {
+            return;
+        };
+        adjust(&mut sums, change);
+        set_sums(places, at, sums);
+        next = parent_index(places, at);
+    }
+}
+
+/// The index of the parent of the namespace at an index.
+fn parent_index(places: &PlaceMap, at: usize) -> Option<usize>
+    ensures { chain_at (entries_in places.now.entries) result ≡ chain_behind (entries_in places.now.entries) at }
+{
+    match parent_at(places, at) {
+        Some(parent) => index_of(places, parent),
+        None => None,
+    }
+}
+
+/// Its name.
+fn parent_at(places: &PlaceMap, at: usize) -> Option<&Text>
+    ensures { option_copied result ≡ option_and_then (parent_of (tree_of (ordered places.now.entries))) (name_at (entries_in places.now.entries) at) }
+{
+    match places.get_index(at) {
+        Some((_name, place)) => place.entry.parent.as_ref(),
+        None => None,
+    }
+}
+
+/// The sums of the namespace at an index.
+fn sums_at(places: &PlaceMap, at: usize) -> Option<[u128; 15]>
+    ensures { result ≡ option_map (λ e. e.1.sums) (slice_get places.now.entries at) }
+{
+    match places.get_index(at) {
+        Some((_name, place)) => Some(place.sums),
+        None => None,
+    }
+}
+
+/// Gives the namespace at an index other sums.
+pub(crate) fn set_sums(places: &mut PlaceMap, at: usize, sums: [u128; 15])
+    ensures places { places.new.entries ≡ with_sums at sums places.old.entries }
+    ensures room { spare places.old ≤ spare places.new }
+{
+    if let Some(place) = places.get_index_mut(at) {
+        place.sums = sums;
+    }
+}
+
+/// The index of a namespace.
+pub(crate) fn index_of(places: &PlaceMap, name: &Text) -> Option<usize>
+    ensures chain { chain_at (entries_in places.now.entries) result ≡ chain_of (tree_of (ordered places.now.entries)) name.now }
+    ensures distinct { IsDistinct bytes_eq (keys_of (entries_in places.now.entries)) }
+{
+    places.get_index_of(name)
+}
+
+/// The index of a name that may be none.
+fn index_from(places: &PlaceMap, name: Option<&Text>) -> Option<usize>
+    ensures { chain_at (entries_in places.now.entries) result ≡ chain_from (tree_of (ordered places.now.entries)) (option_copied name.entry) }
+{
+    match name {
+        Some(name) => index_of(places, name),
+        None => None,
+    }
+}
