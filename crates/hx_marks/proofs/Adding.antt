@@ -7,26 +7,22 @@
 --     nothing         none
 --     none_sent       nothing is sent of a kind that isn't propagated
 --     no_kind_marks   where a kind is ignored and propagated as before, nothing is marked
---     by_move         by which way a namespace moves
 use Rattle.std.specs.Prelude.{flat_map, OnOk}
-use Rattle.std.proofs.Common.{◌≡◌, ℕ, Bool, true, false, cond, not, ◌&&◌, Option, None, List, [], ◌∷◌, ◌++◌, ◌+◌, ◌<◌, length, get_or, drop, filter, map, Result, Ok, Err, refl, sym, ap, ◌∙◌, append-nil, if◌then◌else◌}
+use Rattle.std.proofs.Common.{◌≡◌, ℕ, Bool, true, false, cond, not, ◌&&◌, None, List, [], ◌∷◌, ◌++◌, ◌+◌, ◌<◌, length, get_or, drop, filter, map, Result, Ok, Err, refl, sym, ap, ◌∙◌, append-nil, if◌then◌else◌}
 use Rattle.std.proofs.lemmas.Bool.{and_parts}
 use Rattle.std.proofs.lemmas.List.{append_assoc, at_drop_more}
 use Rattle.hx_object.specs.declared.kind.Kind.{Kind}
 use Rattle.hx_object.specs.declared.object.Mode.{Mode}
 use Rattle.hx_object.specs.declared.object.Object.{Object}
 use Rattle.hx_model.specs.Answers.{is_listed}
-use Rattle.hx_model.specs.Cases.{same_name}
 use Rattle.hx_model.specs.Exceptions.{none_of, passes, is_false}
-use Rattle.hx_model.specs.Forest.{Forest, parent_of}
 use Rattle.hx_model.specs.Limits.{is_copy}
 use Rattle.hx_model.specs.Moves.{mode_at}
 use Rattle.hx_model.specs.Propagation.{is_propagated, is_source, stays_home}
 use Rattle.hx_model.specs.State.{State, Objects}
 use Rattle.hx_model.specs.Tree.{forest_of}
 use Rattle.hx_model.specs.TreeLabels.{is_open}
-use Rattle.hx_marks.specs.Before.{move_marks_to, opens_under}
-use Rattle.hx_marks.specs.Law.{apart, copy_marks, differ, is_ignored, is_sent, key_for, kind_marks, listed_in, moved_by, open_below, sent_from, source_marks}
+use Rattle.hx_marks.specs.Law.{apart, copy_marks, differ, is_ignored, is_sent, key_for, kind_marks, listed_in, open_below, sent_from, source_marks}
 
 pub grown : {A T E : Type 0} (r : Result T E) (new old xs ys : List A) → xs ≡ ys → OnOk r (new ≡ old ++ xs) → OnOk r (new ≡ old ++ ys)
 grown (Ok x) new old xs ys same h = h ∙ ap (λ zs. old ++ zs) same
@@ -108,12 +104,3 @@ no_kind_marks s a b kind same =
     sources : (x : Object) → source_marks (forest_of s) a b x ≡ []
     sources x = ap (λ t. if t then map (λ m. key_for m x) (apart (open_below (forest_of s) x.id.ns) (x.id.ns ∷ [])) else [])
         (alike_and (is_propagated a) (is_propagated b) (is_source x && (not (stays_home x) && passes is_false (none_of x))) parts.1)
-
--- ---- which way
-
-pub by_move : (s : State) (f : Forest) (n : List ℕ) (old parent : Option (List ℕ)) (a b : Bool) → f ≡ forest_of s → old ≡ parent_of f n → same_name old parent ≡ false → is_open f n ≡ a → opens_under f n parent ≡ b
-    → moved_by s n old parent a b ≡ move_marks_to s n parent
-by_move s f n old parent a b tree named moves before after =
-    sym (
-    (λ i. if same_name ((sym (named ∙ ap (λ (g : Forest). parent_of g n) tree)) i) parent then [] else moved_by s n ((sym (named ∙ ap (λ (g : Forest). parent_of g n) tree)) i) parent (is_open (forest_of s) n) (opens_under (forest_of s) n parent))
-    ∙ (λ i. if moves i then [] else moved_by s n old parent ((ap (λ (g : Forest). is_open g n) (sym tree) ∙ before) i) ((ap (λ (g : Forest). opens_under g n parent) (sym tree) ∙ after) i)))

@@ -2,7 +2,6 @@
 --     kind_grows, wants_grow     they only become more where the tail of the chain has more members
 --     filter_put                 a filter of objects, where one is put that it drops
 --     wants_put                  they are the same where an object is put that can't be copied
---     all_grow, all_put          the same of all keys of a namespace, where no anchor is put
 use Rattle.std.proofs.Common.{◌≡◌, ℕ, Bool, true, false, cond, ◌&&◌, ◌||◌, Some, None, List, [], ◌∷◌, ◌++◌, map, filter, Less, Equal, Greater, refl, sym, ap, ◌∙◌, inl, inr, true≢false, eqb, eqb-true}
 use Rattle.std.specs.Prelude.{is_some, if◌then◌else◌}
 use Rattle.std.specs.List.{list_any}
@@ -10,9 +9,8 @@ use Rattle.std.specs.Str.{bytes_eq}
 use Rattle.std.specs.FinMap.Entries.{by_order}
 use Rattle.std.proofs.lemmas.Bool.{or_cases, or_left, or_right, false_from_ne_true}
 use Rattle.std.proofs.lemmas.List.Folds.{list_any-append}
-use Rattle.hx_object.specs.Kinds.{number_of, can_be_copied, is_anchor}
+use Rattle.hx_object.specs.Kinds.{number_of, can_be_copied}
 use Rattle.hx_object.specs.Order.{id_cmp}
-use Rattle.hx_object.specs.declared.kind.Kind.TheVariants.{SubnamespaceAnchor}
 use Rattle.hx_object.specs.declared.kind.Kind.{Kind}
 use Rattle.hx_object.specs.declared.object.Object.{Object}
 use Rattle.hx_model.specs.Answers.{is_listed}
@@ -23,11 +21,10 @@ use Rattle.hx_model.specs.Modes.{config_id, mode_in}
 use Rattle.hx_model.specs.Moves.{mode_at, copied_kinds}
 use Rattle.hx_model.specs.State.{Objects, object_at, same_id, put}
 use Rattle.hx_model.specs.declared.key.Key.{Key}
-use Rattle.hx_model.specs.declared.key.Key.TheVariants as key
 use Rattle.hx_model.proofs.Objects.{same_kind, same_from_Equal}
-use Rattle.hx_marks.specs.Law.{is_ignored, is_sent, listed_in, sent_from, key_for, wants_of_kind, wants_of, child_keys, all_of}
+use Rattle.hx_marks.specs.Law.{is_ignored, is_sent, listed_in, sent_from, key_for, wants_of_kind, wants_of}
 use Rattle.hx_marks.proofs.Among.{among_flat_map, among_map, found_name, passing_name, found_kind, passing_kind}
-use Rattle.hx_marks.proofs.Wanting.{any_flat_map, all_parts, all_wants, all_children}
+use Rattle.hx_marks.proofs.Wanting.{any_flat_map}
 
 -- ---- more members
 
@@ -105,28 +102,3 @@ module _ (objects : Objects) (x : Object) (uncopied : can_be_copied x.id.kind �
     where
       same : (kind : Kind) → can_be_copied kind ≡ true → wants_of_kind (put x objects) chain m kind ≡ wants_of_kind objects chain m kind
       same kind copied = λ i. if is_ignored (mode_in (modes i) kind) then [] else map (key_for m) (sent_put kind (tail_of chain) copied i ++ filter is_copy (listed_put kind m copied i))
-
--- ---- all keys
-
--- the keys of the subnamespaces are the same, whatever the chain
-pub all_grow : (objects : Objects) (small big : List (List ℕ)) (within : (a : List ℕ) → is_in a (tail_of small) ≡ true → is_in a (tail_of big) ≡ true) (m : List ℕ) (k : Key) → is_among k (all_of objects small m) ≡ true → is_among k (all_of objects big m) ≡ true
-all_grow objects small big within m k h = elim (all_parts objects small m k h) [
-  | inl tree ↦ or_left (same_key k (key.Tree m)) _ tree
-  | inr (inl copy) ↦ all_wants objects big m k (wants_grow objects small big within m k copy)
-  | inr (inr child) ↦ all_children objects big m k child
-]
-
--- and where no anchor is put
-pub all_put : (objects : Objects) (x : Object) (uncopied : can_be_copied x.id.kind ≡ false) (absent : object_at objects x.id ≡ None) (modes : object_at (put x objects) config_id ≡ object_at objects config_id) → is_anchor x.id.kind ≡ false
-    → (chain : List (List ℕ)) (m : List ℕ) (k : Key) → is_among k (all_of (put x objects) chain m) ≡ true → is_among k (all_of objects chain m) ≡ true
-all_put objects x uncopied absent modes other chain m k h = elim (all_parts (put x objects) chain m k h) [
-  | inl tree ↦ or_left (same_key k (key.Tree m)) _ tree
-  | inr (inl copy) ↦ all_wants objects chain m k (wants_put objects x uncopied absent modes chain m k copy)
-  | inr (inr child) ↦ all_children objects chain m k (ap (is_among k) (sym same) ∙ child)
-]
-  where
-    apart : eqb (number_of SubnamespaceAnchor) (number_of x.id.kind) ≡ false
-    apart = false_from_ne_true (eqb (number_of SubnamespaceAnchor) (number_of x.id.kind)) (λ h. true≢false (ap is_anchor (same_kind SubnamespaceAnchor x.id.kind (eqb-true _ _ h)) ∙ other))
-
-    same : child_keys (put x objects) m ≡ child_keys objects m
-    same = ap (map (λ (y : Object). key.Child m y.id.name)) (filter_put (is_listed SubnamespaceAnchor (Some m)) x objects (ap (λ b. b && bytes_eq x.id.ns m) apart) absent)

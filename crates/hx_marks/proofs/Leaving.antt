@@ -5,15 +5,14 @@
 --     leaving_stay          so do those that are on their way out
 --     child_stays, anchored_stays   and the keys of anchors, where none is written
 --     report_stays          and the reports, where no HierarchyConfiguration is written either
---     marks_inside          what lies in a namespace marks the removal of its namespace, too
 --     marks_by_modes, marks_by_kept    it marks by the modes, or by the object with the removal of its namespace
-use Rattle.std.proofs.Common.{◌≡◌, ℕ, false, cond, Option, None, List, [], ◌∷◌, refl, sym, ap, ◌∙◌, true≢false, ◌++◌, true, ◌&&◌}
+use Rattle.std.proofs.Common.{◌≡◌, ℕ, false, cond, Option, None, List, [], ◌∷◌, refl, sym, ap, ◌∙◌, true≢false, ◌++◌, true}
 use Rattle.std.specs.Prelude.{is_none, is_some}
 use Rattle.std.specs.Cmp.{tied_itself}
 use Rattle.std.specs.Str.{bytes_eq}
 use Rattle.std.proofs.lemmas.Bool.{and_parts, false_from_ne_true}
 use Rattle.std.proofs.lemmas.List.{append-nil}
-use Rattle.hx_object.specs.Kinds.{is_namespace, is_hierarchy, is_anchor, is_in_cluster}
+use Rattle.hx_object.specs.Kinds.{is_namespace, is_hierarchy, is_anchor}
 use Rattle.hx_object.specs.WellKnown.{config}
 use Rattle.hx_object.specs.declared.kind.Kind.{Kind}
 use Rattle.hx_object.specs.declared.kind.Kind.TheVariants as of
@@ -35,7 +34,7 @@ use Rattle.hx_model.specs.declared.key.Write.TheVariants.{Put, Cut}
 use Rattle.hx_model.proofs.Displacing.{KeepsOthers, put_keeps, cut_keeps}
 use Rattle.hx_model.proofs.Objects.{id_total, is_same_id, same_from_Equal, object_at-cut, found_again}
 use Rattle.hx_model.proofs.Planting.{forest-put, forest-cut}
-use Rattle.hx_marks.specs.Law.{namespace_marks, namespace_reports, hierarchy_reports, report_marks, move_marks, mode_marks, object_marks, is_modes, object_written, inner_marks, anchor_marks, leaving_keys, is_config_kind}
+use Rattle.hx_marks.specs.Law.{namespace_marks, namespace_reports, hierarchy_reports, move_marks, mode_marks, object_marks, is_modes, object_written, inner_marks, anchor_marks, leaving_keys, is_config_kind}
 use Rattle.hx_marks.specs.Reports.{anchored_reports}
 use Rattle.hx_marks.proofs.Frames.{KeepsLeast, put_least, cut_least, same_child, same_status, status_stays}
 use Rattle.hx_marks.proofs.Parts.{marks_beside}
@@ -145,23 +144,3 @@ pub marks_by_kept : (s : State) (write : Write) → is_namespace (id_written wri
 marks_by_kept s write namespace hierarchical modes =
     marks_are s write namespace hierarchical
     ∙ ap (λ b. cond b (mode_marks s (object_at s.objects (id_written write)) (object_written write)) (kept_marks s write ++ leaving_keys (forest_of s) (id_written write).ns) ++ kept_reports s write) modes
-
--- whatever lies in a namespace marks the removal of its namespace, too
-pub marks_inside : (s : State) (write : Write) → is_in_cluster (id_written write).kind ≡ false
-    → marks_beside s write ≡ (inner_marks s (state_after s (write ∷ [])) (id_written write) (object_at s.objects (id_written write)) (object_written write) ++ leaving_keys (forest_of s) (id_written write).ns)
-    ++ report_marks s (state_after s (write ∷ [])) (id_written write) (object_at s.objects (id_written write)) (object_written write)
-marks_inside s write inside =
-    let t = state_after s (write ∷ []) in
-    let old = object_at s.objects (id_written write) in
-    let inner = inner_marks s t (id_written write) old (object_written write) ++ leaving_keys (forest_of s) (id_written write).ns in
-    let reports = report_marks s t (id_written write) old (object_written write) in
-    ap (λ b. cond b (namespace_marks s t (id_written write).name old (object_written write)) (cond (is_modes (id_written write)) (mode_marks s old (object_written write)) inner) ++ reports) (no_namespace (id_written write).kind inside)
-    ∙ ap (λ b. cond (b && bytes_eq (id_written write).name config) (mode_marks s old (object_written write)) inner ++ reports) (no_config (id_written write).kind inside)
-  where
-    no_namespace : (kind : Kind) → is_in_cluster kind ≡ false → is_namespace kind ≡ false
-    no_namespace of.Namespace h = absurd (true≢false h)
-    no_namespace _ h = refl
-
-    no_config : (kind : Kind) → is_in_cluster kind ≡ false → is_config_kind kind ≡ false
-    no_config of.HncConfiguration h = absurd (true≢false h)
-    no_config _ h = refl

@@ -59,6 +59,7 @@ pub mod TakingPart
 pub mod Searching
 pub mod Reading
 pub mod Adding
+pub mod Placing
 pub mod Promising
 pub mod Regular
 pub mod Sending

@@ -4,14 +4,12 @@
 --     copy_write_known, tree_write_known
 --     IsChildWrite, IsStatusWrite, IsUsedWrite, IsRemovalWrite     of a subnamespace, of an anchor's status, of a quota's, and of a removal
 --     child_write_known, status_write_known, used_write_known, removal_write_known
---     removal_marked              the write of a removal marks its key again
 --     fresh_satisfies             for all keys but those of removals, which take one object after the other
-use Rattle.std.proofs.Common.{◌≡◌, ℕ, ◌+◌, Bool, true, false, cond, not, Option, Some, None, List, [], ◌∷◌, ◌++◌, map, ◌⊎◌, inl, inr, refl, sym, ap, ◌∙◌, subst, true≢false, option_map}
-use Rattle.std.specs.Prelude.{is_some, if◌then◌else◌}
+use Rattle.std.proofs.Common.{◌≡◌, ℕ, ◌+◌, Bool, true, false, cond, not, Option, Some, None, List, [], ◌∷◌, map, ◌⊎◌, inl, inr, refl, sym, ap, ◌∙◌, subst, true≢false}
+use Rattle.std.specs.Prelude.{is_some}
 use Rattle.std.specs.Cmp.{tied_itself}
-use Rattle.std.specs.Str.{bytes_eq}
-use Rattle.std.proofs.lemmas.Bool.{false_from_ne_true, and_parts, or_left, or_right, not-true}
-use Rattle.hx_object.specs.Kinds.{can_be_copied, is_namespace, is_hierarchy, is_in_cluster, is_plain}
+use Rattle.std.proofs.lemmas.Bool.{false_from_ne_true}
+use Rattle.hx_object.specs.Kinds.{can_be_copied, is_namespace, is_hierarchy, is_plain}
 use Rattle.hx_object.specs.declared.kind.Kind.{Kind}
 use Rattle.hx_object.specs.declared.kind.Kind.TheVariants as of
 use Rattle.hx_object.specs.declared.object.Id.{Id}
@@ -26,12 +24,11 @@ use Rattle.hx_model.specs.Charges.{hard_of}
 use Rattle.hx_model.specs.First.{so}
 use Rattle.hx_model.specs.Forest.{is_in, in_chain, chain_of, tail_of, is_live}
 use Rattle.hx_model.specs.Hands.{versioned}
-use Rattle.hx_model.specs.Keys.{is_among}
 use Rattle.hx_model.specs.Limits.{is_copy}
 use Rattle.hx_model.specs.Modes.{config_id, mode_in, mode_of}
 use Rattle.hx_model.specs.Propagation.{copy_of, goes_to, id_in, sources_along, sources_above, top_source}
 use Rattle.hx_model.specs.Quotas.{used}
-use Rattle.hx_model.specs.State.{State, Objects, object_at, put, same_id, namespace_id, with_version, ascends, after_writes, state_after, least_in}
+use Rattle.hx_model.specs.State.{State, Objects, object_at, put, same_id, namespace_id, with_version, ascends, after_writes, state_after}
 use Rattle.hx_model.specs.Subnamespaces.{anchor_id}
 use Rattle.hx_model.specs.Tree.{forest_in, forest_of}
 use Rattle.hx_model.specs.TreeLabels.{is_open, prescribed_labels}
@@ -43,24 +40,18 @@ use Rattle.hx_model.specs.declared.key.Key.TheVariants as key
 use Rattle.hx_model.specs.declared.key.Write.{Write}
 use Rattle.hx_model.specs.declared.key.Write.TheVariants.{Put, Cut}
 use Rattle.hx_model.specs.declared.resource.Resource.{Resource}
-use Rattle.hx_model.proofs.Climbing.{is_same}
 use Rattle.hx_model.proofs.Conflicting.{head_out}
 use Rattle.hx_model.proofs.Objects.{id_total, is_same_id, same_from_Equal, object_at-put, object_at-cut, found_again, found_id}
 use Rattle.hx_model.proofs.Planting.{forest-put, forest-cut}
 use Rattle.hx_model.proofs.Writes.{ascends_after}
-use Rattle.hx_marks.proofs.Among.{among_here, among_append}
-use Rattle.hx_marks.proofs.Frames.{taken_child, status_stays, least_lies}
-use Rattle.hx_marks.proofs.Leaving.{marks_inside}
-use Rattle.hx_marks.proofs.Parts.{among_parts, marks_beside, usage_by}
+use Rattle.hx_marks.proofs.Frames.{taken_child, status_stays}
 use Rattle.hx_marks.proofs.Prescribing.{prescribed_again, chain_keys}
-use Rattle.hx_marks.proofs.Replacing.{valid_served, sources_same, copied_leaf, tree_by, leaving_found}
+use Rattle.hx_marks.proofs.Replacing.{valid_served, sources_same, copied_leaf, tree_by}
 use Rattle.hx_marks.proofs.ReportWrites.{report_satisfied, report_write_known}
 use Rattle.hx_marks.proofs.Settling.{stands_placed}
 use Rattle.hx_marks.proofs.UsageFrames.{sums_stay}
 use Rattle.hx_marks.proofs.UsageTree.{used_alike}
 use Rattle.hx_marks.proofs.Wanting.{along_found, wants_copied}
-use Rattle.hx_marks.specs.Law.{namespace_marks, namespace_reports, asking_keys, inner_marks, leaving_keys, marks_of, report_marks}
-use Rattle.hx_marks.specs.Reports.{removed_reports}
 
 some_is : {A : Type 0} (a b : A) → Some a ≡ Some b → a ≡ b
 some_is a b e = cc
@@ -365,37 +356,6 @@ used_satisfied s n m write version valid known =
     ∙ (λ i. used_write (is_live (tree i) n) (sums_of t n (found i)) (found i))
     ∙ ap (λ b. used_write b (sums_of t n (Some y)) (Some y)) known.live
     ∙ stands_placed (with_sums (sums_of t n (Some y)) y) y (λ i. record y { payload = told i; version = 0 })
-
--- ---- after a write of a removal
-
--- its own write marks it: there may be more to go
-pub removal_marked : (s : State) (n : List ℕ) (write : Write) (version : ℕ) → IsValid s → IsRemovalWrite s n write → is_among (key.Purge n) (marks_of s (versioned version write)) ≡ true
-removal_marked s n write version valid known = by (least_in s.objects n) refl
-  where
-    marks : (o : Option Object) → least_in s.objects n ≡ o → marks_of s (versioned version write) ≡ marks_of s (Cut (next_to_go (option_map (λ (x : Object). x.id) o) n))
-    marks o is = ap (λ w. marks_of s (versioned version w)) known.cuts ∙ ap (λ (o : Option Object). marks_of s (Cut (next_to_go (option_map (λ (x : Object). x.id) o) n))) is
-
-    -- it is marked whatever quotas tell
-    beside : (w : Write) → is_among (key.Purge n) (marks_beside s w) ≡ true → is_among (key.Purge n) (marks_of s w) ≡ true
-    beside w mem = among_parts s w (key.Purge n) ∙ or_left (is_among (key.Purge n) (marks_beside s w)) (is_among (key.Purge n) (usage_by s w)) mem
-
-    by : (o : Option Object) → least_in s.objects n ≡ o → is_among (key.Purge n) (marks_of s (versioned version write)) ≡ true
-    by None empty =
-        let found = leaving_found s valid n known.leaves in
-        let t = state_after s (Cut (namespace_id n) ∷ []) in
-        ap (is_among (key.Purge n)) (marks None empty)
-        ∙ beside (Cut (namespace_id n)) (ap (is_among (key.Purge n)) (ap (λ o. namespace_marks s t n o None ++ namespace_reports s t n o None) found.1) ∙ among_here (key.Purge n) (asking_keys s.objects n ++ removed_reports (forest_of s) n))
-    by (Some x) first =
-        let parts = and_parts (not (is_in_cluster x.id.kind)) (bytes_eq n x.id.ns) (least_lies s.objects n x first) in
-        let inner = inner_marks s (state_after s (Cut x.id ∷ [])) x.id (object_at s.objects x.id) None in
-        let here : is_among (key.Purge n) (leaving_keys (forest_of s) x.id.ns) ≡ true =
-        ap (λ a. is_among (key.Purge n) (leaving_keys (forest_of s) a)) (sym (is_same n x.id.ns parts.1)) ∙ ap (λ b. is_among (key.Purge n) (if b then key.Purge n ∷ [] else [])) known.leaves ∙ among_here (key.Purge n) [] in
-        let reports = report_marks s (state_after s (Cut x.id ∷ [])) x.id (object_at s.objects x.id) None in
-        ap (is_among (key.Purge n)) (marks (Some x) first)
-        ∙ beside (Cut x.id)
-        (ap (is_among (key.Purge n)) (marks_inside s (Cut x.id) (not-true (is_in_cluster x.id.kind) parts.0))
-        ∙ among_append (key.Purge n) (inner ++ leaving_keys (forest_of s) x.id.ns) reports
-        ∙ or_left _ (is_among (key.Purge n) reports) (among_append (key.Purge n) inner (leaving_keys (forest_of s) x.id.ns) ∙ or_right (is_among (key.Purge n) inner) _ here))
 
 -- ---- once it is made
 

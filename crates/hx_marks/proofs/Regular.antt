@@ -1,6 +1,5 @@
 -- The writes of a request and of a key are one, or each ends something.
 --     regular_request   the writes of each ask, in a state whose objects are in order
---     regular_key       the write of a key, or none
 use Rattle.std.proofs.Common.{◌≡◌, ℕ, ◌+◌, Bool, true, false, cond, not, ◌&&◌, Option, Some, None, List, [], ◌∷◌, map, filter, refl, sym, ap, ◌∙◌, inl, inr, true≢false}
 use Rattle.std.specs.Prelude.{is_some, if◌then◌else◌}
 use Rattle.std.specs.Cmp.{tied_itself}
@@ -10,12 +9,10 @@ use Rattle.hx_object.specs.Kinds.{is_namespace, is_anchor}
 use Rattle.hx_object.specs.declared.object.Id.{Id}
 use Rattle.hx_object.specs.declared.object.Object.{Object}
 use Rattle.hx_model.specs.Answers.{same_object, replaced_by, replacing, begins_to_leave, ended, ending, is_ended, owns_named, deleting, writes_of}
-use Rattle.hx_model.specs.Hands.{writes_for, versioned}
 use Rattle.hx_model.specs.State.{State, Objects, object_at, ascends, is_below_all, same_id, with_version}
 use Rattle.hx_model.specs.Tree.{is_terminating, namespaces_in}
 use Rattle.hx_model.specs.declared.ask.Ask.{Ask}
 use Rattle.hx_model.specs.declared.ask.Ask.TheVariants.{Get, List as ListOf, Create, Replace, Delete}
-use Rattle.hx_model.specs.declared.key.Write.{Write}
 use Rattle.hx_model.specs.declared.key.Write.TheVariants.{Put, Cut}
 use Rattle.hx_model.proofs.Objects.{id_total, is_same_id, same_from_Equal, none_below}
 use Rattle.hx_marks.specs.Halves.{IsEndingWrite, IsRegular}
@@ -91,9 +88,3 @@ regular_request s (ListOf kind ns selector) up = inr tt
 regular_request s (Create x skip) up = inl (Put (with_version x (s.last + 1)), refl)
 regular_request s (Replace x expected skip) up = regular_replacing s (object_at s.objects x.id) x (s.last + 1)
 regular_request s (Delete id skip) up = regular_deletion s id skip up
-
--- ---- keys
-
-pub regular_key : (s : State) (write : Option Write) → IsRegular s (writes_for s write)
-regular_key s None = inr tt
-regular_key s (Some write) = inl (versioned (s.last + 1) write, refl)

@@ -3,21 +3,20 @@
 --     guards_for          so do the guards of a key that wants a write
 --     met_then            guards of a key's identities that are met stay so, where the key rests on the same versions
 --     covered_next        each key that wants something waits, was marked again, or wants the same as before
---     let_go_covered      a hand whose key wants nothing is let go
---     taken_covered       a worker takes a key
---     guards_taken, guards_let_go     that hands rest on the identities of their keys is kept
-use Rattle.std.proofs.Common.{◌≡◌, ◌≢◌, ℕ, Bool, true, false, cond, not, ◌==◌, Option, Some, None, List, [], ◌∷◌, map, option_map, ◌⊎◌, inl, inr, refl, sym, ap, ◌∙◌, subst, true≢false, eqb, eq-eqb, eqb-true}
-use Rattle.std.specs.Prelude.{is_some, if◌then◌else◌}
+--     fresh_met           the guards of a key are met in the state that they are of
+--     taken_guards        the hand of a worker that takes a key rests on the identities of its key
+use Rattle.std.proofs.Common.{◌≡◌, ◌≢◌, ℕ, Bool, true, false, ◌==◌, Option, Some, None, List, [], ◌∷◌, map, option_map, ◌⊎◌, inl, inr, refl, sym, ap, ◌∙◌, subst, eq-eqb}
+use Rattle.std.specs.Prelude.{if◌then◌else◌}
 use Rattle.std.specs.Cmp.{tied_itself}
 use Rattle.std.specs.List.{AllByRecursion}
 use Rattle.std.specs.Option.{option_eq}
-use Rattle.std.proofs.lemmas.Bool.{and_parts, and_from, cases_Bool}
+use Rattle.std.proofs.lemmas.Bool.{and_parts, and_from}
 use Rattle.hx_object.specs.declared.object.Id.{Id}
 use Rattle.hx_object.specs.declared.object.Object.{Object}
 use Rattle.hx_model.specs.Cases.{is_leaving}
 use Rattle.hx_model.specs.Covered.{IsHeldWell, IsCovered, IsSameFor}
-use Rattle.hx_model.specs.Hands.{Hand, hand_at, hand_of, without_hand, is_met, are_met}
-use Rattle.hx_model.specs.Keys.{same_key, is_among}
+use Rattle.hx_model.specs.Hands.{Hand, hand_at, hand_of, is_met, are_met}
+use Rattle.hx_model.specs.Keys.{is_among}
 use Rattle.hx_model.specs.Propagation.{id_in}
 use Rattle.hx_model.specs.State.{State, object_at, namespace_id, same_id, least_in}
 use Rattle.hx_model.specs.Subnamespaces.{anchor_id}
@@ -29,7 +28,6 @@ use Rattle.hx_model.specs.declared.key.Key.TheVariants as key
 use Rattle.hx_model.specs.declared.key.Write.{Write}
 use Rattle.hx_model.specs.declared.key.Write.TheVariants.{Cut}
 use Rattle.hx_model.proofs.Objects.{id_total, same_from_Equal}
-use Rattle.hx_marks.proofs.Among.{same_key_is}
 use Rattle.hx_marks.proofs.Frames.{least_lies, lies_apart}
 
 -- ---- guards
@@ -154,43 +152,6 @@ covered_next s t hands waiting again new_waiting new_again all wait_on mark_on e
       ]
 ]
 
--- ---- a hand that is let go
-
--- another worker's hand stays
-other_hand : (worker : ℕ) (gone : ℕ) (hands : List Hand) → eqb worker gone ≡ false → hand_of worker (without_hand gone hands) ≡ hand_of worker hands
-other_hand worker gone [] off = refl
-other_hand worker gone (h ∷ hands) off =
-    elim (eqb h.worker gone) as (λ b. eqb h.worker gone ≡ b → hand_of worker (cond (not b) (h ∷ without_hand gone hands) (without_hand gone hands)) ≡ cond (eqb h.worker worker) (Some h) (hand_of worker hands)) [
-      | true ↦ λ is. other_hand worker gone hands off ∙ ap (λ b. cond b (Some h) (hand_of worker hands)) (sym (apart is))
-      | false ↦ λ _. ap (λ o. cond (eqb h.worker worker) (Some h) o) (other_hand worker gone hands off)
-    ] refl
-  where
-    apart : eqb h.worker gone ≡ true → eqb h.worker worker ≡ false
-    apart is = elim (cases_Bool (eqb h.worker worker)) [
-      | inr off ↦ off
-      | inl is_one ↦ absurd (true≢false (sym (eq-eqb worker gone (sym (eqb-true _ _ is_one) ∙ eqb-true _ _ is)) ∙ off))
-    ]
-
--- a hand whose key wants nothing is let go
-pub let_go_covered : (s : State) (hands : List Hand) (waiting again : List Key) (worker : ℕ) (hand : Hand) → hand_of worker hands ≡ Some hand → wanted_write s hand.key ≡ None
-    → IsCovered s hands waiting again → IsCovered s (without_hand worker hands) waiting again
-let_go_covered s hands waiting again worker hand at none covered k wants = elim (covered k wants) [
-  | inl waits ↦ inl waits
-  | inr (inl marked) ↦ inr (inl marked)
-  | inr (inr (other, there, is, fresh)) ↦
-      let off : eqb other.worker worker ≡ false = apart other there is in
-      inr (inr (other, other_hand other.worker worker hands off ∙ there, is, fresh))
-]
-  where
-    apart : (other : Hand) → hand_of other.worker hands ≡ Some other → other.key ≡ k → eqb other.worker worker ≡ false
-    apart other there is = elim (cases_Bool (eqb other.worker worker)) [
-      | inr off ↦ off
-      | inl is_one ↦
-          let same : Some other ≡ Some hand = sym there ∙ ap (λ w. hand_of w hands) (eqb-true _ _ is_one) ∙ at in
-          let one : other ≡ hand = cc in
-          absurd (wants (ap (wanted_write s) (sym is ∙ ap (λ (h : Hand). h.key) one) ∙ none))
-    ]
-
 -- ---- a key that is taken
 
 met_itself : (o : Option ℕ) → option_eq (λ a b. a == b) o o ≡ true
@@ -205,47 +166,6 @@ all_met s (g ∷ guards) told = and_from (is_met s g) (are_met s guards) (ap (λ
 pub fresh_met : (s : State) (k : Key) → are_met s (guards_of s k) ≡ true
 fresh_met s k = all_met s (guards_of s k) (telling s k)
 
--- a worker that holds nothing takes a key, which needn't wait any more
-pub taken_covered : (s : State) (hands : List Hand) (waiting again new_waiting : List Key) (worker : ℕ) (k : Key) → hand_of worker hands ≡ None
-    → ((q : Key) → is_among q waiting ≡ true → same_key q k ≡ false → is_among q new_waiting ≡ true) → IsCovered s hands waiting again → IsCovered s (hand_at s worker k ∷ hands) new_waiting again
-taken_covered s hands waiting again new_waiting worker k free wait_on covered q wants = elim (cases_Bool (same_key q k)) [
-  | inl is ↦ inr (inr (hand_at s worker k, ap (λ b. cond b (Some (hand_at s worker k)) (hand_of worker hands)) (eq-eqb worker worker refl), sym (same_key_is q k is), record { wanted = refl; met = fresh_met s k }))
-  | inr other ↦ elim (covered q wants) [
-    | inl waits ↦ inl (wait_on q waits other)
-    | inr (inl marked) ↦ inr (inl marked)
-    | inr (inr (hand, there, is, fresh)) ↦ inr (inr (hand, ap (λ b. cond b (Some (hand_at s worker k)) (hand_of hand.worker hands)) (apart hand there) ∙ there, is, fresh))
-  ]
-]
-  where
-    apart : (hand : Hand) → hand_of hand.worker hands ≡ Some hand → eqb worker hand.worker ≡ false
-    apart hand there = elim (cases_Bool (eqb worker hand.worker)) [
-      | inr off ↦ off
-      | inl is_one ↦ absurd (true≢false (ap is_some (sym there ∙ ap (λ w. hand_of w hands) (sym (eqb-true _ _ is_one)) ∙ free)))
-    ]
-
--- ---- that hands rest on the identities of their keys
-
--- so does the hand of a worker that takes a key
+-- the hand of a worker that takes a key rests on the identities of its key
 pub taken_guards : (s : State) (worker : ℕ) (k : Key) → HasItsGuards (hand_at s worker k)
 taken_guards s worker k wants = guards_for s k wants
-
-pub guards_taken : (s : State) (hands : List Hand) (worker : ℕ) (k : Key) → HaveTheirGuards hands → HaveTheirGuards (hand_at s worker k ∷ hands)
-guards_taken s hands worker k all hand at =
-    elim (eqb worker hand.worker) as (λ b. cond b (Some (hand_at s worker k)) (hand_of hand.worker hands) ≡ Some hand → HasItsGuards hand) [
-      | true ↦ λ e. subst HasItsGuards (let same : hand_at s worker k ≡ hand = cc in same) (taken_guards s worker k)
-      | false ↦ λ e. all hand e
-    ] at
-
-none_left : (worker : ℕ) (hands : List Hand) → hand_of worker (without_hand worker hands) ≡ None
-none_left worker [] = refl
-none_left worker (h ∷ hands) =
-    elim (eqb h.worker worker) as (λ b. eqb h.worker worker ≡ b → hand_of worker (cond (not b) (h ∷ without_hand worker hands) (without_hand worker hands)) ≡ None) [
-      | true ↦ λ _. none_left worker hands
-      | false ↦ λ off. ap (λ b. cond b (Some h) (hand_of worker (without_hand worker hands))) off ∙ none_left worker hands
-    ] refl
-
-pub guards_let_go : (hands : List Hand) (worker : ℕ) → HaveTheirGuards hands → HaveTheirGuards (without_hand worker hands)
-guards_let_go hands worker all hand at = elim (cases_Bool (eqb hand.worker worker)) [
-  | inr off ↦ all hand (sym (other_hand hand.worker worker hands off) ∙ at)
-  | inl is_one ↦ absurd (true≢false (ap is_some (sym at ∙ ap (λ w. hand_of w (without_hand worker hands)) (eqb-true _ _ is_one) ∙ none_left worker hands)))
-]

@@ -5,3 +5,5 @@ pub mod Law
 pub mod Before
 pub mod Halves
 pub mod Senders
+pub mod Reads
+pub mod Moving

@@ -4,71 +4,69 @@ ghost use Rattle.std.specs.Str.{bytes_eq};
 ghost use Rattle.hx_object.specs.WellKnown.{config as config_name};
 ghost use Rattle.hx_model.specs.Tree.{forest_of, parent_with};
 ghost use Rattle.hx_model.specs.declared.key.Key.TheVariants as key;
-ghost use Rattle.hx_marks.specs.Before.{hierarchy_marks, hierarchy_reports_by, marks_before_by, move_marks_to, namespace_marks_by, namespace_reports_by, place_reports_to, state_of};
+ghost use Rattle.hx_marks.specs.Before.{hierarchy_marks, hierarchy_reports_by, marks_before_by, move_marks_to, namespace_marks_by, namespace_reports_by, place_reports_to};
+ghost use Rattle.hx_marks.specs.Moving.{moved_marks_to};
+ghost use Rattle.hx_marks.specs.Reads.{state_in};
 ghost use Rattle.hx_marks.specs.Law.{anchor_keys, begins_to_end, created_marks, ending_marks, label_marks, leaving_keys, mode_marks, object_marks, removed_marks};
-ghost use Rattle.hx_marks.specs.Reports.{anchored_reports, created_reports, ending_reports, removed_reports};
+ghost use Rattle.hx_marks.specs.Reports.{anchored_reports, created_reports, ending_reports, removed_reports, report_keys};
 ghost use Rattle.hx_marks.specs.Usage.{charged_usage, created_usage, hierarchy_usage, moved_usage, namespace_usage, removed_usage};
 
 use crate::anchors::{anchor_keys, leaving_keys};
+use crate::current::Current;
 use crate::lookups::object_in;
 use crate::modes::mode_marks;
-use crate::moves::move_marks;
+use crate::moves::{move_marks, opens_under};
 use crate::namespaces::{created_marks, ending_marks, removed_marks};
 use crate::objects::object_marks;
 use crate::reports::{
-    anchored_reports, created_reports, ending_reports, placed_reports, removed_reports,
+    anchored_reports, created_reports, ending_reports, moved_reports, removed_reports, report_key,
 };
 use crate::usage::{charged_usage, created_usage, moved_usage, push_usage, removed_usage};
 use crate::wants::known_of;
 use hx_forest::Forest;
-use hx_model::{Key, RunConfig, is_terminating, parent_by};
+use hx_model::{Key, is_same_name, is_terminating, parent_by};
 use hx_object::well_known::{CONFIG, HIERARCHY};
 use hx_object::{Id, Kind, NoMemory, Object, Text};
-use hx_store::Store;
 
 /// Marks what a write can change by itself.
 pub(crate) fn marks_by(
-    store: &Store,
-    forest: &Forest,
-    config: &RunConfig,
+    current: &Current,
     id: &Id,
     old: Option<&Object>,
     new: Option<&Object>,
     keys: &mut Vec<Key>,
 ) -> Result<(), NoMemory>
-    requires tree { forest.now.nodes ≡ forest_of (state_of store.now config.now) }
-    ensures { OnOk result (keys.new.items ≡ keys.old.items ++ marks_before_by (state_of store.now config.now) id.now (option_copied old.entry) (option_copied new.entry)) }
+    ensures { OnOk result (keys.new.items ≡ keys.old.items ++ marks_before_by (state_in current.now) id.now (option_copied old.entry) (option_copied new.entry)) }
 {
     match id.kind {
-        Kind::Namespace => namespace_marks(store, forest, config, &id.name, old, new, keys),
-        Kind::HierarchyConfiguration => hierarchy_marks(store, forest, config, id, new, keys),
-        Kind::SubnamespaceAnchor => anchor_marks(store, forest, config, id, old, new, keys),
-        Kind::HncConfiguration => config_marks(store, forest, config, id, old, new, keys),
-        Kind::HierarchicalResourceQuota => quota_marks(forest, id, keys),
-        _ => inner_marks(store, forest, config, id, old, new, keys),
+        Kind::Namespace => namespace_marks(current, &id.name, old, new, keys),
+        Kind::HierarchyConfiguration => hierarchy_marks(current, id, new, keys),
+        Kind::SubnamespaceAnchor => anchor_marks(current, id, old, new, keys),
+        Kind::HncConfiguration => config_marks(current, id, old, new, keys),
+        Kind::HierarchicalResourceQuota => quota_marks(current.forest, id, keys),
+        _ => inner_marks(current, id, old, new, keys),
     }
 }
 
 /// Marks what a namespace touches that is replaced, begins to leave, goes, or is made.
 fn namespace_marks(
-    store: &Store,
-    forest: &Forest,
-    config: &RunConfig,
+    current: &Current,
     name: &Text,
     old: Option<&Object>,
     new: Option<&Object>,
     keys: &mut Vec<Key>,
 ) -> Result<(), NoMemory>
-    requires tree { forest.now.nodes ≡ forest_of (state_of store.now config.now) }
-    ensures { OnOk result (keys.new.items ≡ keys.old.items ++ (namespace_marks_by (state_of store.now config.now) name.now (option_copied old.entry) (option_copied new.entry) ++ (namespace_reports_by (state_of store.now config.now) name.now (option_copied old.entry) (option_copied new.entry) ++ namespace_usage (state_of store.now config.now) name.now (option_copied old.entry) (option_copied new.entry)))) }
+    ensures { OnOk result (keys.new.items ≡ keys.old.items ++ (namespace_marks_by (state_in current.now) name.now (option_copied old.entry) (option_copied new.entry) ++ (namespace_reports_by (state_in current.now) name.now (option_copied old.entry) (option_copied new.entry) ++ namespace_usage (state_in current.now) name.now (option_copied old.entry) (option_copied new.entry)))) }
 {
     match (old, new) {
-        (Some(old), Some(new)) => replaced_marks(store, forest, config, name, old, new, keys),
-        (Some(_), None) => gone_marks(store, forest, config, name, keys),
+        (Some(old), Some(new)) => replaced_marks(current, name, old, new, keys),
+        (Some(_), None) => gone_marks(current, name, keys),
         (None, Some(new)) => {
-            let found = store.find(Kind::HierarchyConfiguration, name.as_str(), HIERARCHY);
+            let found = current
+                .store
+                .find(Kind::HierarchyConfiguration, name.as_str(), HIERARCHY);
             let parent = parent_by(new, object_in(found));
-            made_marks(store, forest, config, name, parent, keys)
+            made_marks(current, name, parent, keys)
         }
         (None, None) => Ok(()),
     }
@@ -76,22 +74,19 @@ fn namespace_marks(
 
 /// Marks what a namespace touches that is replaced: its labels may count, and all its keys rest on its version. One may be on its way out from now on.
 fn replaced_marks(
-    store: &Store,
-    forest: &Forest,
-    config: &RunConfig,
+    current: &Current,
     name: &Text,
     old: &Object,
     new: &Object,
     keys: &mut Vec<Key>,
 ) -> Result<(), NoMemory>
-    requires tree { forest.now.nodes ≡ forest_of (state_of store.now config.now) }
-    ensures { OnOk result (keys.new.items ≡ keys.old.items ++ ((if begins_to_end old.now new.now then ending_marks (state_of store.now config.now) name.now else label_marks (state_of store.now config.now) name.now) ++ (if begins_to_end old.now new.now then ending_reports (forest_of (state_of store.now config.now)) name.now else []))) }
+    ensures { OnOk result (keys.new.items ≡ keys.old.items ++ ((if begins_to_end old.now new.now then ending_marks (state_in current.now) name.now else label_marks (state_in current.now) name.now) ++ (if begins_to_end old.now new.now then ending_reports (forest_of (state_in current.now)) name.now else []))) }
 {
     if begins_to_end(old, new) {
-        ending_marks(store, forest, config, name, keys)?;
-        return ending_reports(store, forest, name, keys);
+        ending_marks(current, name, keys)?;
+        return ending_reports(current, name, keys);
     }
-    known_of(store, forest, name, keys)
+    known_of(current.store, current.forest, name, keys)
 }
 
 /// Whether a namespace that stays is on its way out from now on.
@@ -102,55 +97,42 @@ pub(crate) fn begins_to_end(old: &Object, new: &Object) -> bool
 }
 
 /// Marks what a namespace touches that goes.
-fn gone_marks(
-    store: &Store,
-    forest: &Forest,
-    config: &RunConfig,
-    name: &Text,
-    keys: &mut Vec<Key>,
-) -> Result<(), NoMemory>
-    requires tree { forest.now.nodes ≡ forest_of (state_of store.now config.now) }
-    ensures { OnOk result (keys.new.items ≡ keys.old.items ++ (removed_marks (state_of store.now config.now) name.now ++ (removed_reports forest.now.nodes name.now ++ removed_usage (state_of store.now config.now) name.now))) }
+fn gone_marks(current: &Current, name: &Text, keys: &mut Vec<Key>) -> Result<(), NoMemory>
+    ensures { OnOk result (keys.new.items ≡ keys.old.items ++ (removed_marks (state_in current.now) name.now ++ (removed_reports current.now.forest.now.nodes name.now ++ removed_usage (state_in current.now) name.now))) }
 {
-    removed_marks(store, config, name, keys)?;
-    removed_reports(forest, name, keys)?;
-    removed_usage(store, forest, config, name, keys)
+    removed_marks(current, name, keys)?;
+    removed_reports(current.forest, name, keys)?;
+    removed_usage(current, name, keys)
 }
 
 /// Marks what a namespace touches that is made under a parent.
 fn made_marks(
-    store: &Store,
-    forest: &Forest,
-    config: &RunConfig,
+    current: &Current,
     name: &Text,
     parent: Option<&Text>,
     keys: &mut Vec<Key>,
 ) -> Result<(), NoMemory>
-    requires tree { forest.now.nodes ≡ forest_of (state_of store.now config.now) }
-    ensures { OnOk result (keys.new.items ≡ keys.old.items ++ (created_marks (state_of store.now config.now) name.now (option_copied parent.entry) ++ (created_reports (forest_of (state_of store.now config.now)) name.now (option_copied parent.entry) ++ created_usage (state_of store.now config.now) name.now (option_copied parent.entry)))) }
+    ensures { OnOk result (keys.new.items ≡ keys.old.items ++ (created_marks (state_in current.now) name.now (option_copied parent.entry) ++ (created_reports (forest_of (state_in current.now)) name.now (option_copied parent.entry) ++ created_usage (state_in current.now) name.now (option_copied parent.entry)))) }
 {
-    created_marks(store, forest, config, name, parent, keys)?;
-    created_reports(store, forest, config, name, parent, keys)?;
-    created_usage(store, forest, config, name, parent, keys)
+    created_marks(current, name, parent, keys)?;
+    created_reports(current, name, parent, keys)?;
+    created_usage(current, name, parent, keys)
 }
 
 /// Marks what a HierarchyConfiguration touches that is written or removed. One of another name gives no parent.
 fn hierarchy_marks(
-    store: &Store,
-    forest: &Forest,
-    config: &RunConfig,
+    current: &Current,
     id: &Id,
     new: Option<&Object>,
     keys: &mut Vec<Key>,
 ) -> Result<(), NoMemory>
-    requires tree { forest.now.nodes ≡ forest_of (state_of store.now config.now) }
-    ensures { OnOk result (keys.new.items ≡ keys.old.items ++ ((hierarchy_marks (state_of store.now config.now) id.now (option_copied new.entry) ++ leaving_keys (forest_of (state_of store.now config.now)) id.now.ns) ++ (hierarchy_reports_by (state_of store.now config.now) id.now (option_copied new.entry) ++ hierarchy_usage (state_of store.now config.now) id.now (option_copied new.entry)))) }
+    ensures { OnOk result (keys.new.items ≡ keys.old.items ++ ((hierarchy_marks (state_in current.now) id.now (option_copied new.entry) ++ leaving_keys (forest_of (state_in current.now)) id.now.ns) ++ (hierarchy_reports_by (state_in current.now) id.now (option_copied new.entry) ++ hierarchy_usage (state_in current.now) id.now (option_copied new.entry)))) }
 {
     if id.name.as_str() != HIERARCHY {
-        return leaving_keys(forest, &id.ns, keys);
+        return leaving_keys(current.forest, &id.ns, keys);
     }
-    let home = object_in(store.find(Kind::Namespace, "", id.ns.as_str()));
-    placed_marks(store, forest, config, &id.ns, parent_under(home, new), keys)
+    let home = object_in(current.store.find(Kind::Namespace, "", id.ns.as_str()));
+    placed_marks(current, &id.ns, parent_under(home, new), keys)
 }
 
 /// The parent of a namespace once its HierarchyConfiguration is `new`, or is gone. None where there is no namespace.
@@ -162,59 +144,77 @@ fn parent_under<'a>(home: Option<&'a Object>, new: Option<&'a Object>) -> Option
 
 /// Marks what a namespace touches that gets a parent, or keeps the one that it has.
 fn placed_marks(
-    store: &Store,
-    forest: &Forest,
-    config: &RunConfig,
+    current: &Current,
     name: &Text,
     parent: Option<&Text>,
     keys: &mut Vec<Key>,
 ) -> Result<(), NoMemory>
-    requires tree { forest.now.nodes ≡ forest_of (state_of store.now config.now) }
-    ensures { OnOk result (keys.new.items ≡ keys.old.items ++ ((move_marks_to (state_of store.now config.now) name.now (option_copied parent.entry) ++ leaving_keys (forest_of (state_of store.now config.now)) name.now) ++ (place_reports_to (state_of store.now config.now) name.now (option_copied parent.entry) ++ moved_usage (state_of store.now config.now) name.now (option_copied parent.entry)))) }
+    ensures { OnOk result (keys.new.items ≡ keys.old.items ++ ((move_marks_to (state_in current.now) name.now (option_copied parent.entry) ++ leaving_keys (forest_of (state_in current.now)) name.now) ++ (place_reports_to (state_in current.now) name.now (option_copied parent.entry) ++ moved_usage (state_in current.now) name.now (option_copied parent.entry)))) }
 {
-    move_marks(store, forest, config, name, parent, keys)?;
-    leaving_keys(forest, name, keys)?;
-    placed_reports(store, forest, config, name, parent, keys)?;
-    moved_usage(store, forest, config, name, parent, keys)
+    let old = current.forest.parent(name);
+    if is_same_name(old, parent) {
+        return kept_marks(current, name, keys);
+    }
+    moved_marks(current, name, old, parent, keys)
+}
+
+/// Marks what a namespace touches that keeps its parent.
+fn kept_marks(current: &Current, name: &Text, keys: &mut Vec<Key>) -> Result<(), NoMemory>
+    ensures { OnOk result (keys.new.items ≡ keys.old.items ++ (leaving_keys (forest_of (state_in current.now)) name.now ++ report_keys (forest_of (state_in current.now)) name.now)) }
+{
+    leaving_keys(current.forest, name, keys)?;
+    report_key(current.forest, name, keys)
+}
+
+/// Marks what a namespace touches that gets another parent.
+fn moved_marks(
+    current: &Current,
+    name: &Text,
+    old: Option<&Text>,
+    new: Option<&Text>,
+    keys: &mut Vec<Key>,
+) -> Result<(), NoMemory>
+    ensures { OnOk result (keys.new.items ≡ keys.old.items ++ moved_marks_to (state_in current.now) name.now (option_copied old.entry) (option_copied new.entry)) }
+{
+    let before = current.forest.is_open(name);
+    let after = opens_under(current.forest, name, new);
+    move_marks(current, name, old, new, before, after, keys)?;
+    leaving_keys(current.forest, name, keys)?;
+    moved_reports(current.forest, name, old, new, before, after, keys)?;
+    moved_usage(current, name, new, keys)
 }
 
 /// Marks what an anchor touches that is written or removed.
 fn anchor_marks(
-    store: &Store,
-    forest: &Forest,
-    config: &RunConfig,
+    current: &Current,
     id: &Id,
     old: Option<&Object>,
     new: Option<&Object>,
     keys: &mut Vec<Key>,
 ) -> Result<(), NoMemory>
-    requires tree { forest.now.nodes ≡ forest_of (state_of store.now config.now) }
-    ensures { OnOk result (keys.new.items ≡ keys.old.items ++ ((anchor_keys id.now ++ leaving_keys (forest_of (state_of store.now config.now)) id.now.ns) ++ (anchored_reports (state_of store.now config.now) id.now (option_copied old.entry) (option_copied new.entry) ++ charged_usage (state_of store.now config.now) id.now.ns (option_copied old.entry) (option_copied new.entry)))) }
+    ensures { OnOk result (keys.new.items ≡ keys.old.items ++ ((anchor_keys id.now ++ leaving_keys (forest_of (state_in current.now)) id.now.ns) ++ (anchored_reports (state_in current.now) id.now (option_copied old.entry) (option_copied new.entry) ++ charged_usage (state_in current.now) id.now.ns (option_copied old.entry) (option_copied new.entry)))) }
 {
     anchor_keys(id, keys)?;
-    leaving_keys(forest, &id.ns, keys)?;
-    anchored_reports(store, forest, config, id, old, new, keys)?;
-    charged_usage(store, forest, config, &id.ns, old, new, keys)
+    leaving_keys(current.forest, &id.ns, keys)?;
+    anchored_reports(current, id, old, new, keys)?;
+    charged_usage(current, &id.ns, old, new, keys)
 }
 
 /// Marks what an HNCConfiguration touches that is written or removed: modes, where it is the one that counts.
 fn config_marks(
-    store: &Store,
-    forest: &Forest,
-    config: &RunConfig,
+    current: &Current,
     id: &Id,
     old: Option<&Object>,
     new: Option<&Object>,
     keys: &mut Vec<Key>,
 ) -> Result<(), NoMemory>
-    requires tree { forest.now.nodes ≡ forest_of (state_of store.now config.now) }
-    ensures { OnOk result (keys.new.items ≡ keys.old.items ++ ((if bytes_eq id.now.name config_name then mode_marks (state_of store.now config.now) (option_copied old.entry) (option_copied new.entry) else (object_marks (state_of store.now config.now) id.now (option_copied old.entry) (option_copied new.entry) ++ leaving_keys (forest_of (state_of store.now config.now)) id.now.ns)) ++ charged_usage (state_of store.now config.now) id.now.ns (option_copied old.entry) (option_copied new.entry))) }
+    ensures { OnOk result (keys.new.items ≡ keys.old.items ++ ((if bytes_eq id.now.name config_name then mode_marks (state_in current.now) (option_copied old.entry) (option_copied new.entry) else (object_marks (state_in current.now) id.now (option_copied old.entry) (option_copied new.entry) ++ leaving_keys (forest_of (state_in current.now)) id.now.ns)) ++ charged_usage (state_in current.now) id.now.ns (option_copied old.entry) (option_copied new.entry))) }
 {
     if id.name.as_str() != CONFIG {
-        return inner_marks(store, forest, config, id, old, new, keys);
+        return inner_marks(current, id, old, new, keys);
     }
-    mode_marks(store, forest, config, old, new, keys)?;
-    charged_usage(store, forest, config, &id.ns, old, new, keys)
+    mode_marks(current, old, new, keys)?;
+    charged_usage(current, &id.ns, old, new, keys)
 }
 
 /// Marks what a quota touches that is written or removed: the removal of its namespace, and itself.
@@ -227,18 +227,15 @@ fn quota_marks(forest: &Forest, id: &Id, keys: &mut Vec<Key>) -> Result<(), NoMe
 
 /// Marks what another object touches: its copies, the removal of its namespace, and the quotas that count it.
 fn inner_marks(
-    store: &Store,
-    forest: &Forest,
-    config: &RunConfig,
+    current: &Current,
     id: &Id,
     old: Option<&Object>,
     new: Option<&Object>,
     keys: &mut Vec<Key>,
 ) -> Result<(), NoMemory>
-    requires tree { forest.now.nodes ≡ forest_of (state_of store.now config.now) }
-    ensures { OnOk result (keys.new.items ≡ keys.old.items ++ ((object_marks (state_of store.now config.now) id.now (option_copied old.entry) (option_copied new.entry) ++ leaving_keys (forest_of (state_of store.now config.now)) id.now.ns) ++ charged_usage (state_of store.now config.now) id.now.ns (option_copied old.entry) (option_copied new.entry))) }
+    ensures { OnOk result (keys.new.items ≡ keys.old.items ++ ((object_marks (state_in current.now) id.now (option_copied old.entry) (option_copied new.entry) ++ leaving_keys (forest_of (state_in current.now)) id.now.ns) ++ charged_usage (state_in current.now) id.now.ns (option_copied old.entry) (option_copied new.entry))) }
 {
-    object_marks(store, forest, config, id, old, new, keys)?;
-    leaving_keys(forest, &id.ns, keys)?;
-    charged_usage(store, forest, config, &id.ns, old, new, keys)
+    object_marks(current, id, old, new, keys)?;
+    leaving_keys(current.forest, &id.ns, keys)?;
+    charged_usage(current, &id.ns, old, new, keys)
 }

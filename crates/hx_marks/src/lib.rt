@@ -5,6 +5,7 @@
 
 mod anchors;
 mod below;
+mod current;
 mod endings;
 mod kinds;
 mod lookups;

@@ -2,73 +2,70 @@
 ghost use Rattle.std.specs.Prelude.{◌≡◌, ◌++◌, ◌∷◌, ◌&&◌, [], not, OnOk, flat_map, map, option_copied};
 ghost use Rattle.hx_model.specs.Modes.{mode_in};
 ghost use Rattle.hx_model.specs.Propagation.{is_propagated};
-ghost use Rattle.hx_model.specs.Tree.{forest_of};
-ghost use Rattle.hx_marks.specs.Before.{state_of};
+ghost use Rattle.hx_marks.specs.Reads.{state_in};
 ghost use Rattle.hx_marks.specs.Law.{apart, copy_marks, differ, is_ignored, key_for, kind_marks, mode_marks, source_marks};
 
 use crate::below::open_below;
+use crate::current::Current;
 use crate::lookups::{is_ignored, is_propagated};
 use crate::wants::key_for;
 use hx_forest::Forest;
-use hx_model::{COPIED_KINDS, Key, RunConfig, is_copy, mode_in};
+use hx_model::{COPIED_KINDS, Key, is_copy, mode_in};
 use hx_object::{Kind, Mode, NoMemory, Object, Shared, Text};
 use hx_rules::is_sent;
-use hx_store::Store;
 use std::alloc::Global;
 
 /// Marks what the kinds' objects touch whose modes change with the HNCConfiguration.
 pub(crate) fn mode_marks(
-    store: &Store,
-    forest: &Forest,
-    config: &RunConfig,
+    current: &Current,
     old: Option<&Object>,
     new: Option<&Object>,
     keys: &mut Vec<Key>,
 ) -> Result<(), NoMemory>
-    requires tree { forest.now.nodes ≡ forest_of (state_of store.now config.now) }
-    ensures { OnOk result (keys.new.items ≡ keys.old.items ++ mode_marks (state_of store.now config.now) (option_copied old.entry) (option_copied new.entry)) }
+    ensures { OnOk result (keys.new.items ≡ keys.old.items ++ mode_marks (state_in current.now) (option_copied old.entry) (option_copied new.entry)) }
 {
-    marks_of_kinds(store, forest, config, old, new, &COPIED_KINDS, keys)
+    marks_of_kinds(current, old, new, &COPIED_KINDS, keys)
 }
 
 fn marks_of_kinds(
-    store: &Store,
-    forest: &Forest,
-    config: &RunConfig,
+    current: &Current,
     old: Option<&Object>,
     new: Option<&Object>,
     kinds: &[Kind],
     keys: &mut Vec<Key>,
 ) -> Result<(), NoMemory>
-    requires tree { forest.now.nodes ≡ forest_of (state_of store.now config.now) }
-    ensures { OnOk result (keys.new.items ≡ keys.old.items ++ flat_map (λ kind. kind_marks (state_of store.now config.now) (mode_in (option_copied old.entry) kind) (mode_in (option_copied new.entry) kind) kind) kinds.now) }
+    ensures { OnOk result (keys.new.items ≡ keys.old.items ++ flat_map (λ kind. kind_marks (state_in current.now) (mode_in (option_copied old.entry) kind) (mode_in (option_copied new.entry) kind) kind) kinds.now) }
 {
     for kind in kinds {
         let before = mode_in(old, *kind);
         let after = mode_in(new, *kind);
-        kind_marks(store, forest, config, before, after, *kind, keys)?;
+        kind_marks(current, before, after, *kind, keys)?;
     }
     Ok(())
 }
 
 /// Marks what the objects of a kind touch that comes from one mode to another. Where it is ignored and propagated as before, none is looked at.
 fn kind_marks(
-    store: &Store,
-    forest: &Forest,
-    config: &RunConfig,
+    current: &Current,
     before: Mode,
     after: Mode,
     kind: Kind,
     keys: &mut Vec<Key>,
 ) -> Result<(), NoMemory>
-    requires tree { forest.now.nodes ≡ forest_of (state_of store.now config.now) }
-    ensures { OnOk result (keys.new.items ≡ keys.old.items ++ kind_marks (state_of store.now config.now) before after kind) }
+    ensures { OnOk result (keys.new.items ≡ keys.old.items ++ kind_marks (state_in current.now) before after kind) }
 {
     if are_alike(before, after) {
         return Ok(());
     }
-    let listed = store.list(kind, None)?;
-    marks_of_all(store.allocator(), forest, before, after, &listed, keys)
+    let listed = current.store.list(kind, None)?;
+    marks_of_all(
+        current.store.allocator(),
+        current.forest,
+        before,
+        after,
+        &listed,
+        keys,
+    )
 }
 
 /// Whether a kind is ignored in both modes or in neither, and propagated likewise.

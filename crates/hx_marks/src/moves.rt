@@ -1,103 +1,83 @@
 // Namespaces get other parents.
-ghost use Rattle.std.specs.Prelude.{◌≡◌, ◌++◌, ◌∷◌, true, false, not, IfOk, OnOk, filter, flat_map, option_copied};
-ghost use Rattle.hx_model.specs.Cases.{same_name};
+ghost use Rattle.std.specs.Prelude.{◌≡◌, ◌++◌, ◌∷◌, true, false, not, None, IfOk, OnOk, filter, flat_map, option_copied};
 ghost use Rattle.hx_model.specs.Forest.{chain_of, is_in};
 ghost use Rattle.hx_model.specs.Moves.{chain_from, is_open_above, up_to};
-ghost use Rattle.hx_model.specs.Tree.{forest_of};
 ghost use Rattle.hx_model.specs.TreeLabels.{is_open};
-ghost use Rattle.hx_marks.specs.Before.{comes_back_by, move_marks_to, opens_under, state_of};
+ghost use Rattle.hx_marks.specs.Before.{comes_back_by, opens_under};
+ghost use Rattle.hx_marks.specs.Reads.{state_in};
 ghost use Rattle.hx_marks.specs.Law.{all_of, apart, in_one, moved_by, sent_marks};
 
 use crate::below::{chain_from, live_below, push_names};
+use crate::current::Current;
 use crate::senders::all_by_chains;
 use crate::wants::{all_of, all_sent, keys_for};
 use hx_forest::Forest;
-use hx_model::{Key, RunConfig, is_same_name};
+use hx_model::Key;
 use hx_object::{NoMemory, Shared, Text};
-use hx_store::Store;
 use std::alloc::Global;
 
-/// Marks what a namespace and those below it may want which gets a parent. Where it has that parent already, nothing.
+/// Marks what a namespace and those below it may want which gets another parent. It takes part before it moves, or after it.
 pub(crate) fn move_marks(
-    store: &Store,
-    forest: &Forest,
-    config: &RunConfig,
+    current: &Current,
     name: &Text,
-    parent: Option<&Text>,
+    old: Option<&Text>,
+    new: Option<&Text>,
+    before: bool,
+    after: bool,
     keys: &mut Vec<Key>,
 ) -> Result<(), NoMemory>
-    requires tree { forest.now.nodes ≡ forest_of (state_of store.now config.now) }
-    ensures { OnOk result (keys.new.items ≡ keys.old.items ++ move_marks_to (state_of store.now config.now) name.now (option_copied parent.entry)) }
+    requires before { is_open current.now.forest.now.nodes name.now ≡ before }
+    ensures { OnOk result (keys.new.items ≡ keys.old.items ++ moved_by (state_in current.now) name.now (option_copied old.entry) (option_copied new.entry) before after) }
 {
-    let old = forest.parent(name);
-    if is_same_name(old, parent) {
-        return Ok(());
-    }
-    match (forest.is_open(name), opens_under(forest, name, parent)) {
-        (true, true) => goes_on_marks(store, forest, config, name, old, parent, keys),
-        (true, false) => closing_marks(store, forest, config, name, old, parent, keys),
-        (false, true) => opening_marks(store, forest, config, name, old, parent, keys),
+    match (before, after) {
+        (true, true) => goes_on_marks(current, name, old, new, keys),
+        (true, false) => closing_marks(current, name, keys),
+        (false, true) => opening_marks(current, name, new, keys),
         (false, false) => Ok(()),
     }
 }
 
 /// Marks what a subtree may want that takes part before and after a move: what is sent from one chain goes, and what is sent from the other comes.
 fn goes_on_marks(
-    store: &Store,
-    forest: &Forest,
-    config: &RunConfig,
+    current: &Current,
     name: &Text,
     old: Option<&Text>,
     new: Option<&Text>,
     keys: &mut Vec<Key>,
 ) -> Result<(), NoMemory>
-    requires tree { forest.now.nodes ≡ forest_of (state_of store.now config.now) }
-    ensures { OnOk result (keys.new.items ≡ keys.old.items ++ moved_by (state_of store.now config.now) name.now (option_copied old.entry) (option_copied new.entry) true true) }
+    ensures { OnOk result (keys.new.items ≡ keys.old.items ++ moved_by (state_in current.now) name.now (option_copied old.entry) (option_copied new.entry) true true) }
 {
-    let alloc = store.allocator();
-    let before = chain_from(alloc, forest, old)?;
-    let after = chain_from(alloc, forest, new)?;
+    let alloc = current.store.allocator();
+    let before = chain_from(alloc, current.forest, old)?;
+    let after = chain_from(alloc, current.forest, new)?;
     let names = in_one(alloc, &before, &after)?;
     let mut sent = Vec::new(alloc);
-    all_sent(store, &names, &mut sent)?;
-    let members = live_below(forest, name)?;
+    all_sent(current.store, &names, &mut sent)?;
+    let members = live_below(current.forest, name)?;
     sent_marks(&sent, &members, keys)
 }
 
 /// Marks all that a subtree may want which ends to take part.
-fn closing_marks(
-    store: &Store,
-    forest: &Forest,
-    config: &RunConfig,
-    name: &Text,
-    old: Option<&Text>,
-    new: Option<&Text>,
-    keys: &mut Vec<Key>,
-) -> Result<(), NoMemory>
-    requires tree { forest.now.nodes ≡ forest_of (state_of store.now config.now) }
-    requires part { is_open forest.now.nodes name.now ≡ true }
-    ensures { OnOk result (keys.new.items ≡ keys.old.items ++ moved_by (state_of store.now config.now) name.now (option_copied old.entry) (option_copied new.entry) true false) }
+fn closing_marks(current: &Current, name: &Text, keys: &mut Vec<Key>) -> Result<(), NoMemory>
+    requires part { is_open current.now.forest.now.nodes name.now ≡ true }
+    ensures { OnOk result (keys.new.items ≡ keys.old.items ++ moved_by (state_in current.now) name.now None None true false) }
 {
-    let members = live_below(forest, name)?;
-    all_by_chains(store, forest, &members, keys)
+    let members = live_below(current.forest, name)?;
+    all_by_chains(current, &members, keys)
 }
 
 /// Marks all that a subtree may want which begins to take part.
 fn opening_marks(
-    store: &Store,
-    forest: &Forest,
-    config: &RunConfig,
+    current: &Current,
     name: &Text,
-    old: Option<&Text>,
     new: Option<&Text>,
     keys: &mut Vec<Key>,
 ) -> Result<(), NoMemory>
-    requires tree { forest.now.nodes ≡ forest_of (state_of store.now config.now) }
-    ensures { OnOk result (keys.new.items ≡ keys.old.items ++ moved_by (state_of store.now config.now) name.now (option_copied old.entry) (option_copied new.entry) false true) }
+    ensures { OnOk result (keys.new.items ≡ keys.old.items ++ moved_by (state_in current.now) name.now None (option_copied new.entry) false true) }
 {
-    let above = chain_from(store.allocator(), forest, new)?;
-    let members = live_below(forest, name)?;
-    all_by_ways(store, forest, name, &above, &members, keys)
+    let above = chain_from(current.store.allocator(), current.forest, new)?;
+    let members = live_below(current.forest, name)?;
+    all_by_ways(current, name, &above, &members, keys)
 }
 
 /// Marks what is sent in some namespaces, and their tree labels.
@@ -115,22 +95,21 @@ fn sent_marks(sent: &[Shared], members: &[Text], keys: &mut Vec<Key>) -> Result<
 
 /// Marks all that some namespaces may want below one whose chain goes on with `above`.
 fn all_by_ways(
-    store: &Store,
-    forest: &Forest,
+    current: &Current,
     name: &Text,
     above: &[Text],
     members: &[Text],
     keys: &mut Vec<Key>,
 ) -> Result<(), NoMemory>
-    ensures { OnOk result (keys.new.items ≡ keys.old.items ++ flat_map (λ m. all_of store.now.objects (up_to name.now (chain_of forest.now.nodes m) ++ name.now ∷ above.now) m) members.now) }
+    ensures { OnOk result (keys.new.items ≡ keys.old.items ++ flat_map (λ m. all_of current.now.store.now.objects (up_to name.now (chain_of current.now.forest.now.nodes m) ++ name.now ∷ above.now) m) members.now) }
 {
     for member in members {
-        let mut way = Vec::new(store.allocator());
-        let chain = forest.chain(member)?;
+        let mut way = Vec::new(current.store.allocator());
+        let chain = current.forest.chain(member)?;
         push_up_to(&mut way, name, &chain)?;
         way.push(name.clone()?)?;
         push_names(&mut way, above)?;
-        all_of(store, &way, member, keys)?;
+        all_of(current.store, &way, member, keys)?;
     }
     Ok(())
 }

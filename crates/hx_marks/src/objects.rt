@@ -1,42 +1,38 @@
 // Objects of kinds that can be copied are written or removed.
 ghost use Rattle.std.specs.Prelude.{◌≡◌, ◌++◌, ◌∷◌, [], false, OnOk, map, option_copied};
 ghost use Rattle.std.specs.Option.{option_map_or};
-ghost use Rattle.hx_model.specs.Tree.{forest_of};
 ghost use Rattle.hx_model.specs.declared.key.Key.TheVariants as key;
-ghost use Rattle.hx_marks.specs.Before.{state_of};
+ghost use Rattle.hx_marks.specs.Reads.{state_in};
 ghost use Rattle.hx_marks.specs.Law.{is_any_sent, is_sent, object_marks, place_marks};
 
 use crate::below::open_below;
+use crate::current::Current;
 use crate::lookups::{is_ignored, mode_at};
 use hx_forest::Forest;
-use hx_model::{Key, RunConfig};
+use hx_model::Key;
 use hx_object::{Id, Mode, NoMemory, Object, Text};
 use hx_rules::is_sent;
-use hx_store::Store;
 use std::alloc::Global;
 
 /// Marks the place of an object, and those below it where it is sent, before or after the write. Where its kind is ignored, none.
 pub(crate) fn object_marks(
-    store: &Store,
-    forest: &Forest,
-    config: &RunConfig,
+    current: &Current,
     id: &Id,
     old: Option<&Object>,
     new: Option<&Object>,
     keys: &mut Vec<Key>,
 ) -> Result<(), NoMemory>
-    requires tree { forest.now.nodes ≡ forest_of (state_of store.now config.now) }
-    ensures { OnOk result (keys.new.items ≡ keys.old.items ++ object_marks (state_of store.now config.now) id.now (option_copied old.entry) (option_copied new.entry)) }
+    ensures { OnOk result (keys.new.items ≡ keys.old.items ++ object_marks (state_in current.now) id.now (option_copied old.entry) (option_copied new.entry)) }
 {
     if !id.kind.can_be_copied() {
         return Ok(());
     }
-    let mode = mode_at(store, id.kind);
+    let mode = mode_at(current.store, id.kind);
     if is_ignored(mode) {
         return Ok(());
     }
     let is_sent = is_any_sent(mode, old, new);
-    place_marks(store.allocator(), forest, is_sent, id, keys)
+    place_marks(current.store.allocator(), current.forest, is_sent, id, keys)
 }
 
 /// Whether an object is sent before or after a write.

@@ -5,29 +5,28 @@ ghost use Rattle.hx_model.specs.Forest.{children_of};
 ghost use Rattle.hx_model.specs.Propagation.{as_list};
 ghost use Rattle.hx_model.specs.Tree.{forest_of};
 ghost use Rattle.hx_model.specs.declared.key.Key.TheVariants as key;
-ghost use Rattle.hx_marks.specs.Before.{place_reports_to, state_of};
+ghost use Rattle.hx_marks.specs.Reads.{state_in};
 ghost use Rattle.hx_marks.specs.Reports.{anchored_reports, created_reports, ending_reports, moved_reports, removed_reports, report_keys, reports_of, ring_reports};
 
 use crate::below::{chain_from, live_below, open_below, push_below};
-use crate::moves::{comes_back_by, opens_under};
+use crate::current::Current;
+use crate::moves::comes_back_by;
 use hx_forest::Forest;
-use hx_model::{Key, RunConfig, is_owned_by, is_same_name};
+use hx_model::{Key, is_owned_by};
 use hx_object::{Id, Kind, NoMemory, Object, Text};
-use hx_store::Store;
 
 /// Marks the reports of a namespace that is on its way out from now on, of its children, and of what took part below it.
 pub(crate) fn ending_reports(
-    store: &Store,
-    forest: &Forest,
+    current: &Current,
     name: &Text,
     keys: &mut Vec<Key>,
 ) -> Result<(), NoMemory>
-    ensures { OnOk result (keys.new.items ≡ keys.old.items ++ ending_reports forest.now.nodes name.now) }
+    ensures { OnOk result (keys.new.items ≡ keys.old.items ++ ending_reports current.now.forest.now.nodes name.now) }
 {
-    let members = open_below(store.allocator(), forest, name)?;
-    report_key(forest, name, keys)?;
-    reports_of(forest, forest.children(name), keys)?;
-    reports_of(forest, &members, keys)
+    let members = open_below(current.store.allocator(), current.forest, name)?;
+    report_key(current.forest, name, keys)?;
+    reports_of(current.forest, current.forest.children(name), keys)?;
+    reports_of(current.forest, &members, keys)
 }
 
 /// Marks the reports of a namespace and of its children.
@@ -62,48 +61,24 @@ pub(crate) fn removed_reports(
 
 /// Marks the reports of a namespace that is made under a parent, of the parent, and of all that waited for it below.
 pub(crate) fn created_reports(
-    store: &Store,
-    forest: &Forest,
-    config: &RunConfig,
+    current: &Current,
     name: &Text,
     parent: Option<&Text>,
     keys: &mut Vec<Key>,
 ) -> Result<(), NoMemory>
-    requires tree { forest.now.nodes ≡ forest_of (state_of store.now config.now) }
-    ensures { OnOk result (keys.new.items ≡ keys.old.items ++ created_reports (forest_of (state_of store.now config.now)) name.now (option_copied parent.entry)) }
+    ensures { OnOk result (keys.new.items ≡ keys.old.items ++ created_reports (forest_of (state_in current.now)) name.now (option_copied parent.entry)) }
 {
-    let mut members = Vec::new(store.allocator());
-    push_below(&mut members, forest, forest.children(name))?;
-    if parent.is_some() || !forest.children(name).is_empty() {
+    let mut members = Vec::new(current.store.allocator());
+    push_below(&mut members, current.forest, current.forest.children(name))?;
+    if parent.is_some() || !current.forest.children(name).is_empty() {
         push_report(name, keys)?;
     }
-    parent_report(forest, parent, keys)?;
-    reports_of(forest, &members, keys)
-}
-
-/// Marks the reports that change where a namespace gets a parent. Where it has that parent already, its own alone.
-pub(crate) fn placed_reports(
-    store: &Store,
-    forest: &Forest,
-    config: &RunConfig,
-    name: &Text,
-    parent: Option<&Text>,
-    keys: &mut Vec<Key>,
-) -> Result<(), NoMemory>
-    requires tree { forest.now.nodes ≡ forest_of (state_of store.now config.now) }
-    ensures { OnOk result (keys.new.items ≡ keys.old.items ++ place_reports_to (state_of store.now config.now) name.now (option_copied parent.entry)) }
-{
-    let old = forest.parent(name);
-    if is_same_name(old, parent) {
-        return report_key(forest, name, keys);
-    }
-    let before = forest.is_open(name);
-    let after = opens_under(forest, name, parent);
-    moved_reports(forest, name, old, parent, before, after, keys)
+    parent_report(current.forest, parent, keys)?;
+    reports_of(current.forest, &members, keys)
 }
 
 /// Marks the reports of a namespace that moves, of both parents, of the rings that open and close, and of what begins or ends to take part with it. The namespace takes part before it moves, or after it.
-fn moved_reports(
+pub(crate) fn moved_reports(
     forest: &Forest,
     name: &Text,
     old: Option<&Text>,
@@ -144,28 +119,25 @@ fn ring_reports(
 
 /// Marks the report of the namespace that an anchor asks for, where the anchor is made or removed and the namespace is its own.
 pub(crate) fn anchored_reports(
-    store: &Store,
-    forest: &Forest,
-    config: &RunConfig,
+    current: &Current,
     id: &Id,
     old: Option<&Object>,
     new: Option<&Object>,
     keys: &mut Vec<Key>,
 ) -> Result<(), NoMemory>
-    requires tree { forest.now.nodes ≡ forest_of (state_of store.now config.now) }
-    ensures { OnOk result (keys.new.items ≡ keys.old.items ++ anchored_reports (state_of store.now config.now) id.now (option_copied old.entry) (option_copied new.entry)) }
+    ensures { OnOk result (keys.new.items ≡ keys.old.items ++ anchored_reports (state_in current.now) id.now (option_copied old.entry) (option_copied new.entry)) }
 {
-    if old.is_some() != new.is_some() && owns_named(store, config, id) {
-        report_key(forest, &id.name, keys)?;
+    if old.is_some() != new.is_some() && owns_named(current, id) {
+        report_key(current.forest, &id.name, keys)?;
     }
     Ok(())
 }
 
 /// Whether the annotation of the namespace that an anchor asks for names the anchor's own.
-fn owns_named(store: &Store, config: &RunConfig, id: &Id) -> bool
-    ensures { result ≡ owns_named (state_of store.now config.now) id.now }
+fn owns_named(current: &Current, id: &Id) -> bool
+    ensures { result ≡ owns_named (state_in current.now) id.now }
 {
-    match store.find(Kind::Namespace, "", id.name.as_str()) {
+    match current.store.find(Kind::Namespace, "", id.name.as_str()) {
         Some(found) => is_owned_by(found.object(), &id.ns),
         None => false,
     }

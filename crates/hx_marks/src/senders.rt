@@ -9,9 +9,10 @@ ghost use Rattle.hx_marks.specs.Law.{all_of, is_sent};
 ghost use Rattle.hx_object.specs.declared.object.Mode.TheVariants.{Propagate};
 ghost use Rattle.hx_marks.specs.Senders.{is_sender, senders_of, sends_kind, sent_kinds};
 
+use crate::current::Current;
 use crate::lookups::{is_propagated, mode_at};
 use crate::wants::all_under;
-use hx_forest::{Ancestors, Forest};
+use hx_forest::Ancestors;
 use hx_model::{COPIED_KINDS, Key, is_same_name};
 use hx_object::{Kind, Mode, NoMemory, Shared, Text};
 use hx_rules::is_sent;
@@ -21,16 +22,15 @@ use hx_store::Store;
 ///
 /// What is found above one goes on to the next where that has the same parent, or lies right below it or one beside it. Else the chain is gone over anew, and only what sends something is asked again by each.
 pub(crate) fn all_by_chains(
-    store: &Store,
-    forest: &Forest,
+    current: &Current,
     members: &[Text],
     keys: &mut Vec<Key>,
 ) -> Result<(), NoMemory>
-    requires part { list_all (is_open forest.now.nodes) members.now ≡ true }
-    ensures { OnOk result (keys.new.items ≡ keys.old.items ++ flat_map (λ m. all_of store.now.objects (chain_of forest.now.nodes m) m) members.now) }
+    requires part { list_all (is_open current.now.forest.now.nodes) members.now ≡ true }
+    ensures { OnOk result (keys.new.items ≡ keys.old.items ++ flat_map (λ m. all_of current.now.store.now.objects (chain_of current.now.forest.now.nodes m) m) members.now) }
 {
-    let kinds = sent_kinds(store)?;
-    all_of_kinds(store, forest, &kinds, members, keys)
+    let kinds = sent_kinds(current.store)?;
+    all_of_kinds(current, &kinds, members, keys)
 }
 
 /// The kinds that are propagated.
@@ -54,22 +54,21 @@ fn push_propagated(store: &Store, all: &[Kind], kinds: &mut Vec<Kind>) -> Result
 }
 
 fn all_of_kinds(
-    store: &Store,
-    forest: &Forest,
+    current: &Current,
     kinds: &[Kind],
     members: &[Text],
     keys: &mut Vec<Key>,
 ) -> Result<(), NoMemory>
-    requires kinds { kinds.now ≡ sent_kinds store.now.objects }
-    requires part { list_all (is_open forest.now.nodes) members.now ≡ true }
-    ensures { OnOk result (keys.new.items ≡ keys.old.items ++ flat_map (λ m. all_of store.now.objects (chain_of forest.now.nodes m) m) members.now) }
+    requires kinds { kinds.now ≡ sent_kinds current.now.store.now.objects }
+    requires part { list_all (is_open current.now.forest.now.nodes) members.now ≡ true }
+    ensures { OnOk result (keys.new.items ≡ keys.old.items ++ flat_map (λ m. all_of current.now.store.now.objects (chain_of current.now.forest.now.nodes m) m) members.now) }
 {
-    let mut senders = Vec::new(store.allocator());
+    let mut senders = Vec::new(current.store.allocator());
     let mut known = None;
     for member in members {
-        let parent = forest.parent(member);
-        come_to(store, forest, kinds, known, parent, &mut senders)?;
-        all_under(store, &senders, member, keys)?;
+        let parent = current.forest.parent(member);
+        come_to(current, kinds, known, parent, &mut senders)?;
+        all_under(current.store, &senders, member, keys)?;
         known = parent;
     }
     Ok(())
@@ -77,24 +76,23 @@ fn all_of_kinds(
 
 /// From what sends something in the chain of one namespace to that in the chain of another, which takes part.
 fn come_to(
-    store: &Store,
-    forest: &Forest,
+    current: &Current,
     kinds: &[Kind],
     known: Option<&Text>,
     parent: Option<&Text>,
     senders: &mut Vec<Text>,
 ) -> Result<(), NoMemory>
-    requires known { senders.now.items ≡ senders_of store.now.objects kinds.now (chain_from forest.now.nodes (option_copied known)) }
-    requires part { is_open_above forest.now.nodes (option_copied parent) ≡ true }
-    ensures { OnOk result (senders.new.items ≡ senders_of store.now.objects kinds.now (chain_from forest.now.nodes (option_copied parent.entry))) }
+    requires known { senders.now.items ≡ senders_of current.now.store.now.objects kinds.now (chain_from current.now.forest.now.nodes (option_copied known)) }
+    requires part { is_open_above current.now.forest.now.nodes (option_copied parent) ≡ true }
+    ensures { OnOk result (senders.new.items ≡ senders_of current.now.store.now.objects kinds.now (chain_from current.now.forest.now.nodes (option_copied parent.entry))) }
 {
     if is_same_name(known, parent) {
         return Ok(());
     }
     match parent {
         Some(name) => {
-            keep_at(store, forest, kinds, known, forest.parent(name), senders)?;
-            put_first(store, kinds, name, senders)
+            keep_at(current, kinds, known, current.forest.parent(name), senders)?;
+            put_first(current.store, kinds, name, senders)
         }
         None => {
             senders.clear();
@@ -105,22 +103,26 @@ fn come_to(
 
 /// The same for any other: where it isn't the same one, along its whole chain.
 fn keep_at(
-    store: &Store,
-    forest: &Forest,
+    current: &Current,
     kinds: &[Kind],
     known: Option<&Text>,
     name: Option<&Text>,
     senders: &mut Vec<Text>,
 ) -> Result<(), NoMemory>
-    requires known { senders.now.items ≡ senders_of store.now.objects kinds.now (chain_from forest.now.nodes (option_copied known)) }
-    ensures { OnOk result (senders.new.items ≡ senders_of store.now.objects kinds.now (chain_from forest.now.nodes (option_copied name.entry))) }
+    requires known { senders.now.items ≡ senders_of current.now.store.now.objects kinds.now (chain_from current.now.forest.now.nodes (option_copied known)) }
+    ensures { OnOk result (senders.new.items ≡ senders_of current.now.store.now.objects kinds.now (chain_from current.now.forest.now.nodes (option_copied name.entry))) }
 {
     if is_same_name(known, name) {
         return Ok(());
     }
     senders.clear();
     match name {
-        Some(name) => push_senders(store, kinds, forest.ancestors(name), senders),
+        Some(name) => push_senders(
+            current.store,
+            kinds,
+            current.forest.ancestors(name),
+            senders,
+        ),
         None => Ok(()),
     }
 }

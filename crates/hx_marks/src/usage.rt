@@ -1,115 +1,97 @@
 // The quotas whose usage a write changes.
 ghost use Rattle.std.specs.Prelude.{◌≡◌, ◌++◌, ◌∷◌, [], IfOk, OnOk, filter, flat_map, map, option_copied};
 ghost use Rattle.std.specs.List.{list_any};
-ghost use Rattle.hx_model.specs.Moves.{chain_from};
+ghost use Rattle.hx_model.specs.Forest.{chain_of, tail_of};
+ghost use Rattle.hx_model.specs.Moves.{chain_from, up_to};
+ghost use Rattle.hx_marks.specs.Below.{in_one};
 ghost use Rattle.hx_model.specs.Quotas.{quotas_in};
-ghost use Rattle.hx_model.specs.Tree.{forest_of};
 ghost use Rattle.hx_model.specs.declared.key.Key.TheVariants as key;
-ghost use Rattle.hx_marks.specs.Before.{state_of};
-ghost use Rattle.hx_marks.specs.Usage.{charged_usage, counts_change, created_usage, is_charged_anew, is_limit_of, is_recharged, moved_usage, removed_usage, usage_key, usage_keys, usage_of};
+ghost use Rattle.hx_marks.specs.Reads.{state_in};
+ghost use Rattle.hx_marks.specs.Usage.{charged_usage, counts_change, created_usage, is_charged_anew, is_limit_of, is_recharged, removed_usage, usage_key, usage_keys, usage_of};
 
 use crate::below::chain_from;
+use crate::current::Current;
 use crate::moves::{in_one, push_up_to};
 use crate::wants::tail_of;
 use hx_charge::{charge_before, hard_of};
-use hx_forest::{Ancestors, Forest};
-use hx_model::{Key, RESOURCES, Resource, RunConfig, is_same_name};
+use hx_forest::Ancestors;
+use hx_model::{Key, RESOURCES, Resource};
 use hx_object::{Id, Kind, Limit, NoMemory, Object, Shared, Text};
 use hx_store::Store;
 
 /// Marks the quotas above a namespace that goes, where something lies below it.
 pub(crate) fn removed_usage(
-    store: &Store,
-    forest: &Forest,
-    config: &RunConfig,
+    current: &Current,
     name: &Text,
     keys: &mut Vec<Key>,
 ) -> Result<(), NoMemory>
-    requires tree { forest.now.nodes ≡ forest_of (state_of store.now config.now) }
-    ensures { OnOk result (keys.new.items ≡ keys.old.items ++ removed_usage (state_of store.now config.now) name.now) }
+    ensures { OnOk result (keys.new.items ≡ keys.old.items ++ removed_usage (state_in current.now) name.now) }
 {
-    if forest.children(name).is_empty() {
+    if current.forest.children(name).is_empty() {
         return Ok(());
     }
-    let mut members = forest.ancestors(name);
+    let mut members = current.forest.ancestors(name);
     members.next();
-    usage_along(store, members, keys)
+    usage_along(current.store, members, keys)
 }
 
 /// Marks the quotas above a namespace that is made under a parent, where something has waited for it below.
 pub(crate) fn created_usage(
-    store: &Store,
-    forest: &Forest,
-    config: &RunConfig,
+    current: &Current,
     name: &Text,
     parent: Option<&Text>,
     keys: &mut Vec<Key>,
 ) -> Result<(), NoMemory>
-    requires tree { forest.now.nodes ≡ forest_of (state_of store.now config.now) }
-    ensures { OnOk result (keys.new.items ≡ keys.old.items ++ created_usage (state_of store.now config.now) name.now (option_copied parent.entry)) }
+    ensures { OnOk result (keys.new.items ≡ keys.old.items ++ created_usage (state_in current.now) name.now (option_copied parent.entry)) }
 {
-    if forest.children(name).is_empty() {
+    if current.forest.children(name).is_empty() {
         return Ok(());
     }
-    usage_from(store, forest, parent, keys)
+    usage_from(current, parent, keys)
 }
 
 /// Marks the quotas of a parent and of what is above it.
-fn usage_from(
-    store: &Store,
-    forest: &Forest,
-    parent: Option<&Text>,
-    keys: &mut Vec<Key>,
-) -> Result<(), NoMemory>
-    ensures { OnOk result (keys.new.items ≡ keys.old.items ++ usage_of store.now.objects (chain_from forest.now.nodes (option_copied parent.entry))) }
+fn usage_from(current: &Current, parent: Option<&Text>, keys: &mut Vec<Key>) -> Result<(), NoMemory>
+    ensures { OnOk result (keys.new.items ≡ keys.old.items ++ usage_of current.now.store.now.objects (chain_from current.now.forest.now.nodes (option_copied parent.entry))) }
 {
     match parent {
-        Some(parent) => usage_along(store, forest.ancestors(parent), keys),
+        Some(parent) => usage_along(current.store, current.forest.ancestors(parent), keys),
         None => Ok(()),
     }
 }
 
-/// Marks the quotas of what is above a namespace before it gets a parent, or then, and not both. Where it has that parent already, none.
+/// Marks the quotas of what is above a namespace before it gets another parent, or then, and not both.
 pub(crate) fn moved_usage(
-    store: &Store,
-    forest: &Forest,
-    config: &RunConfig,
+    current: &Current,
     name: &Text,
     parent: Option<&Text>,
     keys: &mut Vec<Key>,
 ) -> Result<(), NoMemory>
-    requires tree { forest.now.nodes ≡ forest_of (state_of store.now config.now) }
-    ensures { OnOk result (keys.new.items ≡ keys.old.items ++ moved_usage (state_of store.now config.now) name.now (option_copied parent.entry)) }
+    ensures { OnOk result (keys.new.items ≡ keys.old.items ++ usage_of current.now.store.now.objects (in_one (tail_of (chain_of current.now.forest.now.nodes name.now)) (up_to name.now (chain_from current.now.forest.now.nodes (option_copied parent.entry))))) }
 {
-    if is_same_name(forest.parent(name), parent) {
-        return Ok(());
-    }
-    let alloc = store.allocator();
-    let before = forest.chain(name)?;
-    let above = chain_from(alloc, forest, parent)?;
+    let alloc = current.store.allocator();
+    let before = current.forest.chain(name)?;
+    let above = chain_from(alloc, current.forest, parent)?;
     let mut after = Vec::new(alloc);
     push_up_to(&mut after, name, &above)?;
     let names = in_one(alloc, tail_of(&before), &after)?;
-    usage_of(store, &names, keys)
+    usage_of(current.store, &names, keys)
 }
 
 /// Marks the quotas of a namespace and of those above it that limit what an object is charged of, where that changes. Where no charge changes, nothing is looked at.
 pub(crate) fn charged_usage(
-    store: &Store,
-    forest: &Forest,
-    config: &RunConfig,
+    current: &Current,
     ns: &Text,
     old: Option<&Object>,
     new: Option<&Object>,
     keys: &mut Vec<Key>,
 ) -> Result<(), NoMemory>
-    requires tree { forest.now.nodes ≡ forest_of (state_of store.now config.now) }
-    ensures { OnOk result (keys.new.items ≡ keys.old.items ++ charged_usage (state_of store.now config.now) ns.now (option_copied old.entry) (option_copied new.entry)) }
+    ensures { OnOk result (keys.new.items ≡ keys.old.items ++ charged_usage (state_in current.now) ns.now (option_copied old.entry) (option_copied new.entry)) }
 {
     if !is_charged_anew(old, new) {
         return Ok(());
     }
-    charged_along(store, old, new, forest.ancestors(ns), keys)
+    charged_along(current.store, old, new, current.forest.ancestors(ns), keys)
 }
 
 /// Marks the quotas of some namespaces that limit what an object is charged of, where that changes.

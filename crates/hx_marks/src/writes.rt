@@ -4,9 +4,11 @@ ghost use Rattle.hx_model.specs.Tree.{forest_of};
 ghost use Rattle.hx_model.specs.Valid.{IsValid};
 ghost use Rattle.hx_model.specs.Writes.{MayWriteAll};
 ghost use Rattle.hx_marks.specs.Before.{marks_before_among, state_of};
+ghost use Rattle.hx_marks.specs.Reads.{state_in};
 ghost use Rattle.hx_marks.specs.Halves.{Covers, IsWithin};
 ghost use Rattle.hx_marks.specs.Law.{all_marks};
 
+use crate::current::Current;
 use crate::endings::Endings;
 use crate::kinds::marks_by;
 use crate::lookups::object_in;
@@ -34,44 +36,43 @@ pub fn marks(
 {
     let mut keys = Vec::new(store.allocator());
     let endings = Endings::of(store.allocator(), writes)?;
-    marks_of_all(store, forest, config, &endings, writes, &mut keys)?;
+    let current = Current {
+        store,
+        forest,
+        config,
+    };
+    marks_of_all(&current, &endings, writes, &mut keys)?;
     Ok(keys)
 }
 
 fn marks_of_all(
-    store: &Store,
-    forest: &Forest,
-    config: &RunConfig,
+    current: &Current,
     endings: &Endings,
     writes: &[Change],
     keys: &mut Vec<Key>,
 ) -> Result<(), NoMemory>
-    requires tree { forest.now.nodes ≡ forest_of (state_of store.now config.now) }
-    ensures { OnOk result (keys.new.items ≡ keys.old.items ++ flat_map (marks_before_among (state_of store.now config.now) endings.now) writes.now) }
+    ensures { OnOk result (keys.new.items ≡ keys.old.items ++ flat_map (marks_before_among (state_in current.now) endings.now) writes.now) }
 {
     for write in writes {
-        marks_among(store, forest, config, endings, write, keys)?;
+        marks_among(current, endings, write, keys)?;
     }
     Ok(())
 }
 
 /// Marks what a write can change, among others: where its namespace leaves together with its parent, that one marks what took part below both.
 fn marks_among(
-    store: &Store,
-    forest: &Forest,
-    config: &RunConfig,
+    current: &Current,
     endings: &Endings,
     write: &Change,
     keys: &mut Vec<Key>,
 ) -> Result<(), NoMemory>
-    requires tree { forest.now.nodes ≡ forest_of (state_of store.now config.now) }
-    ensures { OnOk result (keys.new.items ≡ keys.old.items ++ marks_before_among (state_of store.now config.now) endings.now write.now) }
+    ensures { OnOk result (keys.new.items ≡ keys.old.items ++ marks_before_among (state_in current.now) endings.now write.now) }
 {
     let id = write.id();
-    let old = object_in(store.get(id));
+    let old = object_in(current.store.get(id));
     let new = object_in(write.object());
-    if endings.lead_out(forest, id, old, new) {
-        return following_marks(store, forest, config, &id.name, keys);
+    if endings.lead_out(current.forest, id, old, new) {
+        return following_marks(current, &id.name, keys);
     }
-    marks_by(store, forest, config, id, old, new, keys)
+    marks_by(current, id, old, new, keys)
 }

@@ -3,7 +3,7 @@ use Rattle.std.specs.Prelude.{if◌then◌else◌, option_copied}
 use Rattle.std.specs.Str.{bytes_eq}
 use Rattle.hx_object.specs.WellKnown.{config}
 use Rattle.hx_model.specs.Tree.{forest_of}
-use Rattle.hx_marks.specs.Before.{state_of}
+use Rattle.hx_marks.specs.Reads.{state_in}
 use Rattle.hx_marks.specs.Law.{leaving_keys, mode_marks, object_marks}
 use Rattle.hx_marks.specs.Usage.{charged_usage}
 use Rattle.hx_marks.proofs.Adding.{grown_on}
@@ -11,7 +11,7 @@ use Rattle.hx_marks.proofs.kinds.config_marks.Goals as goal
 
 pub returns : goal.returns
 returns c =
-    let s = state_of c.args.store.now c.args.config.now in
+    let s = state_in c.args.current.now in
     let id = c.args.id.now in
     let old = option_copied c.args.old in
     let new = option_copied c.args.new in

@@ -7,4 +7,4 @@ use Rattle.hx_marks.proofs.moves.all_by_ways.Given as goal
 
 -- the marks so far, and those of the rest
 abbrev pub invariant-loop-member : goal.invariant-loop-member
-invariant-loop-member l = l.keys.items ++ flat_map (λ m. all_of l.store.objects (up_to l.name (chain_of l.forest.nodes m) ++ l.name ∷ l.above) m) (drop l.member-index l.members) ≡ l.initial.keys.items ++ flat_map (λ m. all_of l.store.objects (up_to l.name (chain_of l.forest.nodes m) ++ l.name ∷ l.above) m) l.members
+invariant-loop-member l = l.keys.items ++ flat_map (λ m. all_of l.current.store.now.objects (up_to l.name (chain_of l.current.forest.now.nodes m) ++ l.name ∷ l.above) m) (drop l.member-index l.members) ≡ l.initial.keys.items ++ flat_map (λ m. all_of l.current.store.now.objects (up_to l.name (chain_of l.current.forest.now.nodes m) ++ l.name ∷ l.above) m) l.members

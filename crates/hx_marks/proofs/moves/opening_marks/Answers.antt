@@ -11,6 +11,6 @@ returns c =
     let above = c.deref.ensures.value ∙ c.in_ok-above.ensures in
     let members = c.deref-2.ensures.value ∙ c.in_ok-members.ensures in
     grown c.all_by_ways.result _ _ _ _
-    ((λ i. flat_map (λ (m : List ℕ). all_of c.args.store.now.objects (up_to c.args.name.now (chain_of c.args.forest.now.nodes m) ++ c.args.name.now ∷ above i) m) (members i))
-    ∙ ap (λ (f : Forest). flat_map (λ (m : List ℕ). all_of c.args.store.now.objects (up_to c.args.name.now (chain_of f m) ++ c.args.name.now ∷ chain_from f (option_copied c.args.new)) m) (live_below f c.args.name.now)) c.requires.tree)
+    ((λ i. flat_map (λ (m : List ℕ). all_of c.args.current.now.store.now.objects (up_to c.args.name.now (chain_of c.args.current.now.forest.now.nodes m) ++ c.args.name.now ∷ above i) m) (members i))
+    ∙ ap (λ (f : Forest). flat_map (λ (m : List ℕ). all_of c.args.current.now.store.now.objects (up_to c.args.name.now (chain_of f m) ++ c.args.name.now ∷ chain_from f (option_copied c.args.new)) m) (live_below f c.args.name.now)) c.args.current.now.tree)
     c.all_by_ways.ensures

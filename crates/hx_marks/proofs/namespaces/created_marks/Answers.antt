@@ -10,8 +10,8 @@ pub returns : goal.returns
 returns c =
     let above = c.deref.ensures.value ∙ c.in_ok-above.ensures in
     let members = c.deref-2.ensures.value ∙ c.in_ok-members.ensures in
-    let asking = asking_keys c.args.store.now.objects c.args.name.now in
+    let asking = asking_keys c.args.current.now.store.now.objects c.args.name.now in
     grown_on c.asking_keys.result _ _ c.args.keys.now.items _ asking _ c.in_ok-marks_under.ensures
-    ((λ i. flat_map (λ (m : List ℕ). all_of c.args.store.now.objects (chain_of c.args.forest.now.nodes m ++ c.args.name.now ∷ above i) m) (members i) ++ asking)
-    ∙ ap (λ (f : Forest). flat_map (λ (m : List ℕ). all_of c.args.store.now.objects (chain_of f m ++ c.args.name.now ∷ chain_from f (option_copied c.args.parent)) m) (below_created f c.args.name.now) ++ asking) c.requires.tree)
+    ((λ i. flat_map (λ (m : List ℕ). all_of c.args.current.now.store.now.objects (chain_of c.args.current.now.forest.now.nodes m ++ c.args.name.now ∷ above i) m) (members i) ++ asking)
+    ∙ ap (λ (f : Forest). flat_map (λ (m : List ℕ). all_of c.args.current.now.store.now.objects (chain_of f m ++ c.args.name.now ∷ chain_from f (option_copied c.args.parent)) m) (below_created f c.args.name.now) ++ asking) c.args.current.now.tree)
     c.asking_keys.ensures

@@ -11,14 +11,14 @@ use Rattle.hx_marks.proofs.Sending.{all_open}
 use Rattle.hx_marks.proofs.namespaces.ending_marks.Goals as goal
 
 pub all_by_chains-requires : goal.all_by_chains-requires
-all_by_chains-requires c = record { part = all_open c.args.forest.now.nodes c.args.name.now c.deref.result.now (c.deref.ensures.value ∙ c.in_ok-members.ensures) }
+all_by_chains-requires c = record { part = all_open c.args.current.now.forest.now.nodes c.args.name.now c.deref.result.now (c.deref.ensures.value ∙ c.in_ok-members.ensures) }
 
 pub returns : goal.returns
 returns c =
     let members = c.deref.ensures.value ∙ c.in_ok-members.ensures in
-    let below = flat_map (λ (m : List ℕ). all_of c.args.store.now.objects (chain_of c.args.forest.now.nodes m) m) c.deref.result.now in
-    let statuses = status_keys c.args.store.now.objects c.args.name.now in
-    let quotas = usage_keys c.args.store.now.objects c.args.name.now in
+    let below = flat_map (λ (m : List ℕ). all_of c.args.current.now.store.now.objects (chain_of c.args.current.now.forest.now.nodes m) m) c.deref.result.now in
+    let statuses = status_keys c.args.current.now.store.now.objects c.args.name.now in
+    let quotas = usage_keys c.args.current.now.store.now.objects c.args.name.now in
     let removal = key.Purge c.args.name.now ∷ [] in
     grown_on c.push_purge.result _ _ c.args.keys.now.items (below ++ (statuses ++ quotas)) removal _
     (c.in_ok-usage_keys.ensures
@@ -27,6 +27,6 @@ returns c =
     ∙ append_assoc c.args.keys.now.items below (statuses ++ quotas))
     (append_assoc below (statuses ++ quotas) removal
     ∙ ap (λ (keys : List Key). below ++ keys) (append_assoc statuses quotas removal)
-    ∙ ap (λ (names : List (List ℕ)). flat_map (λ (m : List ℕ). all_of c.args.store.now.objects (chain_of c.args.forest.now.nodes m) m) names ++ (statuses ++ (quotas ++ removal))) members
-    ∙ ap (λ (f : Forest). flat_map (λ (m : List ℕ). all_of c.args.store.now.objects (chain_of f m) m) (open_below f c.args.name.now) ++ (statuses ++ (quotas ++ removal))) c.requires.tree)
+    ∙ ap (λ (names : List (List ℕ)). flat_map (λ (m : List ℕ). all_of c.args.current.now.store.now.objects (chain_of c.args.current.now.forest.now.nodes m) m) names ++ (statuses ++ (quotas ++ removal))) members
+    ∙ ap (λ (f : Forest). flat_map (λ (m : List ℕ). all_of c.args.current.now.store.now.objects (chain_of f m) m) (open_below f c.args.name.now) ++ (statuses ++ (quotas ++ removal))) c.args.current.now.tree)
     c.push_purge.ensures

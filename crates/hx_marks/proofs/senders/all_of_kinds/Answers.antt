@@ -11,13 +11,13 @@ use Rattle.hx_marks.proofs.senders.all_of_kinds.Goals as goal
 
 pub come_to-requires-clause-part : goal.come_to-requires-clause-part
 come_to-requires-clause-part c =
-    let takes = next_passes (is_open c.args.forest.now.nodes) c.args.members.now c.loop-member.member-index c.member-item.result c.loop-member-test.true c.member-item.is c.loop-member.invariant.1.1 in
-    ap (is_open_above c.args.forest.now.nodes) c.parent-parent.ensures ∙ open_parent c.args.forest.now.nodes c.member-item.result takes.0
+    let takes = next_passes (is_open c.args.current.now.forest.now.nodes) c.args.members.now c.loop-member.member-index c.member-item.result c.loop-member-test.true c.member-item.is c.loop-member.invariant.1.1 in
+    ap (is_open_above c.args.current.now.forest.now.nodes) c.parent-parent.ensures ∙ open_parent c.args.current.now.forest.now.nodes c.member-item.result takes.0
 
 pub loop-member-preserved : goal.loop-member-preserved
 loop-member-preserved c =
-    let objects = c.args.store.now.objects in
-    let f = c.args.forest.now.nodes in
+    let objects = c.args.current.now.store.now.objects in
+    let f = c.args.current.now.forest.now.nodes in
     let m = c.member-item.result in
     let next = next_passes (is_open f) c.args.members.now c.loop-member.member-index m c.loop-member-test.true c.member-item.is c.loop-member.invariant.1.1 in (
       carried (λ (n : List ℕ). all_of objects (chain_of f n) n) c.args.members.now c.loop-member.member-index m c.all_under.new.keys.items c.loop-member.keys.items _ c.loop-member-test.true c.member-item.is
