@@ -4,6 +4,7 @@
 --     passes_get, passes_list, passes_unchanged    asks that write nothing
 --     may_none, may_one  no write, and one, may be made
 --     served_replacement     what a PUT gives is served
+--     found_replacement      the object that is there has its identity
 --     given_stays        what requests give isn't on its way out
 --     may_put, may_replace      an object with the next version, and that of a PUT, may be put
 --     passes_create, passes_replace     asks of one write
@@ -162,6 +163,10 @@ module _ (s : State) (x old next : Object) (expected : Option ℕ) (skip : Bool)
 
   pub served_replacement : IsServed next
   served_replacement = subst IsServed (sym r.gives) served_given
+
+  -- the object that is there has its identity
+  pub found_replacement : object_at s.objects next.id ≡ Some old
+  found_replacement = ap (λ (y : Object). object_at s.objects y.id) r.gives ∙ r.there
 
   -- its namespace is that of the object that is there
   home_before : has_home s.objects x.id ≡ true

@@ -4,13 +4,14 @@
 --     IsConfigFor        the HNCConfiguration that is stored, where a copy is removed. The rules look at it nowhere else
 --     IsConflictFor      whether a write makes a conflict. The rules look at it where they aren't skipped, for a HierarchyConfiguration that closes no cycle, an HNCConfiguration, and an object that can be copied
 --     AreFindings        what is read of a write before the rules
+--     IsCreation         an object that a POST gives, where nothing stands against it
 --     IsReplacement      the object that a PUT gives, where neither its version nor a rule nor a quota stands against it
 --     IsDeletion         what a DELETE writes of an object that is there, where no rule stands against it
 --     IsReviewed         the review of one write
 --     place_refusals     the refusals of a POST by its place
 --     growth_refusals    the refusals by the sum of sizes and by the versions
 --     objects_with       the objects once one stands in the place of another
-use Rattle.std.specs.Prelude.{◌≡◌, ◌⊎◌, ◌+◌, ℕ, Bool, true, false, nat_le, is_some, List, [], ◌∷◌, Option, Some, None, IfSome}
+use Rattle.std.specs.Prelude.{◌≡◌, ◌⊎◌, ◌+◌, ◌<◌, ℕ, Bool, true, false, nat_le, is_some, List, [], ◌∷◌, Option, Some, None, IfSome}
 use Rattle.hx_object.specs.Kinds.{can_be_copied}
 use Rattle.hx_object.specs.declared.kind.Kind.TheVariants.{Namespace, HncConfiguration}
 use Rattle.hx_object.specs.declared.object.Id.{Id}
@@ -23,11 +24,11 @@ use Rattle.hx_model.specs.Limits.{is_hierarchy, is_copy, greatest_version}
 use Rattle.hx_model.specs.Modes.{config_id}
 use Rattle.hx_model.specs.RulesCopies.{misuses_exceptions}
 use Rattle.hx_model.specs.RulesHierarchy.{closes_cycle}
-use Rattle.hx_model.specs.State.{State, Objects, object_at, put, cut, with_version, home_in}
+use Rattle.hx_model.specs.State.{State, Objects, object_at, put, cut, with_version, has_home, home_in}
 use Rattle.hx_model.specs.Serving.{IsServed}
 use Rattle.hx_model.specs.Valid.{IsValid}
 use Rattle.hx_model.specs.declared.ask.Ask.{Ask}
-use Rattle.hx_model.specs.declared.ask.Ask.TheVariants.{Replace, Delete}
+use Rattle.hx_model.specs.declared.ask.Ask.TheVariants.{Create, Replace, Delete}
 use Rattle.hx_model.specs.declared.ask.Answer.{Answer}
 use Rattle.hx_model.specs.declared.key.Write.{Write}
 use Rattle.hx_model.specs.declared.refusal.Refusal.{Refusal}
@@ -61,6 +62,13 @@ IsConflictOf s new conflict = IfSome new (λ x. can_be_copied x.id.kind ≡ true
 pub record AreFindings (c : Case) (found : Findings) : Type 0 where
   pub exceptions : found.is_invalid ≡ misuses_exceptions c
   pub conflict : IsConflictFor c found.conflict
+
+-- an object that a POST gives, where nothing stands against it
+pub record IsCreation (s : State) (x : Object) (skip : Bool) : Type 0 where
+  pub free : object_at s.objects x.id ≡ None
+  pub home : has_home s.objects x.id ≡ true
+  pub passes : refusal_of s (Create x skip) ≡ None
+  pub fits : s.last < greatest_version
 
 -- the object that a PUT gives in the place of the one that is there, where neither its version nor a rule nor a quota stands against it
 pub record IsReplacement (s : State) (x old : Object) (expected : Option ℕ) (skip : Bool) (next : Object) : Type 0 where

@@ -17,12 +17,13 @@ ghost use Rattle.hx_model.specs.TreeLabels.{is_open};
 ghost use Rattle.hx_admit.specs.Conflicting.{with_object, is_source_of, is_source_in, goes_as_before, goes_down, is_reached, is_taken, is_hit, hits, with_written, would_go, has_overwritten, comes_over};
 
 use crate::indexed_state::IndexedState;
+use crate::moves::{labels_along, mode_at};
 use crate::plan::object_in;
 use hx_forest::{Ancestors, Forest};
 use hx_model::{COPIED_KINDS, is_same_name, is_source, mode_in};
 use hx_object::well_known::{CONFIG, NONE_EXCEPTION, SELECT_EXCEPTION, TREE_SELECT_EXCEPTION};
 use hx_object::{Id, Kind, Mode, NoMemory, Object, Pairs, Shared, Text};
-use hx_rules::{exception, goes_to, prescribed_labels, stays_home};
+use hx_rules::{exception, goes_to, stays_home};
 use std::alloc::Global;
 
 impl IndexedState {
@@ -262,20 +263,15 @@ impl IndexedState {
     fn labels_at(&self, ns: &Text) -> Result<Pairs, NoMemory>
         ensures { IfOk result (λ labels. labels ≡ labels_at self.now.state ns.now) }
     {
-        let alloc = self.store.allocator();
         let chain = self.forest.chain(ns)?;
-        match self.store.find(Kind::Namespace, "", ns.as_str()) {
-            Some(namespace) => prescribed_labels(alloc, &chain, &namespace.object().labels),
-            None => prescribed_labels(alloc, &chain, &Pairs::new(alloc)),
-        }
+        labels_along(&self.store, ns, &chain)
     }
 
     /// The mode of a kind, by the HNCConfiguration that is stored.
     fn mode(&self, kind: Kind) -> Mode
         ensures { result ≡ mode_of self.now.state kind }
     {
-        let found = self.store.find(Kind::HncConfiguration, "", CONFIG);
-        mode_in(object_in(found), kind)
+        mode_at(&self.store, kind)
     }
 
     /// Whether a namespace takes part: it is there and not on its way out, and neither excluded nor halted.

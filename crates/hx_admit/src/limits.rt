@@ -21,7 +21,7 @@ const MOST_BYTES: u64 = 268_435_456;
 pub const GREATEST_VERSION: u64 = i64::MAX as u64;
 
 /// What a store has of what is limited, as running numbers. They may be over the limits, which are refusals of requests alone.
-#[derive(Clone, Copy, Debug, PartialEq, Eq)]
+#[derive(Clone, Copy)]
 pub struct LimitCounts {
     /// The names of namespaces and anchors.
     pub names: u64,

@@ -69,7 +69,7 @@ fn any_overwrites(
     ensures { IfOk result (λ found. found ≡ list_any (λ m. overwrites_in store.now.objects m (open_way forest.now.nodes namespace.now above.now m) (open_chain forest.now.nodes m)) members.now) }
 {
     for member in members {
-        if overwrites_at(store, forest, namespace, above, member)? {
+        if any_kind(store, forest, namespace, above, member, &COPIED_KINDS)? {
             return Ok(true);
         }
     }
@@ -77,18 +77,6 @@ fn any_overwrites(
 }
 
 /// Whether a source in a namespace of the subtree is overwritten then, and isn't now.
-fn overwrites_at(
-    store: &Store,
-    forest: &Forest,
-    namespace: &Text,
-    above: &[Text],
-    member: &Text,
-) -> Result<bool, NoMemory>
-    ensures { IfOk result (λ found. found ≡ overwrites_in store.now.objects member.now (open_way forest.now.nodes namespace.now above.now member.now) (open_chain forest.now.nodes member.now)) }
-{
-    any_kind(store, forest, namespace, above, member, &COPIED_KINDS)
-}
-
 fn any_kind(
     store: &Store,
     forest: &Forest,
@@ -235,7 +223,7 @@ fn goes_along(
 }
 
 /// The labels that a chain prescribes to a namespace.
-fn labels_along(store: &Store, name: &Text, chain: &[Text]) -> Result<Pairs, NoMemory>
+pub(crate) fn labels_along(store: &Store, name: &Text, chain: &[Text]) -> Result<Pairs, NoMemory>
     ensures { IfOk result (λ labels. labels ≡ prescribed_labels chain.now (labels_in store.now.objects name.now)) }
 {
     let alloc = store.allocator();
@@ -246,7 +234,7 @@ fn labels_along(store: &Store, name: &Text, chain: &[Text]) -> Result<Pairs, NoM
 }
 
 /// The mode of a kind, by the HNCConfiguration that is stored.
-fn mode_at(store: &Store, kind: Kind) -> Mode
+pub(crate) fn mode_at(store: &Store, kind: Kind) -> Mode
     ensures { result ≡ mode_at store.now.objects kind }
 {
     let found = store.find(Kind::HncConfiguration, "", CONFIG);

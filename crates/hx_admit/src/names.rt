@@ -104,9 +104,7 @@ impl IndexedState {
     fn has_namespace(&self, name: &Text) -> bool
         ensures { result ≡ is_some (object_at self.now.state.objects (namespace_id name.now)) }
     {
-        self.store
-            .find(Kind::Namespace, "", name.as_str())
-            .is_some()
+        self.named(name).is_some()
     }
 }
 

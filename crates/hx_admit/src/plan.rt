@@ -43,14 +43,30 @@ impl IndexedState {
             let new = object_after(write);
             let name = self.name_change(write.id(), old, new)?;
             counts = counts_after(counts, old, new, name)?;
-            push_change(&mut tree, self.tree_change(write, old)?)?;
-            push_change(&mut owners, self.owner_change(write, old)?)?;
+            self.push_changes(&mut tree, &mut owners, write, old)?;
         }
         Ok(Plan {
             counts,
             tree,
             owners,
         })
+    }
+
+    /// Adds what a write changes of the tree and of the owners.
+    fn push_changes(
+        &self,
+        tree: &mut Vec<TreeChange>,
+        owners: &mut Vec<TreeChange>,
+        write: &Change,
+        old: Option<&Object>,
+    ) -> Result<(), NoMemory>
+        requires { object_at self.now.state.objects (id_of write.now) ≡ option_copied old }
+        ensures tree { OnOk result (tree.new.items ≡ tree.old.items ++ listed (tree_change self.now.state write.now)) }
+        ensures owners { OnOk result (owners.new.items ≡ owners.old.items ++ listed (owner_change self.now.state write.now)) }
+    {
+        push_change(tree, self.tree_change(write, old)?)?;
+        push_change(owners, self.owner_change(write, old)?)?;
+        Ok(())
     }
 
     /// The object that is there, of the identity of a write.

@@ -1,11 +1,12 @@
 // What a request writes and is answered.
-ghost use Rattle.std.specs.Prelude.{◌≡◌, ◌⊎◌, ◌+◌, ◌<◌, [], true, Some, option_copied, IfOk, IfErr};
-ghost use Rattle.hx_model.specs.Answers.{refusal_of};
+ghost use Rattle.std.specs.Prelude.{◌≡◌, ◌⊎◌, ◌+◌, ◌<◌, ℕ, Bool, [], true, false, Some, Option, option_copied, IfOk, IfErr, OnOk};
+ghost use Rattle.hx_object.specs.declared.object.Object.{Object as object_of};
+ghost use Rattle.hx_model.specs.Answers.{refusal_of, replaced_by as put_over};
 ghost use Rattle.hx_model.specs.Limits.{greatest_version};
 ghost use Rattle.hx_model.specs.Serving.{IsServed, IsServedAsk, is_given};
 ghost use Rattle.hx_model.specs.State.{object_at, with_version, state_after};
 ghost use Rattle.hx_model.specs.declared.key.Write.TheVariants as write_of;
-ghost use Rattle.hx_admit.specs.Inside.{IsRefusal, IsReplacement, IsReviewed, IsDeletion};
+ghost use Rattle.hx_admit.specs.Inside.{IsRefusal, IsCreation, IsReplacement, IsReviewed, IsDeletion};
 ghost use Rattle.hx_admit.specs.Reviewing.{Passes};
 ghost use Rattle.hx_model.specs.Writes.{MayWriteAll};
 
@@ -46,10 +47,7 @@ impl IndexedState {
     {
         match self.store.get(id) {
             None => Err(Denial::NotFound.refusal(id)),
-            Some(object) => Ok(self.unchanged(Answer::One {
-                object: object.share()?,
-                fresh: false,
-            })),
+            Some(object) => Ok(self.shown(object)?),
         }
     }
 
@@ -79,18 +77,31 @@ impl IndexedState {
         ensures passes { IfOk result (λ r. Passes self.now.state (Ask.Create object skip) r.writes.items r.answer) }
         ensures may { IfOk result (λ r. MayWriteAll self.now.state r.writes.items) }
     {
-        let found = self.findings(&object.id, self.object(&object.id), Some(&object), skip)?;
-        let brings_name = self.brings_name(&object.id)?;
-        if let Err(denial) = self.check_create(&object, found, skip) {
-            return Err(denial.refusal(&object.id));
-        }
-        if let Some(refusal) = self.quota_refusal(None, &object)? {
+        if let Err(refusal) = self.check_creation(&object, skip) {
+            drop(object);
             return Err(refusal);
         }
-        if let Err(denial) = self.check_limits(&object, brings_name) {
+        Ok(self.put(object, true)?)
+    }
+
+    /// Finds the first refusal of a POST.
+    fn check_creation(&self, object: &Object, skip: bool) -> Result<(), Refusal>
+        requires { IsServed object.now }
+        ensures refused { IfErr result (IsRefusal self.now.state (Ask.Create object.now skip)) }
+        ensures passes { OnOk result (IsCreation self.now.state object.now skip) }
+    {
+        let found = self.findings(&object.id, self.object(&object.id), Some(object), skip)?;
+        let brings_name = self.brings_name(&object.id)?;
+        if let Err(denial) = self.check_create(object, found, skip) {
             return Err(denial.refusal(&object.id));
         }
-        Ok(self.put(object, true)?)
+        if let Some(refusal) = self.quota_refusal(None, object)? {
+            return Err(refusal);
+        }
+        if let Err(denial) = self.check_limits(object, brings_name) {
+            return Err(denial.refusal(&object.id));
+        }
+        Ok(())
     }
 
     fn review_replace(
@@ -105,18 +116,30 @@ impl IndexedState {
         ensures may { IfOk result (λ r. MayWriteAll self.now.state r.writes.items) }
     {
         let Some(old) = self.store.get(&object.id) else {
-            return Err(Denial::NotFound.refusal(&object.id));
+            let refusal = Denial::NotFound.refusal(&object.id);
+            drop(object);
+            return Err(refusal);
         };
-        let found = old.object();
-        let next = self.replacement(found, object, expected, skip)?;
-        if next.is_same(found) {
-            return Ok(self.unchanged(Answer::One {
-                object: old.share()?,
-                fresh: false,
-            }));
+        let next = self.replacement(old.object(), object, expected, skip)?;
+        self.review_replacement(old, next)
+    }
+
+    /// Reviews a PUT by the object that it gives.
+    fn review_replacement(&self, old: &Shared, next: Object) -> Result<Reviewed, Refusal>
+        requires there { object_at self.now.state.objects next.id ≡ Some old.now }
+        requires served { IsServed next }
+        ensures refused { (x : object_of) (expected : Option ℕ) (skip : Bool) → IsReplacement self.now.state x old.now expected skip next → IfErr result (IsRefusal self.now.state (Ask.Replace x expected skip)) }
+        ensures passes { (x : object_of) (expected : Option ℕ) (skip : Bool) → IsReplacement self.now.state x old.now expected skip next → IfOk result (λ r. Passes self.now.state (Ask.Replace x expected skip) r.writes.items r.answer) }
+        ensures may { (x : object_of) (expected : Option ℕ) (skip : Bool) → IsReplacement self.now.state x old.now expected skip next → IfOk result (λ r. MayWriteAll self.now.state r.writes.items) }
+    {
+        if next.is_same(old.object()) {
+            drop(next);
+            return Ok(self.shown(old)?);
         }
-        if let Err(denial) = self.check_growth(&next.id, Some(found), Some(&next)) {
-            return Err(denial.refusal(&next.id));
+        if let Err(denial) = self.check_growth(&next.id, Some(old.object()), Some(&next)) {
+            let refusal = denial.refusal(&next.id);
+            drop(next);
+            return Err(refusal);
         }
         Ok(self.put(next, false)?)
     }
@@ -134,14 +157,34 @@ impl IndexedState {
         ensures refused { IfErr result (IsRefusal self.now.state (Ask.Replace object expected skip)) }
         ensures gives { IfOk result (IsReplacement self.now.state object old.now expected skip) }
     {
-        let found = self.findings(&object.id, Some(old), Some(&object), skip)?;
-        if let Err(denial) = self.check_replace(old, &object, expected, found, skip) {
-            return Err(denial.refusal(&object.id));
-        }
-        if let Some(refusal) = self.quota_refusal(Some(old), &object)? {
+        if let Err(refusal) = self.check_replacement(old, &object, expected, skip) {
+            drop(object);
             return Err(refusal);
         }
         Ok(replaced_by(old, object)?)
+    }
+
+    /// Finds the first refusal of a PUT, but for what it adds to the sizes.
+    fn check_replacement(
+        &self,
+        old: &Object,
+        object: &Object,
+        expected: Option<u64>,
+        skip: bool,
+    ) -> Result<(), Refusal>
+        requires served { IsServed object.now }
+        requires there { object_at self.now.state.objects object.now.id ≡ Some old.now }
+        ensures refused { IfErr result (IsRefusal self.now.state (Ask.Replace object.now expected skip)) }
+        ensures gives { OnOk result (IsReplacement self.now.state object.now old.now expected skip (put_over old.now object.now)) }
+    {
+        let found = self.findings(&object.id, Some(old), Some(object), skip)?;
+        if let Err(denial) = self.check_replace(old, object, expected, found, skip) {
+            return Err(denial.refusal(&object.id));
+        }
+        if let Some(refusal) = self.quota_refusal(Some(old), object)? {
+            return Err(refusal);
+        }
+        Ok(())
     }
 
     fn review_delete(&self, id: &Id, skip: bool) -> Result<Reviewed, Refusal>
@@ -179,6 +222,19 @@ impl IndexedState {
         object_in(self.store.get(id))
     }
 
+    /// The review of a request that shows an object.
+    fn shown(&self, object: &Shared) -> Result<Reviewed, NoMemory>
+        ensures writing { IfOk result (λ r. r.writes.items ≡ []) }
+        ensures answers { IfOk result (λ r. r.answer ≡ Answer.One object.now false) }
+        ensures may { IfOk result (λ r. MayWriteAll self.now.state r.writes.items) }
+    {
+        let object = object.share()?;
+        Ok(self.unchanged(Answer::One {
+            object,
+            fresh: false,
+        }))
+    }
+
     /// The review of a request that changes nothing.
     fn unchanged(&self, answer: Answer) -> Reviewed
         ensures writing { result.writes.items ≡ [] }
@@ -199,13 +255,13 @@ impl IndexedState {
         let alloc = self.store.allocator();
         object.version = self.store.version() + 1;
         let stored = Shared::new(alloc, object)?;
-        let answer = Answer::One {
-            object: stored.share()?,
-            fresh,
-        };
+        let shown = stored.share()?;
         Ok(Reviewed {
             writes: vec![in alloc; Change::put(stored)?]?,
-            answer,
+            answer: Answer::One {
+                object: shown,
+                fresh,
+            },
         })
     }
 

@@ -28,10 +28,16 @@ pub fn check_rules(case: &Case) -> Result<(), Denial>
     requires exceptions { case.now.misuses_exceptions ≡ misuses_exceptions (case_of case.now) }
     ensures { fault_in result ≡ first (rules (case_of case.now)) }
 {
-    check_rule(Rule::X1, case.skip && !case.config.allow_skip)?;
-    check_rule(Rule::N4, namespace::enters_leaving(case))?;
+    if case.skip && !case.config.allow_skip {
+        return Err(Denial::Broken(Rule::X1));
+    }
+    if namespace::enters_leaving(case) {
+        return Err(Denial::Broken(Rule::N4));
+    }
     check_name(case)?;
-    check_rule(Rule::O1, touches_copy(case))?;
+    if touches_copy(case) {
+        return Err(Denial::Broken(Rule::O1));
+    }
     check_kind(case)
 }
 

@@ -2,7 +2,7 @@
 ghost use Rattle.std.specs.Prelude.{◌≡◌, option_copied};
 ghost use Rattle.hx_model.specs.Cases.{any_of};
 ghost use Rattle.hx_model.specs.First.{first};
-ghost use Rattle.hx_model.specs.RulesAnchors.{anchor_rules, unskipped_rules, creates, asks_excluded, is_elsewhere, reaches_too_deep, has_kept_children};
+ghost use Rattle.hx_model.specs.RulesAnchors.{anchor_rules, creates, asks_excluded, is_elsewhere, reaches_too_deep, has_kept_children};
 ghost use Rattle.hx_model.specs.Subnamespaces.{is_owned_by};
 ghost use Rattle.hx_admit.specs.Refusing.{fault_in};
 ghost use Rattle.hx_admit.specs.Ruling.{case_of};
@@ -13,22 +13,22 @@ use crate::case::Case;
 use hx_model::{Denial, Rule, is_owned_by};
 use hx_object::{Object, Text};
 
+/// Finds the first rule on an anchor that a write or a removal breaks. Admission may skip them all.
 pub fn check_rules(case: &Case) -> Result<(), Denial>
     ensures { fault_in result ≡ first (anchor_rules (case_of case.now)) }
 {
     if case.skip {
         return Ok(());
     }
-    check_unskipped(case)
-}
-
-/// All of them, which admission may skip.
-fn check_unskipped(case: &Case) -> Result<(), Denial>
-    ensures { fault_in result ≡ first (unskipped_rules (case_of case.now)) }
-{
-    check_rule(Rule::A2, creates(case) && asks_excluded(case))?;
-    check_rule(Rule::A1, creates(case) && is_elsewhere(case))?;
-    check_rule(Rule::A4, creates(case) && reaches_too_deep(case))?;
+    if creates(case) && asks_excluded(case) {
+        return Err(Denial::Broken(Rule::A2));
+    }
+    if creates(case) && is_elsewhere(case) {
+        return Err(Denial::Broken(Rule::A1));
+    }
+    if creates(case) && reaches_too_deep(case) {
+        return Err(Denial::Broken(Rule::A4));
+    }
     check_rule(Rule::A3, !case.is_write() && has_kept_children(case))
 }
 

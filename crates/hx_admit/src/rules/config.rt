@@ -3,7 +3,7 @@ ghost use Rattle.std.specs.Prelude.{◌≡◌, not, length, filter};
 ghost use Rattle.std.specs.List.{list_any};
 ghost use Rattle.hx_model.specs.First.{first};
 ghost use Rattle.hx_model.specs.Modes.{names_kind};
-ghost use Rattle.hx_model.specs.RulesConfig.{misses_config, config_rules, entry_rules, names_one_of, is_named_twice, has_unknown, has_twice, plain_kinds, fixed_kinds, unpropagated_kinds};
+ghost use Rattle.hx_model.specs.RulesConfig.{misses_config, config_rules, entry_rules, names_one_of, is_named_twice};
 ghost use Rattle.hx_admit.specs.Refusing.{fault_in};
 ghost use Rattle.hx_admit.specs.Ruling.{case_of};
 
@@ -42,10 +42,18 @@ pub fn check_rules(case: &Case) -> Result<(), Denial>
 fn check_entries(entries: &[ModeEntry], conflict: bool) -> Result<(), Denial>
     ensures { fault_in result ≡ first (entry_rules entries.now conflict) }
 {
-    check_rule(Rule::C2, has_unknown(entries))?;
-    check_rule(Rule::C3, has_twice(entries))?;
-    check_rule(Rule::C4, has_one_of(entries, &FIXED_KINDS))?;
-    check_rule(Rule::C6, has_one_of(entries, &UNPROPAGATED_KINDS))?;
+    if has_other(entries, &PLAIN_KINDS) {
+        return Err(Denial::Broken(Rule::C2));
+    }
+    if is_one_twice(entries, &PLAIN_KINDS) {
+        return Err(Denial::Broken(Rule::C3));
+    }
+    if has_one_of(entries, &FIXED_KINDS) {
+        return Err(Denial::Broken(Rule::C4));
+    }
+    if has_one_of(entries, &UNPROPAGATED_KINDS) {
+        return Err(Denial::Broken(Rule::C6));
+    }
     check_rule(Rule::C5, conflict)
 }
 
@@ -54,20 +62,6 @@ pub fn misses_name(case: &Case) -> bool
     ensures { result ≡ misses_config (case_of case.now) }
 {
     case.is_write() && case.id.name.as_str() != CONFIG
-}
-
-/// Whether an entry names the resource of no kind that it may name.
-fn has_unknown(entries: &[ModeEntry]) -> bool
-    ensures { result ≡ has_unknown entries.now }
-{
-    has_other(entries, &PLAIN_KINDS)
-}
-
-/// Whether some resource is named by two entries.
-fn has_twice(entries: &[ModeEntry]) -> bool
-    ensures { result ≡ has_twice entries.now }
-{
-    is_one_twice(entries, &PLAIN_KINDS)
 }
 
 /// Whether an entry names the resource of none of some kinds.

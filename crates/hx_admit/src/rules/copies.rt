@@ -26,7 +26,9 @@ pub fn check_source(case: &Case) -> Result<(), Denial>
     requires { case.now.misuses_exceptions ≡ misuses_exceptions (case_of case.now) }
     ensures { fault_in result ≡ first (source_rules (case_of case.now)) }
 {
-    check_rule(Rule::O3, case.misuses_exceptions)?;
+    if case.misuses_exceptions {
+        return Err(Denial::Broken(Rule::O3));
+    }
     check_rule(Rule::O2, makes_overwrite(case))
 }
 

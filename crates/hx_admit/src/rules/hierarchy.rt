@@ -3,7 +3,7 @@ ghost use Rattle.std.specs.Prelude.{◌≡◌, false, is_some, option_copied};
 ghost use Rattle.hx_model.specs.First.{first};
 ghost use Rattle.hx_model.specs.Forest.{halt_of};
 ghost use Rattle.hx_model.specs.Cases.{any_of, is_kept_out};
-ghost use Rattle.hx_model.specs.RulesHierarchy.{misses_hierarchy, hierarchy_rules, tree_rules, new_parent, parent_after, changes_parent, lacks_parent, closes_cycle, contradicts, moves_halted, meets_excluded, grows_too_deep, is_ancestor};
+ghost use Rattle.hx_model.specs.RulesHierarchy.{misses_hierarchy, hierarchy_rules, new_parent, parent_after, changes_parent, lacks_parent, closes_cycle, contradicts, moves_halted, meets_excluded, grows_too_deep, is_ancestor};
 ghost use Rattle.hx_admit.specs.Refusing.{fault_in};
 ghost use Rattle.hx_admit.specs.Ruling.{case_of, IsAtHome};
 
@@ -18,6 +18,7 @@ use hx_object::well_known::HIERARCHY;
 /// No namespace comes to a greater depth. A root is at depth 0.
 pub const GREATEST_DEPTH: usize = 64;
 
+/// Finds the first rule on the tree that a write or a removal breaks. Admission may skip them all.
 pub fn check_rules(case: &Case) -> Result<(), Denial>
     requires { IsAtHome (case_of case.now) }
     ensures { fault_in result ≡ first (hierarchy_rules (case_of case.now)) }
@@ -25,7 +26,25 @@ pub fn check_rules(case: &Case) -> Result<(), Denial>
     if case.skip {
         return Ok(());
     }
-    check_tree(case)
+    if lacks_parent(case) {
+        return Err(Denial::Broken(Rule::H1));
+    }
+    if closes_cycle(case) {
+        return Err(Denial::Broken(Rule::H2));
+    }
+    if contradicts(case) {
+        return Err(Denial::Broken(Rule::H3));
+    }
+    if moves_halted(case) {
+        return Err(Denial::Broken(Rule::H4));
+    }
+    if case.conflict {
+        return Err(Denial::Broken(Rule::H5));
+    }
+    if case.is_write() && meets_excluded(case) {
+        return Err(Denial::Broken(Rule::H6));
+    }
+    check_rule(Rule::H8, case.is_write() && grows_too_deep(case))
 }
 
 /// Whether it is a write of another name.
@@ -33,20 +52,6 @@ pub fn misses_name(case: &Case) -> bool
     ensures { result ≡ misses_hierarchy (case_of case.now) }
 {
     case.is_write() && case.id.name.as_str() != HIERARCHY
-}
-
-/// The rules on the tree, which admission may skip.
-fn check_tree(case: &Case) -> Result<(), Denial>
-    requires { IsAtHome (case_of case.now) }
-    ensures { fault_in result ≡ first (tree_rules (case_of case.now)) }
-{
-    check_rule(Rule::H1, lacks_parent(case))?;
-    check_rule(Rule::H2, closes_cycle(case))?;
-    check_rule(Rule::H3, contradicts(case))?;
-    check_rule(Rule::H4, moves_halted(case))?;
-    check_rule(Rule::H5, case.conflict)?;
-    check_rule(Rule::H6, case.is_write() && meets_excluded(case))?;
-    check_rule(Rule::H8, case.is_write() && grows_too_deep(case))
 }
 
 /// A parent that the given object names, and the one that is there doesn't.

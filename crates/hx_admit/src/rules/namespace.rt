@@ -17,8 +17,12 @@ use hx_object::{Object, Text};
 pub fn check_rules(case: &Case) -> Result<(), Denial>
     ensures { fault_in result ≡ first (namespace_rules (case_of case.now)) }
 {
-    check_rule(Rule::N3, case.is_write() && changes_annotation(case))?;
-    check_rule(Rule::N1, begins_removal(case) && case.family.anchored)?;
+    if case.is_write() && changes_annotation(case) {
+        return Err(Denial::Broken(Rule::N3));
+    }
+    if begins_removal(case) && case.family.anchored {
+        return Err(Denial::Broken(Rule::N1));
+    }
     check_rule(Rule::N2, begins_removal(case) && takes_along(case))
 }
 

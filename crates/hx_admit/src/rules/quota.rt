@@ -32,9 +32,7 @@ fn is_any_unknown(new: Option<&Object>) -> bool
 fn limits_unknown(quota: &Object) -> bool
     ensures { result ≡ limits_unknown quota.now }
 {
-    hard_of(&quota.payload)
-        .iter()
-        .any(|limit| is_unknown(limit))
+    hard_of(&quota.payload).iter().any(is_unknown)
 }
 
 /// Whether the name of a limit stands for no resource.

@@ -7,9 +7,9 @@ use Rattle.hx_admit.proofs.moves.any_overwrites.Goals as goal
 pub returns-then-branch : goal.returns-then-branch
 returns-then-branch c =
     left_passes (λ (m : List ℕ). overwrites_in c.args.store.now.objects m (open_way c.args.forest.now.nodes c.args.namespace.now c.args.above.now m) (open_chain c.args.forest.now.nodes m)) c.args.members.now c.loop-member.member-index c.member-item.result
-    c.loop-member-test.true c.member-item.is c.loop-member.invariant (sym c.in_ok-overwrites_at.ensures ∙ c.if-branch.true)
+    c.loop-member-test.true c.member-item.is c.loop-member.invariant (sym c.in_ok-any_kind.ensures ∙ c.if-branch.true)
 
 pub loop-member-preserved : goal.loop-member-preserved
 loop-member-preserved c =
     left_fails (λ (m : List ℕ). overwrites_in c.args.store.now.objects m (open_way c.args.forest.now.nodes c.args.namespace.now c.args.above.now m) (open_chain c.args.forest.now.nodes m)) c.args.members.now c.loop-member.member-index c.member-item.result
-    c.loop-member-test.true c.member-item.is c.loop-member.invariant (sym c.in_ok-overwrites_at.ensures ∙ c.if-branch.false)
+    c.loop-member-test.true c.member-item.is c.loop-member.invariant (sym c.in_ok-any_kind.ensures ∙ c.if-branch.false)

@@ -1,8 +1,7 @@
-use Rattle.std.proofs.Common.{◌≡◌, ◌++◌, ◌≤◌, sym, ap, subst, ◌∙◌}
+use Rattle.std.proofs.Common.{◌≡◌, ◌≤◌, sym, subst, ◌∙◌}
 use Rattle.hx_model.specs.State.{object_at}
 use Rattle.hx_store.specs.Changes.{id_of, object_of}
 use Rattle.hx_admit.specs.Counting.{Counts, gone, name_change}
-use Rattle.hx_admit.specs.Planning.{listed}
 use Rattle.hx_admit.proofs.Counting.{agrees_named, agrees_seen}
 use Rattle.hx_admit.proofs.NameCounts.{names_by}
 use Rattle.hx_admit.proofs.Staging.{plan_step, plan_small, plan_part, plan_named}
@@ -33,6 +32,5 @@ loop-write-preserved c =
     let moves : Counts (object_at s.objects (id_of w)) (object_of w) (names_by s.objects w) c.loop-write.counts c.in_ok-counts.counts =
     subst (λ name. Counts (object_at s.objects (id_of w)) (object_of w) name c.loop-write.counts c.in_ok-counts.counts) named (rw (← c.object_before-old.ensures, ← c.object_after-new.ensures) c.in_ok-counts.ensures) in
     plan_step s c.args.writes.now c.loop-write.counts c.loop-write.tree.items c.loop-write.owners.items (agrees_named _ _ _ _ _ _ (agrees_seen c.self.view_is c.self.invariant.now)) c.requires
-    c.loop-write.write-index w c.loop-write-test.true c.write-item.is c.loop-write.invariant c.in_ok-counts.counts c.push_change.new.changes.items c.push_change-in-loop-write.new.changes.items moves
-    (c.in_ok-push_change.ensures ∙ ap (λ change. c.loop-write.tree.items ++ listed change) c.in_ok-tree_change.ensures)
-    (c.in_ok-push_change-2.ensures ∙ ap (λ change. c.loop-write.owners.items ++ listed change) c.in_ok-owner_change.ensures)
+    c.loop-write.write-index w c.loop-write-test.true c.write-item.is c.loop-write.invariant c.in_ok-counts.counts c.push_changes.new.tree.items c.push_changes.new.owners.items moves
+    c.in_ok-push_changes.ensures.tree c.in_ok-push_changes.ensures.owners

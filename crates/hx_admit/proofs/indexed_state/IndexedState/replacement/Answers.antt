@@ -1,17 +1,10 @@
-use Rattle.std.proofs.Common.{Some, sym, ◌∙◌, inr}
-use Rattle.hx_model.specs.declared.ask.Ask.TheVariants.{Replace}
-use Rattle.hx_model.specs.Denials.{refusal_by}
-use Rattle.hx_admit.proofs.Refusing.{replace_first, replace_over, quotas_found}
-use Rattle.hx_admit.proofs.Reviewing.{refused_by}
+use Rattle.std.proofs.Common.{sym, subst}
+use Rattle.hx_admit.specs.Inside.{IsReplacement}
 use Rattle.hx_admit.proofs.indexed_state.IndexedState.replacement.Goals as goal
 
 pub returns-in-Err-clause-refused : goal.returns-in-Err-clause-refused
-returns-in-Err-clause-refused c =
-    let refused = replace_first c.args.self.now.state c.args.object c.args.old.now c.args.expected c.args.skip (refusal_by c.args.object.id c.in-Err.denial) c.requires.there (sym c.in-Err.ensures.refusal) in
-    refused_by c.args.self.now.state (Replace c.args.object c.args.expected c.args.skip) c.args.object.id c.in-Err.denial _ refused c.refusal.ensures
+returns-in-Err-clause-refused c = c.in-Err.ensures.refused
 
-pub returns-in-Some-clause-refused : goal.returns-in-Some-clause-refused
-returns-in-Some-clause-refused c =
-    let s = c.args.self.now.state in
-    let over = quotas_found s c.args.object c.args.old.now c.args.expected c.args.skip (Some c.in-Some.refusal) c.requires.there (sym c.in-Some.is ∙ c.in_ok-refusal.ensures) in
-    inr (replace_over s c.args.object c.args.old.now c.args.expected c.args.skip c.in-Some.refusal c.requires.there (sym c.in_default.ensures.refusal) over)
+pub returns-clause-gives : goal.returns-clause-gives
+returns-clause-gives c =
+    subst (IsReplacement c.args.self.now.state c.args.object c.args.old.now c.args.expected c.args.skip) (sym c.in_ok-replaced_by.ensures) c.in_default.ensures.gives
