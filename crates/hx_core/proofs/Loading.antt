@@ -382,6 +382,10 @@ pub counted : (kept : Option Kept) (meta : Meta) → IfSome kept (λ held. meta 
 counted None meta says = tt
 counted (Some held) meta says = ap (λ (m : Meta). m.rows) says
 
+pub at_most_all : (kept : Option Kept) (rows : ℕ) → IfSome kept (λ held. rows ≡ finite.len held.rows) → IfSome kept (λ held. rows ≤ finite.len held.rows)
+at_most_all None rows all = tt
+at_most_all (Some held) rows all = omega (arith, all)
+
 -- what a keeper holds once all its rows were taken
 pub holds_loaded : (kept : Option Kept) (s : State) (key : List ℕ) (count : ℕ) → IsLoaded s kept key count → IfSome kept (λ held. count ≡ finite.len held.rows) → IfSome kept (λ held. held ≡ kept_of s)
 holds_loaded None s key count loaded full = tt

@@ -112,6 +112,7 @@ impl<K: Keeper> Cluster<K> {
             Err(refusal) => Answer::Refused(refusal),
             Ok(Reviewed { writes, answer }) => {
                 if writes.is_empty() {
+                    drop(writes);
                     return answer;
                 }
                 match self.write(writes, None) {
@@ -198,7 +199,11 @@ fn load_work<K: Keeper>(
     let mut workers = Workers::new(alloc, keys);
     match mark_wanting(&state, &mut workers) {
         Ok(()) => Ok((state, workers)),
-        Err(NoMemory) => Err(StartFault::NoMemory),
+        Err(NoMemory) => {
+            drop(workers);
+            drop(state);
+            Err(StartFault::NoMemory)
+        }
     }
 }
 

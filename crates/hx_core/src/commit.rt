@@ -26,7 +26,7 @@ pub struct Prepared {
 }
 
 /// Why a commit didn't land.
-#[derive(Clone, Copy, Debug, PartialEq, Eq)]
+#[derive(Clone, Copy)]
 pub enum CommitFault {
     /// The keeper failed, and its count rose.
     KeeperFault,
@@ -56,9 +56,19 @@ pub fn prepare(state: &mut IndexedState, writes: Vec<Change>) -> Result<Prepared
     ensures prepared { IfOk result (λ prepared. IsPrepared state.old.state writes.items prepared.batch) }
 {
     let version = state.version() + 1;
-    let batch = batch_of(state.allocator(), writes.as_slice(), version)?;
-    state.stage(writes)?;
-    Ok(Prepared { batch })
+    match batch_of(state.allocator(), writes.as_slice(), version) {
+        Ok(batch) => match state.stage(writes) {
+            Ok(()) => Ok(Prepared { batch }),
+            Err(NoMemory) => {
+                drop(batch);
+                Err(NoMemory)
+            }
+        },
+        Err(NoMemory) => {
+            drop(writes);
+            Err(NoMemory)
+        }
+    }
 }
 
 /// Asks the keeper to take what was prepared, and then makes the staged writes. It takes no memory of its own.
@@ -111,8 +121,11 @@ pub fn write_marked<K: Keeper>(
     ensures staged { state.new.staged ≡ [] }
 {
     match keys_of(state, workers, writes.as_slice(), own) {
-        Err(NoMemory) => Err(CommitFault::NoMemory),
         Ok(keys) => write_keys(keeper, state, workers, writes, keys),
+        Err(NoMemory) => {
+            drop(writes);
+            Err(CommitFault::NoMemory)
+        }
     }
 }
 
@@ -188,8 +201,13 @@ fn keys_of(
 {
     let mut keys = marks(state.store(), state.forest(), state.config(), writes)?;
     leave_out(&mut keys, own);
-    workers.reserve(keys.len())?;
-    Ok(keys)
+    match workers.reserve(keys.len()) {
+        Ok(()) => Ok(keys),
+        Err(NoMemory) => {
+            drop(keys);
+            Err(NoMemory)
+        }
+    }
 }
 
 /// Leaves a key out of others.

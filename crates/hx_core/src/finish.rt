@@ -1,28 +1,25 @@
 // How a worker's turn ends.
 ghost use Rattle.std.specs.Prelude.{◌≡◌, ◌<◌, ◌&&◌, ◌∷◌, [], false, true, None, Some, IfOk, IfSome, is_some, nat_le, option_copied, option_map};
-ghost use Rattle.std.specs.Option.{option_eq};
 ghost use Rattle.hx_model.specs.Limits.{greatest_version};
-ghost use Rattle.hx_model.specs.State.{object_at, same_id};
+ghost use Rattle.hx_model.specs.State.{object_at};
 ghost use Rattle.hx_model.specs.Writes.{id_written};
-ghost use Rattle.hx_model.specs.Answers.{same_object};
-ghost use Rattle.hx_model.specs.Hands.{are_met, hand_of, is_met, keeps_sources, may_write, same_write, versioned};
+ghost use Rattle.hx_model.specs.Hands.{are_met, hand_of, is_met, keeps_sources, may_write, versioned};
 ghost use Rattle.hx_model.specs.Machine.{Finished};
 ghost use Rattle.hx_model.specs.Propagation.{source_at};
 ghost use Rattle.hx_model.specs.Valid.{IsValid};
-ghost use Rattle.hx_model.specs.Wanted.{wanted_write};
-ghost use Rattle.hx_rules.specs.Briefs.{StandsFor, hand_by, planned_by};
+ghost use Rattle.hx_rules.specs.Briefs.{hand_by, planned_by};
 ghost use Rattle.hx_core.specs.Refinement.{Simulates};
 ghost use Rattle.hx_core.specs.Turns.{IsPlanOf};
 ghost use Rattle.hx_core.specs.Working.{IsTried, is_removal, is_written};
 
-use crate::briefs::brief_of;
 use crate::cluster::Cluster;
 use crate::commit::CommitFault;
+use crate::wanted::is_wanted;
 use hx_admit::{GREATEST_VERSION, IndexedState};
 use hx_model::{Finish, Guard, Key, Write, is_source};
 use hx_object::{Id, NoMemory, Object, Shared};
 use hx_ports::Keeper;
-use hx_rules::{Brief, Plan, SharedBrief, plan};
+use hx_rules::{Brief, Plan};
 use hx_store::Change;
 use std::alloc::Global;
 
@@ -34,7 +31,9 @@ impl<K: Keeper> Cluster<K> {
         ensures empty { hand_of worker self.new.workers.hands ≡ None }
     {
         let (brief, write) = plan.into_parts();
-        self.end(worker, brief.brief(), write)
+        let end = self.end(worker, brief.brief(), write);
+        drop(brief);
+        end
     }
 
     /// Ends the turn of a worker that was given this brief, which asks for this write.
@@ -45,7 +44,10 @@ impl<K: Keeper> Cluster<K> {
         ensures empty { hand_of worker self.new.workers.hands ≡ None }
     {
         match self.workers.hand(worker) {
-            None => Finish::Empty,
+            None => {
+                drop(write);
+                Finish::Empty
+            }
             Some(_) => self.end_held(worker, brief, write),
         }
     }
@@ -71,7 +73,7 @@ impl<K: Keeper> Cluster<K> {
         ensures empty { hand_of worker self.new.workers.hands ≡ None }
     {
         self.workers.law_apart();
-        let _ = self.let_go(worker, false);
+        drop(self.let_go(worker, false));
         Finish::Nothing
     }
 
@@ -84,7 +86,7 @@ impl<K: Keeper> Cluster<K> {
     {
         self.workers.law_apart();
         let end = self.attempt(worker, brief, write);
-        let _ = self.let_go(worker, !is_written(end));
+        drop(self.let_go(worker, !is_written(end)));
         end
     }
 
@@ -95,8 +97,11 @@ impl<K: Keeper> Cluster<K> {
         ensures { IsTried (hand_by worker brief.now) write self.old result self.new }
     {
         match may_write(&self.state, brief, &write) {
-            Err(NoMemory) => Finish::NoMemory,
             Ok(may) => self.decide(worker, brief, write, may),
+            Err(NoMemory) => {
+                drop(write);
+                Finish::NoMemory
+            }
         }
     }
 
@@ -109,12 +114,14 @@ impl<K: Keeper> Cluster<K> {
     {
         let now = self.state.version();
         if !may {
+            drop(write);
             return Finish::Conflict {
                 seen: brief.seen,
                 now,
             };
         }
         if is_spent(now) {
+            drop(write);
             return Finish::Spent;
         }
         self.make(worker, brief, write)
@@ -186,14 +193,24 @@ fn is_written(end: Finish) -> bool
 fn changes_of(alloc: Global, write: Write, version: u64) -> Result<Vec<Change>, NoMemory>
     ensures { IfOk result (λ writes. writes.items ≡ versioned version write ∷ []) }
 {
-    let change = match write {
-        Write::Put(mut object) => {
-            object.version = version;
-            Change::put(Shared::new(alloc, object)?)?
-        }
-        Write::Cut(id) => Change::cut(id),
-    };
+    let change = change_of(alloc, write, version)?;
     Ok(vec![in alloc; change]?)
+}
+
+fn change_of(alloc: Global, write: Write, version: u64) -> Result<Change, NoMemory>
+    ensures { IfOk result (λ change. change ≡ versioned version write) }
+{
+    match write {
+        Write::Put(object) => put_of(alloc, object, version),
+        Write::Cut(id) => Ok(Change::cut(id)),
+    }
+}
+
+fn put_of(alloc: Global, mut object: Object, version: u64) -> Result<Change, NoMemory>
+    ensures { IfOk result (λ change. change ≡ versioned version (Write.Put object)) }
+{
+    object.version = version;
+    Change::put(Shared::new(alloc, object)?)
 }
 
 /// Whether the write of a brief may be made: what it rests on is as it was, and where it would overwrite a source it is still wanted.
@@ -260,70 +277,4 @@ fn is_source_at(state: &IndexedState, id: &Id) -> bool
         Some(object) => is_source(object.object()),
         None => false,
     }
-}
-
-/// Whether a write is the one that its key wants, as the state is.
-fn is_wanted(state: &IndexedState, key: &Key, write: &Write) -> Result<bool, NoMemory>
-    requires { IsValid state.now.state }
-    ensures { IfOk result (λ wanted. wanted ≡ option_eq same_write (wanted_write state.now.state key.now) (Some write.now)) }
-{
-    let planned = plan_now(state, key)?;
-    Ok(is_same_as(planned.write(), write))
-}
-
-/// The plan of a key, as the state is.
-fn plan_now(state: &IndexedState, key: &Key) -> Result<Plan, NoMemory>
-    requires { IsValid state.now.state }
-    ensures { IfOk result (λ planned. planned.write ≡ wanted_write state.now.state key.now) }
-{
-    let brief = brief_now(state, key)?;
-    match plan(state.allocator(), brief) {
-        Ok(planned) => Ok(planned),
-        Err(same) => {
-            drop(same);
-            Err(NoMemory)
-        }
-    }
-}
-
-/// The brief of a key, as the state is.
-fn brief_now(state: &IndexedState, key: &Key) -> Result<SharedBrief, NoMemory>
-    ensures key { IfOk result (λ brief. brief.key ≡ key.now) }
-    ensures stands { IfOk result (λ brief. StandsFor brief state.now.state) }
-{
-    let brief = brief_of(state, key)?;
-    Ok(SharedBrief::new(state.allocator(), brief)?)
-}
-
-fn is_same_as(wanted: Option<&Write>, write: &Write) -> bool
-    ensures { result ≡ option_eq same_write (option_copied wanted.entry) (Some write.now) }
-{
-    match wanted {
-        Some(other) => is_same_write(other, write),
-        None => false,
-    }
-}
-
-/// Whether two writes are one.
-fn is_same_write(a: &Write, b: &Write) -> bool
-    ensures { result ≡ same_write a.now b.now }
-{
-    match (a, b) {
-        (Write::Put(x), Write::Put(y)) => is_same_object(x, y),
-        (Write::Cut(id), Write::Cut(other)) => is_same_id(id, other),
-        _ => false,
-    }
-}
-
-#[tactic(auto, unfolding(hx_model::specs::Answers::same_object))]
-fn is_same_object(x: &Object, y: &Object) -> bool
-    ensures { result ≡ same_object x.now y.now }
-{
-    x == y
-}
-
-fn is_same_id(id: &Id, other: &Id) -> bool
-    ensures { result ≡ same_id id.now other.now }
-{
-    id.is_same(other)
 }

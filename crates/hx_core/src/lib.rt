@@ -14,6 +14,7 @@ mod rows;
 mod settle;
 mod start;
 mod turns;
+mod wanted;
 mod working;
 
 pub use cluster::{Cluster, Unstarted};

@@ -43,12 +43,17 @@ fn row_of(alloc: Global, object: &Object) -> Result<Row, NoMemory>
     ensures texts { IfOk result IsRowOfTexts }
 {
     let key = key_of(alloc, &object.id)?;
-    let body = write_object(alloc, object)?;
-    Ok(Row {
-        key: key.into_bytes(),
-        version: object.version,
-        body: body.into_bytes(),
-    })
+    match write_object(alloc, object) {
+        Ok(body) => Ok(Row {
+            key: key.into_bytes(),
+            version: object.version,
+            body: body.into_bytes(),
+        }),
+        Err(NoMemory) => {
+            drop(key);
+            Err(NoMemory)
+        }
+    }
 }
 
 /// The key of an object's row.

@@ -9,6 +9,7 @@ ghost use Rattle.hx_core.specs.declared.turns.Turned.{Turned as turned_of};
 
 use crate::cluster::Cluster;
 use crate::turns::{Settle, Take, Turned};
+use crate::working::copy_of;
 use hx_model::{Finish, Key};
 use hx_object::NoMemory;
 use hx_ports::Keeper;
@@ -61,6 +62,8 @@ impl<K: Keeper> Cluster<K> {
     {
         self.workers.law_apart();
         if trace.reserve(1).is_err() {
+            drop(key);
+            drop(taken);
             return Some(Settle::NoMemory);
         }
         match self.give(0, key) {
@@ -102,7 +105,14 @@ fn twice(key: &Key) -> Result<(Key, Key), NoMemory>
     ensures first { IfOk result (λ keys. keys.0 ≡ key.now) }
     ensures second { IfOk result (λ keys. keys.1 ≡ key.now) }
 {
-    Ok((key.clone()?, key.clone()?))
+    let first = copy_of(key)?;
+    match copy_of(key) {
+        Ok(second) => Ok((first, second)),
+        Err(NoMemory) => {
+            drop(first);
+            Err(NoMemory)
+        }
+    }
 }
 
 /// Puts a turn behind a trace that has room for it.

@@ -1,5 +1,5 @@
 // What a start reads: the rows of a keeper, one behind the other, as the objects of a state.
-ghost use Rattle.std.specs.Prelude.{◌≡◌, ◌≤◌, ◌<◌, ◌+◌, ◌-◌, ◌^◌, true, false, [], Some, None, IfOk, IfErr, IfSome, IfNone, IsUtf8, if◌then◌else◌};
+ghost use Rattle.std.specs.Prelude.{◌≡◌, ◌≤◌, ◌<◌, ◌+◌, ◌-◌, ◌^◌, true, false, [], Some, None, IfOk, IfErr, IfSome, IfNone, IsUtf8, OnOk, if◌then◌else◌};
 ghost use Rattle.std.specs.FinMap as map;
 ghost use Rattle.hx_object.specs.declared.object.Object.{Object};
 ghost use Rattle.hx_model.specs.State.{has_home};
@@ -18,7 +18,7 @@ use std::alloc::Global;
 use std::hash::RandomState;
 
 /// Why a cluster didn't start.
-#[derive(Clone, Copy, Debug, PartialEq, Eq)]
+#[derive(Clone, Copy)]
 pub enum StartFault {
     /// The keeper failed, and its count rose.
     KeeperFault,
@@ -75,9 +75,13 @@ pub fn load_state<K: Keeper>(
         return Err(StartFault::Damaged { row: 0 });
     }
     let mut state = IndexedState::new(alloc, meta.version, config, keys);
-    let last = load_rows(alloc, keeper, &mut state, meta.rows)?;
-    check_end(keeper, &last, meta.rows)?;
-    Ok(state)
+    match load_all(alloc, keeper, &mut state, meta.rows) {
+        Ok(()) => Ok(state),
+        Err(fault) => {
+            drop(state);
+            Err(fault)
+        }
+    }
 }
 
 /// Whether a cluster has no such schema, or no such version.
@@ -87,6 +91,29 @@ fn is_misfit(meta: &Meta) -> bool
     meta.schema != SCHEMA || meta.version > GREATEST_VERSION
 }
 
+/// Loads all rows, of which there are so many.
+fn load_all<K: Keeper>(
+    alloc: Global,
+    keeper: &mut K,
+    state: &mut IndexedState,
+    rows: u64,
+) -> Result<(), StartFault>
+    requires empty { IsLoaded state.old.state (K.shown keeper.old).kept [] 0 }
+    requires unstaged { state.old.staged ≡ [] }
+    requires rows { IfSome (K.shown keeper.old).kept (λ held. rows ≡ map.len held.rows) }
+    ensures config { OnOk result (state.new.state.config ≡ state.old.state.config) }
+    ensures staged { OnOk result (state.new.staged ≡ []) }
+    ensures valid { OnOk result (IsValid state.new.state) }
+    ensures holds { OnOk result (IfSome (K.shown keeper.old).kept (λ held. held ≡ kept_of state.new.state)) }
+    ensures undamaged { OnOk result (IfSome (K.shown keeper.old).kept IsUndamaged) }
+    ensures damaged { IfErr result (λ fault. IfDamaged fault (λ row. IfSome (K.shown keeper.old).kept (λ held. IsDamagedAt held row))) }
+    ensures asked { Asked (K.shown keeper.old) (K.shown keeper.new) result }
+{
+    let last = load_rows(alloc, keeper, state, rows)?;
+    check_end(keeper, &last, rows)?;
+    Ok(())
+}
+
 /// Checks that no row lies behind the last of so many.
 fn check_end<K: Keeper>(keeper: &mut K, last: &List<u8>, rows: u64) -> Result<(), StartFault>
     requires { IsUtf8 last.now }
@@ -94,9 +121,12 @@ fn check_end<K: Keeper>(keeper: &mut K, last: &List<u8>, rows: u64) -> Result<()
     ensures asked { Asked (K.shown keeper.old) (K.shown keeper.new) result }
 {
     match keeper.load(last.as_slice())? {
-        Some(_row) => Err(StartFault::Damaged {
-            row: rows.saturating_add(1),
-        }),
+        Some(row) => {
+            drop(row);
+            Err(StartFault::Damaged {
+                row: rows.saturating_add(1),
+            })
+        }
         None => Ok(()),
     }
 }

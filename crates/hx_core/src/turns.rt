@@ -24,7 +24,7 @@ pub struct Turned {
 }
 
 /// How a settle ended.
-#[derive(Clone, Copy, Debug, PartialEq, Eq)]
+#[derive(Clone, Copy)]
 pub enum Settle {
     /// No key waits, and none is held.
     Settled,

@@ -1,23 +1,23 @@
 // What workers take and drop.
-ghost use Rattle.std.specs.Prelude.{◌≡◌, ◌<◌, ◌^◌, ℕ, [], ◌∷◌, true, false, None, Some, IfOk, IfSome, IfNone, IsSome, length, option_map};
+ghost use Rattle.std.specs.Prelude.{◌≡◌, ◌≤◌, ℕ, [], ◌∷◌, true, false, None, Some, IfOk, IfSome, IfNone, IsSome, OnOk, length, option_map};
 ghost use Rattle.hx_model.specs.Keys.{is_among};
 ghost use Rattle.hx_model.specs.Hands.{hand_of, is_held};
 ghost use Rattle.hx_model.specs.Machine.{Checked, Dropped, Finished};
 ghost use Rattle.hx_rules.specs.Briefs.{IsShort, StandsFor, hand_by, planned_by};
 ghost use Rattle.hx_core.specs.Refinement.{Simulates};
 ghost use Rattle.hx_core.specs.Turns.{IsInHand, IsOfKey, take_entry, take_key_entry};
-ghost use Rattle.hx_core.specs.Working.{IsDone, IsGiven, IsGivenBy, IsKept, IsReleased, IsTake, IsTakeOf, chain_in, sums_in};
+ghost use Rattle.hx_core.specs.Working.{IsDone, IsGiven, IsGivenBy, IsKept, IsReleased, IsTake, IsTakeOf};
 
-use crate::briefs::brief_of;
+use crate::briefs::job_of;
 use crate::cluster::Cluster;
 use crate::objects::all_objects;
 use crate::turns::Take;
 use hx_admit::IndexedState;
 use hx_model::{Finish, Key};
-use hx_object::{NoMemory, Shared, Text};
+use hx_object::{NoMemory, Shared};
 use hx_ports::Keeper;
 use hx_queue::Workers;
-use hx_rules::{Brief, Facts, Plan, SharedBrief, law_of_sums, plan};
+use hx_rules::{Plan, SharedBrief, plan};
 use std::alloc::Global;
 
 impl<K: Keeper> Cluster<K> {
@@ -79,7 +79,7 @@ impl<K: Keeper> Cluster<K> {
         ensures empty { hand_of worker self.new.workers.hands ≡ None }
     {
         self.workers.law_apart();
-        let _ = self.let_go(worker, true);
+        drop(self.let_go(worker, true));
         Finish::NoMemory
     }
 
@@ -201,7 +201,8 @@ fn plan_of(alloc: Global, brief: &SharedBrief) -> Result<Plan, NoMemory>
     }
 }
 
-fn copy_of(key: &Key) -> Result<Key, NoMemory>
+/// The same key once more.
+pub fn copy_of(key: &Key) -> Result<Key, NoMemory>
     ensures { IfOk result (λ copy. copy ≡ key.now) }
 {
     Ok(key.clone()?)
@@ -212,8 +213,9 @@ fn make_ready(state: &mut IndexedState, key: &Key)
     ensures state { state.new.state ≡ state.old.state }
     ensures staged { state.new.staged ≡ state.old.staged }
 {
-    if let Key::Purge { ns } = key {
-        state.sort(ns);
+    match key {
+        Key::Purge { ns } => state.sort(ns),
+        _ => {}
     }
 }
 
@@ -223,60 +225,31 @@ fn give_to(state: &IndexedState, workers: &mut Workers, worker: u32, key: Key) -
     requires free { is_held key workers.old.seen.hands ≡ false }
     ensures { IsGivenBy worker key state.now.state workers.old.seen result workers.new.seen }
 {
-    let Ok((brief, shared)) = job_of(state, &key) else {
-        return Take::NoMemory;
-    };
-    if workers.reserve(1).is_err() {
-        return Take::NoMemory;
+    match ready_job(state, workers, &key) {
+        Ok((brief, shared)) => {
+            workers.take(worker, key, brief);
+            Take::Job(shared)
+        }
+        Err(NoMemory) => {
+            drop(key);
+            Take::NoMemory
+        }
     }
-    workers.take(worker, key, brief);
-    Take::Job(shared)
 }
 
-/// The brief of a key, as the state is, with two owners.
-fn job_of(state: &IndexedState, key: &Key) -> Result<(SharedBrief, SharedBrief), NoMemory>
+/// The brief of a key with two owners, and room for it in a worker's hand.
+fn ready_job(
+    state: &IndexedState,
+    workers: &mut Workers,
+    key: &Key,
+) -> Result<(SharedBrief, SharedBrief), NoMemory>
     ensures key { IfOk result (λ p. p.0.key ≡ key.now) }
     ensures stands { IfOk result (λ p. StandsFor p.0 state.now.state) }
     ensures short { IfOk result (λ p. IsShort p.0.facts (planned_by p.0)) }
     ensures same { IfOk result (λ p. p.1 ≡ p.0) }
+    ensures seen { workers.new.seen ≡ workers.old.seen }
+    ensures room { OnOk result (1 ≤ workers.new.spare) }
 {
-    let brief = brief_of(state, key)?;
-    law_of_facts(&brief);
-    let first = SharedBrief::new(state.allocator(), brief)?;
-    let second = first.share()?;
-    Ok((first, second))
-}
-
-/// A theorem, not to be called for what it does: a chain is no longer than a machine counts, and so are sums.
-fn law_of_facts(brief: &Brief)
-    ensures { IsShort brief.now.facts (planned_by brief.now) }
-{
-    law_of_chain(chain_in(&brief.facts));
-    law_of_sums(sums_in(&brief.facts));
-}
-
-/// The chain of facts that have one.
-fn chain_in(facts: &Facts) -> &[Text]
-    ensures { result.now ≡ chain_in facts.now }
-{
-    match facts {
-        Facts::Tree { chain, .. } => chain.as_slice(),
-        _ => &[],
-    }
-}
-
-/// The sums of facts that have some.
-fn sums_in(facts: &Facts) -> &[u128]
-    ensures { result.now ≡ sums_in facts.now }
-{
-    match facts {
-        Facts::Used { sums, .. } => sums.as_slice(),
-        _ => &[],
-    }
-}
-
-fn law_of_chain(chain: &[Text])
-    ensures { length chain.now < 2 ^ 64 }
-{
-    let _len = chain.len();
+    workers.reserve(1)?;
+    job_of(state, key)
 }

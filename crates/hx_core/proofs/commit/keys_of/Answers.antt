@@ -18,7 +18,7 @@ marks-requires-clause-valid c = subst IsValid (sym (state_is c.args.state.now.st
 pub marks-requires-clause-may : goal.marks-requires-clause-may
 marks-requires-clause-may c = subst (λ (s : State). MayWriteAll s c.args.writes.now) (sym (state_is c.args.state.now.state c.store.result.now c.config.result.now c.store.ensures.objects c.store.ensures.version c.config.ensures)) c.requires.may
 
-pub returns-clause-keys : goal.returns-clause-keys
-returns-clause-keys c =
+pub returns-in-Ok-clause-keys : goal.returns-in-Ok-clause-keys
+returns-in-Ok-clause-keys c =
     but_by (option_copied c.args.own) c.leave_out.new.keys.items c.in_ok-keys.keys.items c.leave_out.ensures.some c.leave_out.ensures.none ∙ ap (marks_but (option_copied c.args.own))
     (c.in_ok-keys.ensures.named ∙ ap (λ (s : State). all_marks s c.args.writes.now) (state_is c.args.state.now.state c.store.result.now c.config.result.now c.store.ensures.objects c.store.ensures.version c.config.ensures))

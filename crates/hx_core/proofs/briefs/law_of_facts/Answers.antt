@@ -2,7 +2,7 @@ use Rattle.std.proofs.Common.{◌<◌, ◌^◌, length, subst}
 use Rattle.std.specs.List.{AllByRecursion}
 use Rattle.hx_rules.specs.Briefs.{planned_by}
 use Rattle.hx_core.proofs.Keeping.{short_by}
-use Rattle.hx_core.proofs.working.law_of_facts.Goals as goal
+use Rattle.hx_core.proofs.briefs.law_of_facts.Goals as goal
 
 pub returns : goal.returns
 returns c =
