@@ -8,6 +8,7 @@ use hx_ports::{
 };
 use std::alloc::{AllocError, Global};
 use std::hash::RandomState;
+use std::mem;
 use std::test::Fail;
 
 // What the ports of a run do.
@@ -54,12 +55,77 @@ fn plain(keys: RandomState) -> Setting {
 }
 
 // What a run left.
-#[derive(Drop)]
 struct Left {
     status: Status,
     damaged_row: Option<u64>,
+    answers: Vec<u8>,
+    rows: Vec<Row>,
+    version: u64,
+    is_broken: bool,
+}
+
+impl Drop for Left {
+    fn drop(self) {
+        let Left {
+            status: _,
+            damaged_row: _,
+            answers: _,
+            rows: _,
+            version: _,
+            is_broken: _,
+        } = self;
+    }
+}
+
+// What a run reads from and writes to.
+struct Ports {
+    source: MemSource,
     sink: MemSink,
-    keeper: MemKeeper,
+}
+
+impl Drop for Ports {
+    fn drop(self) {
+        let Ports { source: _, sink: _ } = self;
+    }
+}
+
+fn source_of(alloc: Global, script: &[u8], setting: &Setting) -> Result<MemSource, AllocError> {
+    let fails = Vec::from_slice(alloc, &[setting.failing_read])?;
+    let script = Vec::from_slice(alloc, script)?;
+    Ok(MemSource::new(script, setting.read_piece, fails))
+}
+
+fn sink_of(alloc: Global, setting: &Setting) -> Result<MemSink, AllocError> {
+    let fails = Vec::from_slice(alloc, &[setting.failing_write])?;
+    let room = Vec::with_capacity(alloc, setting.room)?;
+    Ok(MemSink::new(room, setting.write_piece, fails))
+}
+
+fn ports_of(alloc: Global, script: &[u8], setting: &Setting) -> Result<Ports, AllocError> {
+    let source = source_of(alloc, script, setting)?;
+    let sink = sink_of(alloc, setting)?;
+    Ok(Ports { source, sink })
+}
+
+// The numbers of the commits and of the other calls of the keeper that fail.
+fn fails_of(alloc: Global, setting: &Setting) -> Result<(Vec<FailCommit>, Vec<u64>), AllocError> {
+    let commits = Vec::from_slice(alloc, &[setting.failing_commit])?;
+    let calls = Vec::from_slice(alloc, &[setting.failing_keeper])?;
+    Ok((commits, calls))
+}
+
+// What an end over these ports leaves.
+fn left_by(alloc: Global, ended: &mut Ended<MemKeeper>, sink: &MemSink) -> Result<Left, NoMemory> {
+    let answers = Vec::from_slice(alloc, sink.bytes())?;
+    let rows = ended.keeper.rows()?;
+    Ok(Left {
+        status: ended.status,
+        damaged_row: ended.damaged_row,
+        answers,
+        rows,
+        version: ended.keeper.version(),
+        is_broken: ended.keeper.is_broken(),
+    })
 }
 
 // The run of a script over no rows. The words are joined by spaces.
@@ -75,51 +141,37 @@ fn run_on(
     script: &[u8],
     setting: &Setting,
 ) -> Result<Left, NoMemory> {
+    let (commits, calls) = fails_of(alloc, setting)?;
     let words = split_words(alloc, words)?;
-    let script = Vec::from_slice(alloc, script)?;
-    let fails = Vec::from_slice(alloc, &[setting.failing_read])?;
-    let mut source = MemSource::new(script, setting.read_piece, fails);
-    let room = Vec::with_capacity(alloc, setting.room)?;
-    let fails = Vec::from_slice(alloc, &[setting.failing_write])?;
-    let mut sink = MemSink::new(room, setting.write_piece, fails);
-    let commits = Vec::from_slice(alloc, &[setting.failing_commit])?;
-    let fails = Vec::from_slice(alloc, &[setting.failing_keeper])?;
-    let keeper = MemKeeper::new(rows, setting.meta, commits, fails, setting.keys);
-    let Ended {
-        status,
-        damaged_row,
-        keeper,
-    } = top(
+    let mut ports = ports_of(alloc, script, setting)?;
+    let keeper = MemKeeper::new(rows, setting.meta, commits, calls, setting.keys);
+    let mut ended = top(
         alloc,
         words.as_slice(),
-        &mut source,
-        &mut sink,
+        &mut ports.source,
+        &mut ports.sink,
         keeper,
         setting.keys,
     );
-    Ok(Left {
-        status,
-        damaged_row,
-        sink,
-        keeper,
-    })
+    let left = left_by(alloc, &mut ended, &ports.sink);
+    drop(ended);
+    left
 }
 
 // What is answered over ports that can't fail.
 fn sure_answers(alloc: Global, keys: RandomState, script: &[u8]) -> Result<SureSink, NoMemory> {
     let words = split_words(alloc, "run")?;
-    let mut source = SureSource::new(Vec::from_slice(alloc, script)?, 4096);
     let mut sink = SureSink::new(Vec::with_capacity(alloc, 8192)?);
+    let mut source = SureSource::new(Vec::from_slice(alloc, script)?, 4096);
     let keeper = SureKeeper::new(Vec::new(alloc), NO_ROWS, keys);
-    let ended = top(
+    drop(top(
         alloc,
         words.as_slice(),
         &mut source,
         &mut sink,
         keeper,
         keys,
-    );
-    drop(ended);
+    ));
     Ok(sink)
 }
 
@@ -189,156 +241,205 @@ fn last_letters(alloc: Global, rows: &[Row]) -> Result<Vec<u8>, AllocError> {
     Ok(letters)
 }
 
+// Whether a run ended so, with these codes.
+fn ended_with(alloc: Global, left: &Left, status: Status, codes: &str) -> Result<bool, NoMemory> {
+    let answered = codes_of(alloc, left.answers.as_slice())?;
+    Ok(left.status == status && answered.as_slice() == codes.as_bytes())
+}
+
+// Whether a run kept this version, and rows whose keys have these last letters.
+fn kept(alloc: Global, left: &Left, letters: &str, version: u64) -> Result<bool, NoMemory> {
+    let kept = last_letters(alloc, left.rows.as_slice())?;
+    Ok(left.version == version && kept.as_slice() == letters.as_bytes())
+}
+
+// Whether five lines in these pieces are answered as told.
+fn is_answered(alloc: Global, setting: &Setting, answers: &[u8]) -> Result<bool, NoMemory> {
+    let script = five_lines(alloc)?;
+    let left = run(alloc, "run", script.as_slice(), setting)?;
+    Ok(left.status == Status::Done && left.answers.as_slice() == answers)
+}
+
+// What five lines are answered over ports that can't fail.
+fn five_answers(alloc: Global, keys: RandomState) -> Result<SureSink, NoMemory> {
+    let script = five_lines(alloc)?;
+    sure_answers(alloc, keys, script.as_slice())
+}
+
 #[test]
 fn pieces_change_nothing(rt: HostRuntime) -> Result<(), Fail> {
     let random = RandomState::new(&rt)?;
-    let script = five_lines(rt.alloc())?;
-    let whole = run(rt.alloc(), "run", script.as_slice(), &plain(random))?;
-    let sure = sure_answers(rt.alloc(), random, script.as_slice())?;
-    assert_eq!(rt; whole.sink.bytes(), sure.bytes());
-    for (read_piece, write_piece) in [(1, 7), (2, 3), (3, 2), (7, 1)] {
+    let whole = five_answers(rt.alloc(), random)?;
+    for (read_piece, write_piece) in [(4096, 4096), (1, 7), (2, 3), (3, 2), (7, 1)] {
         let mut setting = plain(random);
         setting.read_piece = read_piece;
         setting.write_piece = write_piece;
-        let left = run(rt.alloc(), "run", script.as_slice(), &setting)?;
-        assert_eq!(rt; left.status, Status::Done);
-        assert_eq!(rt;
-            left.sink.bytes(),
-            whole.sink.bytes(),
-            "pieces of {read_piece}"
-        );
+        let is_answered = is_answered(rt.alloc(), &setting, whole.bytes())?;
+        assert!(rt; is_answered, "pieces of {read_piece}");
     }
     Ok(())
+}
+
+// The answer to a request that made a row.
+fn answer_of(alloc: Global, row: &Row) -> Result<Vec<u8>, AllocError> {
+    let mut answer = Vec::from_slice(alloc, b"201 ")?;
+    answer.extend_from_slice(row.body.as_slice())?;
+    answer.push(b'\n')?;
+    Ok(answer)
+}
+
+// Whether a run kept the row of acme alone, and answered with it.
+fn is_row_of_acme(alloc: Global, left: &Left) -> Result<bool, AllocError> {
+    let [row] = left.rows.as_slice() else {
+        return Ok(false);
+    };
+    let answer = answer_of(alloc, row)?;
+    Ok(
+        row.key.as_slice() == b"01//acme".as_slice()
+            && (row.version, left.version) == (1, 1)
+            && left.answers.as_slice() == answer.as_slice(),
+    )
+}
+
+fn makes_acme(alloc: Global, setting: &Setting) -> Result<bool, NoMemory> {
+    let script = create(alloc, "acme")?;
+    let left = run(alloc, "run", script.as_str().as_bytes(), setting)?;
+    Ok(is_row_of_acme(alloc, &left)?)
 }
 
 #[test]
 fn a_row_is_kept(rt: HostRuntime) -> Result<(), Fail> {
     let random = RandomState::new(&rt)?;
-    let script = create(rt.alloc(), "acme")?;
-    let mut left = run(
-        rt.alloc(),
-        "run",
-        script.as_str().as_bytes(),
-        &plain(random),
-    )?;
-    let rows = left.keeper.rows()?;
-    assert_eq!(rt; rows.len(), 1);
-    assert_eq!(rt; rows[0].key.as_slice(), b"01//acme".as_slice());
-    assert_eq!(rt; (rows[0].version, left.keeper.version()), (1, 1));
-    let mut answer = Vec::from_slice(rt.alloc(), b"201 ")?;
-    answer.extend_from_slice(rows[0].body.as_slice())?;
-    answer.push(b'\n')?;
-    assert_eq!(rt; left.sink.bytes(), answer.as_slice());
+    assert!(rt; makes_acme(rt.alloc(), &plain(random))?);
     Ok(())
 }
+
+// Whether five lines are answered with these codes, and leave rows whose keys have these last letters.
+fn keeps(
+    alloc: Global,
+    setting: &Setting,
+    codes: &str,
+    letters: &str,
+    version: u64,
+    is_broken: bool,
+) -> Result<bool, NoMemory> {
+    let script = five_lines(alloc)?;
+    let left = run(alloc, "run", script.as_slice(), setting)?;
+    let is_ended = ended_with(alloc, &left, Status::Done, codes)?;
+    let is_kept = kept(alloc, &left, letters, version)?;
+    Ok(is_ended && is_kept && left.is_broken == is_broken)
+}
+
+// The commit that fails and whether it lands, the codes, the last letters of the keys, and the version.
+const COMMITS: [(u64, bool, &str, &str, u64); 9] = [
+    (1, false, "500 500 500 404 500 ", "", 0),
+    (1, true, "500 500 500 404 500 ", "a", 1),
+    (2, false, "201 500 500 404 500 ", "a", 1),
+    (2, true, "201 500 500 404 500 ", "ab", 2),
+    (3, false, "201 201 500 404 500 ", "ab", 2),
+    (3, true, "201 201 500 404 500 ", "abc", 3),
+    (4, false, "201 201 201 200 500 ", "abc", 3),
+    (4, true, "201 201 201 200 500 ", "abcd", 4),
+    (5, false, "201 201 201 200 201 ", "abcd", 4),
+];
 
 #[test]
 fn a_commit_fails(rt: HostRuntime) -> Result<(), Fail> {
     let random = RandomState::new(&rt)?;
-    let script = five_lines(rt.alloc())?;
-    for (call, landed, codes, keys, version) in [
-        (1, false, "500 500 500 404 500 ", "", 0),
-        (1, true, "500 500 500 404 500 ", "a", 1),
-        (2, false, "201 500 500 404 500 ", "a", 1),
-        (2, true, "201 500 500 404 500 ", "ab", 2),
-        (3, false, "201 201 500 404 500 ", "ab", 2),
-        (3, true, "201 201 500 404 500 ", "abc", 3),
-        (4, false, "201 201 201 200 500 ", "abc", 3),
-        (4, true, "201 201 201 200 500 ", "abcd", 4),
-        (5, false, "201 201 201 200 201 ", "abcd", 4),
-    ] {
+    for (call, landed, codes, keys, version) in COMMITS {
         let mut setting = plain(random);
         setting.failing_commit = FailCommit { call, landed };
-        let mut left = run(rt.alloc(), "run", script.as_slice(), &setting)?;
-        assert_eq!(rt; left.status, Status::Done);
-        let answered = codes_of(rt.alloc(), left.sink.bytes())?;
-        assert_eq!(rt; answered.as_slice(), codes.as_bytes(), "commit {call}");
-        assert_eq!(rt; left.keeper.version(), version, "commit {call}");
-        assert_eq!(rt; left.keeper.is_broken(), call < 5);
-        let kept = last_letters(rt.alloc(), left.keeper.rows()?.as_slice())?;
-        assert_eq!(rt; kept.as_slice(), keys.as_bytes(), "commit {call}");
+        let keeps = keeps(rt.alloc(), &setting, codes, keys, version, call < 5)?;
+        assert!(rt; keeps, "commit {call}, {landed}");
     }
     Ok(())
 }
 
+// Whether five lines end so, with these codes.
+fn ends(alloc: Global, setting: &Setting, status: Status, codes: &str) -> Result<bool, NoMemory> {
+    let script = five_lines(alloc)?;
+    let left = run(alloc, "run", script.as_slice(), setting)?;
+    ended_with(alloc, &left, status, codes)
+}
+
+// The read and the write that fail, the sink's room, and what is answered.
+const FAULTS: [(u64, u64, usize, Status, &str); 10] = [
+    (1, 0, 8192, Status::ReadFault, ""),
+    (2, 0, 8192, Status::ReadFault, "201 201 201 200 201 "),
+    (0, 1, 8192, Status::WriteFault, ""),
+    (0, 2, 8192, Status::WriteFault, "201 "),
+    (0, 3, 8192, Status::WriteFault, "201 201 "),
+    (0, 4, 8192, Status::WriteFault, "201 201 201 "),
+    (0, 5, 8192, Status::WriteFault, "201 201 201 200 "),
+    (0, 6, 8192, Status::Done, "201 201 201 200 201 "),
+    (0, 0, 0, Status::WriteFault, ""),
+    (0, 0, 3, Status::WriteFault, "201 "),
+];
+
 #[test]
 fn a_read_or_a_write_fails(rt: HostRuntime) -> Result<(), Fail> {
     let random = RandomState::new(&rt)?;
-    let script = five_lines(rt.alloc())?;
-    // the read and the write that fail, the sink's room, and what is answered
-    for (read, write, room, status, codes) in [
-        (1, 0, 8192, Status::ReadFault, ""),
-        (2, 0, 8192, Status::ReadFault, "201 201 201 200 201 "),
-        (0, 1, 8192, Status::WriteFault, ""),
-        (0, 2, 8192, Status::WriteFault, "201 "),
-        (0, 3, 8192, Status::WriteFault, "201 201 "),
-        (0, 4, 8192, Status::WriteFault, "201 201 201 "),
-        (0, 5, 8192, Status::WriteFault, "201 201 201 200 "),
-        (0, 6, 8192, Status::Done, "201 201 201 200 201 "),
-        (0, 0, 0, Status::WriteFault, ""),
-        (0, 0, 3, Status::WriteFault, "201 "),
-    ] {
+    for (read, write, room, status, codes) in FAULTS {
         let mut setting = plain(random);
         setting.failing_read = read;
         setting.failing_write = write;
         setting.room = room;
-        let left = run(rt.alloc(), "run", script.as_slice(), &setting)?;
-        assert_eq!(rt;
-            left.status,
-            status,
-            "read {read}, write {write}, room {room}"
-        );
-        let answered = codes_of(rt.alloc(), left.sink.bytes())?;
-        assert_eq!(rt;
-            answered.as_slice(),
-            codes.as_bytes(),
-            "read {read}, write {write}"
-        );
+        let ends = ends(rt.alloc(), &setting, status, codes)?;
+        assert!(rt; ends, "read {read}, write {write}, room {room}");
     }
     Ok(())
+}
+
+// Words, and how a run of them over an empty script ends.
+const WORDS: [(&str, Status); 31] = [
+    ("run", Status::Done),
+    ("run --allow-skip", Status::Done),
+    ("run --excluded-namespace a,b", Status::Done),
+    ("run --excluded-namespace=a,b", Status::Done),
+    ("run --excluded-namespace ", Status::Done),
+    ("run --excluded-namespace a --allow-skip", Status::Done),
+    (
+        "run --allow-skip --db x --excluded-namespace a",
+        Status::Done,
+    ),
+    ("run --db x", Status::Done),
+    ("run --db=x", Status::Done),
+    ("run --db ", Status::Done),
+    ("run --db -", Status::Done),
+    ("run --db=-x", Status::Done),
+    ("run --", Status::Done),
+    ("run --db -x", Status::Usage),
+    ("run --db", Status::Usage),
+    ("run --db x --db x", Status::Usage),
+    ("run --db x y", Status::Usage),
+    ("run --allow-skip --allow-skip", Status::Usage),
+    ("run --allow-skip=true", Status::Usage),
+    ("run --allow", Status::Usage),
+    ("run --excluded-namespace a,,b", Status::Usage),
+    ("run --excluded-namespace A", Status::Usage),
+    ("run --excluded-namespace", Status::Usage),
+    ("run x", Status::Usage),
+    ("run -- x", Status::Usage),
+    ("--db x run", Status::Usage),
+    ("", Status::Usage),
+    ("Run", Status::Usage),
+    ("--help", Status::Usage),
+    ("run --help", Status::Usage),
+    ("run --version", Status::Usage),
+];
+
+// How a run of these words over an empty script ends.
+fn status_of(alloc: Global, words: &str, setting: &Setting) -> Result<Status, NoMemory> {
+    let left = run(alloc, words, b"", setting)?;
+    Ok(left.status)
 }
 
 #[test]
 fn words(rt: HostRuntime) -> Result<(), Fail> {
     let random = RandomState::new(&rt)?;
-    for (words, status) in [
-        ("run", Status::Done),
-        ("run --allow-skip", Status::Done),
-        ("run --excluded-namespace a,b", Status::Done),
-        ("run --excluded-namespace=a,b", Status::Done),
-        ("run --excluded-namespace ", Status::Done),
-        ("run --excluded-namespace a --allow-skip", Status::Done),
-        (
-            "run --allow-skip --db x --excluded-namespace a",
-            Status::Done,
-        ),
-        ("run --db x", Status::Done),
-        ("run --db=x", Status::Done),
-        ("run --db ", Status::Done),
-        ("run --db -", Status::Done),
-        ("run --db=-x", Status::Done),
-        ("run --", Status::Done),
-        ("run --db -x", Status::Usage),
-        ("run --db", Status::Usage),
-        ("run --db x --db x", Status::Usage),
-        ("run --db x y", Status::Usage),
-        ("run --allow-skip --allow-skip", Status::Usage),
-        ("run --allow-skip=true", Status::Usage),
-        ("run --allow", Status::Usage),
-        ("run --excluded-namespace a,,b", Status::Usage),
-        ("run --excluded-namespace A", Status::Usage),
-        ("run --excluded-namespace", Status::Usage),
-        ("run x", Status::Usage),
-        ("run -- x", Status::Usage),
-        ("--db x run", Status::Usage),
-        ("", Status::Usage),
-        ("Run", Status::Usage),
-        ("--help", Status::Usage),
-        ("run --help", Status::Usage),
-        ("run --version", Status::Usage),
-    ] {
-        let left = run(rt.alloc(), words, b"", &plain(random))?;
-        assert_eq!(rt; left.status, status, "{words}");
+    for (words, status) in WORDS {
+        let found = status_of(rt.alloc(), words, &plain(random))?;
+        assert_eq!(rt; found, status, "{words}");
     }
     Ok(())
 }
@@ -364,29 +465,45 @@ fn acme(alloc: Global) -> Result<Vec<Row>, NoMemory> {
 }
 
 // Whether a run that didn't begin answered nothing and left the row of acme alone.
-fn is_untouched(left: &mut Left, version: u64) -> Result<bool, NoMemory> {
-    let rows = left.keeper.rows()?;
-    let is_kept = matches!(rows.as_slice(), [row] if row.body.as_slice() == ACME.as_bytes());
-    Ok(is_kept && left.keeper.version() == version && left.sink.bytes().is_empty())
+fn is_untouched(left: &Left, version: u64) -> bool {
+    let is_kept = matches!(left.rows.as_slice(), [row] if row.body.as_slice() == ACME.as_bytes());
+    is_kept && left.version == version && left.answers.is_empty()
 }
+
+// The status and the damaged row of a run on acme that creates b, where it answers nothing and leaves all as it was.
+fn end_on_acme(
+    alloc: Global,
+    setting: &Setting,
+) -> Result<Option<(Status, Option<u64>)>, NoMemory> {
+    let script = create(alloc, "b")?;
+    let rows = acme(alloc)?;
+    let left = run_on(alloc, rows, "run", script.as_str().as_bytes(), setting)?;
+    Ok(if is_untouched(&left, setting.meta.version) {
+        Some((left.status, left.damaged_row))
+    } else {
+        None
+    })
+}
+
+// Schema, version and rows that the keeper of one row tells; the number of its call that fails; status and damaged row.
+const UNBEGUN: [(u64, u64, u64, u64, Status, Option<u64>); 11] = [
+    (1, 1, 1, 0, Status::Damaged, Some(0)),
+    (2, 0, 1, 0, Status::Damaged, Some(1)),
+    (2, 1, 0, 0, Status::Damaged, Some(1)),
+    (2, 1, 2, 0, Status::Damaged, Some(2)),
+    (2, MOST_VERSION + 1, 1, 0, Status::Damaged, Some(0)),
+    (1, 1, 1, 3, Status::Damaged, Some(0)),
+    (2, 0, 1, 4, Status::Damaged, Some(1)),
+    (2, 1, 1, 1, Status::KeeperFault, None),
+    (1, 1, 1, 2, Status::KeeperFault, None),
+    (2, 0, 1, 3, Status::KeeperFault, None),
+    (2, 1, 1, 4, Status::KeeperFault, None),
+];
 
 #[test]
 fn no_run_begins(rt: HostRuntime) -> Result<(), Fail> {
     let random = RandomState::new(&rt)?;
-    // schema, version and rows that the keeper of one row tells; the number of its call that fails; status and damaged row
-    for (schema, version, rows, fails, status, row) in [
-        (1, 1, 1, 0, Status::Damaged, Some(0)),
-        (2, 0, 1, 0, Status::Damaged, Some(1)),
-        (2, 1, 0, 0, Status::Damaged, Some(1)),
-        (2, 1, 2, 0, Status::Damaged, Some(2)),
-        (2, MOST_VERSION + 1, 1, 0, Status::Damaged, Some(0)),
-        (1, 1, 1, 3, Status::Damaged, Some(0)),
-        (2, 0, 1, 4, Status::Damaged, Some(1)),
-        (2, 1, 1, 1, Status::KeeperFault, None),
-        (1, 1, 1, 2, Status::KeeperFault, None),
-        (2, 0, 1, 3, Status::KeeperFault, None),
-        (2, 1, 1, 4, Status::KeeperFault, None),
-    ] {
+    for (schema, version, rows, fails, status, row) in UNBEGUN {
         let mut setting = plain(random);
         setting.meta = Meta {
             schema,
@@ -394,23 +511,25 @@ fn no_run_begins(rt: HostRuntime) -> Result<(), Fail> {
             rows,
         };
         setting.failing_keeper = fails;
-        let script = create(rt.alloc(), "b")?;
-        let rows = acme(rt.alloc())?;
-        let mut left = run_on(
-            rt.alloc(),
-            rows,
-            "run",
-            script.as_str().as_bytes(),
-            &setting,
-        )?;
-        let is_untouched = is_untouched(&mut left, version)?;
-        assert_eq!(rt;
-            (left.status, left.damaged_row, is_untouched),
-            (status, row, true),
+        let end = end_on_acme(rt.alloc(), &setting)?;
+        assert!(rt;
+            end == Some((status, row)),
             "schema {schema}, version {version}, call {fails}"
         );
     }
     Ok(())
+}
+
+// Whether a run on acme that asks for it is done and gives it.
+fn gives_acme(alloc: Global, setting: &Setting) -> Result<bool, NoMemory> {
+    let script = get(alloc, "acme")?;
+    let rows = acme(alloc)?;
+    let left = run_on(alloc, rows, "run", script.as_str().as_bytes(), setting)?;
+    let is_given = match left.answers.as_slice().strip_prefix(b"200 ".as_slice()) {
+        Some(rest) => rest.starts_with(ACME.as_bytes()),
+        None => false,
+    };
+    Ok(is_given && (left.status, left.damaged_row) == (Status::Done, None))
 }
 
 #[test]
@@ -424,44 +543,35 @@ fn a_run_begins(rt: HostRuntime) -> Result<(), Fail> {
             rows: 1,
         };
         setting.failing_keeper = fails;
-        let script = get(rt.alloc(), "acme")?;
-        let rows = acme(rt.alloc())?;
-        let left = run_on(
-            rt.alloc(),
-            rows,
-            "run",
-            script.as_str().as_bytes(),
-            &setting,
-        )?;
-        assert_eq!(rt; (left.status, left.damaged_row), (Status::Done, None));
-        let answer = left.sink.bytes().strip_prefix(b"200 ".as_slice());
-        assert!(rt;
-            answer.is_some_and(|rest| rest.starts_with(ACME.as_bytes())),
-            "version {version}"
-        );
+        let gives = gives_acme(rt.alloc(), &setting)?;
+        assert!(rt; gives, "version {version}");
     }
     Ok(())
 }
 
-// A damaged row behind that of acme, and how the run on both ends.
+// A damaged row behind that of acme.
+const DAMAGED: [(&str, u64); 3] = [("01//b", 1), ("01//acme/", 1), ("02//acme", 1)];
+
+// Whether a run on acme and that row answers nothing, since the second row is damaged.
+fn is_damaged(alloc: Global, setting: &Setting, key: &str, version: u64) -> Result<bool, NoMemory> {
+    let mut rows = acme(alloc)?;
+    rows.push(row(alloc, key, version, ACME)?)?;
+    let left = run_on(alloc, rows, "run", b"GET /x\n", setting)?;
+    Ok((left.status, left.damaged_row) == (Status::Damaged, Some(2)) && left.answers.is_empty())
+}
+
 #[test]
 fn a_later_row_is_damaged(rt: HostRuntime) -> Result<(), Fail> {
     let random = RandomState::new(&rt)?;
-    for (key, version) in [("01//b", 1), ("01//acme/", 1), ("02//acme", 1)] {
+    for (key, version) in DAMAGED {
         let mut setting = plain(random);
         setting.meta = Meta {
             schema: 2,
             version: 1,
             rows: 2,
         };
-        let mut rows = acme(rt.alloc())?;
-        rows.push(row(rt.alloc(), key, version, ACME)?)?;
-        let left = run_on(rt.alloc(), rows, "run", b"GET /x\n", &setting)?;
-        assert_eq!(rt;
-            (left.status, left.damaged_row, left.sink.bytes().is_empty()),
-            (Status::Damaged, Some(2), true),
-            "{key}"
-        );
+        let is_damaged = is_damaged(rt.alloc(), &setting, key, version)?;
+        assert!(rt; is_damaged, "{key}");
     }
     Ok(())
 }
@@ -489,14 +599,6 @@ const LINES: [&str; 15] = [
 
 const LINE_CODES: &str = "201 201 201 201 201 409 200 201 403 H2 200 200 201 200 200 200 ";
 
-// What a run keeps, and what it answered.
-#[derive(Drop)]
-struct Kept {
-    rows: Vec<Row>,
-    version: u64,
-    answers: Vec<u8>,
-}
-
 // The lines from one on, up to another.
 fn lines(alloc: Global, from: usize, to: usize) -> Result<String, NoMemory> {
     let mut script = String::new(alloc);
@@ -507,19 +609,15 @@ fn lines(alloc: Global, from: usize, to: usize) -> Result<String, NoMemory> {
     Ok(script)
 }
 
-// Runs a part of the lines on what a run kept, which is put in the place of that.
+// Runs a part of the lines on rows of a version.
 fn run_part(
     alloc: Global,
     keys: RandomState,
     from: usize,
     to: usize,
-    kept: Kept,
-) -> Result<Kept, NoMemory> {
-    let Kept {
-        rows,
-        version,
-        mut answers,
-    } = kept;
+    rows: Vec<Row>,
+    version: u64,
+) -> Result<Left, NoMemory> {
     let mut setting = plain(keys);
     setting.meta = Meta {
         schema: 2,
@@ -527,48 +625,66 @@ fn run_part(
         rows: rows.len() as u64,
     };
     let script = lines(alloc, from, to)?;
-    let mut left = run_on(alloc, rows, "run", script.as_str().as_bytes(), &setting)?;
-    answers.extend_from_slice(left.sink.bytes())?;
-    Ok(Kept {
-        rows: left.keeper.rows()?,
-        version: left.keeper.version(),
-        answers,
-    })
+    run_on(alloc, rows, "run", script.as_str().as_bytes(), &setting)
 }
 
-// The lines in two runs, of which the second begins on what the first kept.
-fn run_twice(alloc: Global, keys: RandomState, first: usize) -> Result<Kept, NoMemory> {
-    let none = Kept {
-        rows: Vec::new(alloc),
-        version: 0,
-        answers: Vec::new(alloc),
+fn is_same_row(row: &Row, other: &Row) -> bool {
+    row.version == other.version
+        && row.key.as_slice() == other.key.as_slice()
+        && row.body.as_slice() == other.body.as_slice()
+}
+
+fn are_same_rows(rows: &[Row], others: &[Row]) -> bool {
+    for (at, row) in rows.iter().enumerate() {
+        match others.get(at) {
+            Some(other) if is_same_row(row, other) => {}
+            _ => return false,
+        }
+    }
+    rows.len() == others.len()
+}
+
+// Whether a run and another that begins on what it kept leave the same as one, and answer the same between them.
+fn are_same(whole: &Left, first: &Left, rest: &Left) -> bool {
+    let are_answered = match whole
+        .answers
+        .as_slice()
+        .strip_prefix(first.answers.as_slice())
+    {
+        Some(left) => left == rest.answers.as_slice(),
+        None => false,
     };
-    let kept = run_part(alloc, keys, 0, first, none)?;
-    run_part(alloc, keys, first, LINES.len(), kept)
+    are_answered
+        && whole.version == rest.version
+        && are_same_rows(whole.rows.as_slice(), rest.rows.as_slice())
 }
 
-fn are_same(one: &Kept, other: &Kept) -> bool {
-    one.version == other.version
-        && one.rows.as_slice() == other.rows.as_slice()
-        && one.answers.as_slice() == other.answers.as_slice()
+// Whether the lines in two runs leave the same as in one.
+fn is_same_in_two(
+    alloc: Global,
+    keys: RandomState,
+    first: usize,
+    whole: &Left,
+) -> Result<bool, NoMemory> {
+    let mut left = run_part(alloc, keys, 0, first, Vec::new(alloc), 0)?;
+    let rows = mem::replace(&mut left.rows, Vec::new(alloc));
+    let rest = run_part(alloc, keys, first, LINES.len(), rows, left.version)?;
+    Ok(are_same(whole, &left, &rest))
 }
 
-// Whether two runs leave the same as one.
-fn is_same_in_two(alloc: Global, keys: RandomState, first: usize) -> Result<bool, NoMemory> {
-    let whole = run_twice(alloc, keys, 0)?;
-    let parted = run_twice(alloc, keys, first)?;
-    Ok(are_same(&whole, &parted))
+// Whether the lines have their codes in one run, and keep what they should.
+fn is_whole(alloc: Global, whole: &Left) -> Result<bool, NoMemory> {
+    let codes = codes_of(alloc, whole.answers.as_slice())?;
+    Ok(codes.as_slice() == LINE_CODES.as_bytes() && (whole.version, whole.rows.len()) == (12, 5))
 }
 
 #[test]
 fn a_stop_changes_nothing(rt: HostRuntime) -> Result<(), Fail> {
     let random = RandomState::new(&rt)?;
-    let whole = run_twice(rt.alloc(), random, 0)?;
-    let codes = codes_of(rt.alloc(), whole.answers.as_slice())?;
-    assert_eq!(rt; codes.as_slice(), LINE_CODES.as_bytes());
-    assert_eq!(rt; (whole.version, whole.rows.len()), (12, 5));
-    for first in 1..16usize {
-        let is_same = is_same_in_two(rt.alloc(), random, first)?;
+    let whole = run_part(rt.alloc(), random, 0, LINES.len(), Vec::new(rt.alloc()), 0)?;
+    assert!(rt; is_whole(rt.alloc(), &whole)?);
+    for first in 0..16usize {
+        let is_same = is_same_in_two(rt.alloc(), random, first, &whole)?;
         assert!(rt; is_same, "after {first} lines");
     }
     Ok(())
@@ -578,23 +694,33 @@ fn a_stop_changes_nothing(rt: HostRuntime) -> Result<(), Fail> {
 const SKIPS: &str =
     "POST /api/v1/namespaces?admission=skip {\"apiVersion\":\"v1\",\"kind\":\"Namespace\",\"metadata\":{\"name\":\"b\"}}\n";
 
+// Creates a, asks for it, and skips admission.
+fn last_lines(alloc: Global) -> Result<String, AllocError> {
+    let mut script = create(alloc, "a")?;
+    script.push_str(get(alloc, "a")?.as_str())?;
+    script.push_str(SKIPS)?;
+    Ok(script)
+}
+
+// Whether these lines are done with these codes, and leave the greatest version.
+fn reaches_most(alloc: Global, setting: &Setting, codes: &str) -> Result<bool, NoMemory> {
+    let script = last_lines(alloc)?;
+    let left = run(alloc, "run", script.as_str().as_bytes(), setting)?;
+    let is_ended = ended_with(alloc, &left, Status::Done, codes)?;
+    Ok(is_ended && left.version == MOST_VERSION)
+}
+
 #[test]
 fn no_version_is_left(rt: HostRuntime) -> Result<(), Fail> {
     let random = RandomState::new(&rt)?;
-    let mut script = create(rt.alloc(), "a")?;
-    script.push_str(get(rt.alloc(), "a")?.as_str())?;
-    script.push_str(SKIPS)?;
     for (version, codes) in [
         (MOST_VERSION - 1, "201 200 403 X1 "),
         (MOST_VERSION, "507 L4 404 403 X1 "),
     ] {
         let mut setting = plain(random);
         setting.meta.version = version;
-        let left = run(rt.alloc(), "run", script.as_str().as_bytes(), &setting)?;
-        assert_eq!(rt; left.status, Status::Done);
-        let answered = codes_of(rt.alloc(), left.sink.bytes())?;
-        assert_eq!(rt; answered.as_slice(), codes.as_bytes(), "version {version}");
-        assert_eq!(rt; left.keeper.version(), MOST_VERSION);
+        let reaches = reaches_most(rt.alloc(), &setting, codes)?;
+        assert!(rt; reaches, "version {version}");
     }
     Ok(())
 }

@@ -1,9 +1,8 @@
 // A store beside a plain list of objects in order, over staged writes that are made or dropped.
 ghost use Rattle.std.specs.Prelude.{◌≤◌, length};
 
-use hx_object::{
-    Id, Kind, List, Members, Need, NoMemory, Object, Pairs, Payload, Places, Shared, Text,
-};
+use crate::made::{id, object};
+use hx_object::{Id, Kind, NoMemory, Object, Shared, Text};
 use hx_store::{Change, Store};
 use std::alloc::Global;
 use std::cmp::Ordering;
@@ -16,53 +15,34 @@ const NAMESPACES: [&str; 2] = ["a", "b"];
 
 const NAMES: [&str; 2] = ["x", "y"];
 
-/// Members of which there are none.
-fn no_members(alloc: Global) -> Result<Members, NoMemory> {
-    let text = Text::of(alloc, "{}")?;
-    Ok(Members::new(
-        text,
-        Places {
-            api_version: 1,
-            kind: 1,
-            metadata: 1,
-        },
-    ))
-}
-
 /// One of eight identities, by a number.
-fn id(alloc: Global, number: usize) -> Result<Id, NoMemory> {
-    Ok(Id {
-        kind: KINDS[number % 2],
-        ns: Text::of(alloc, NAMESPACES[number / 2 % 2])?,
-        name: Text::of(alloc, NAMES[number / 4 % 2])?,
-    })
+fn id_of(alloc: Global, number: usize) -> Result<Id, NoMemory> {
+    id(
+        alloc,
+        KINDS[number % 2],
+        NAMESPACES[number / 2 % 2],
+        NAMES[number / 4 % 2],
+    )
 }
 
-pub(crate) fn object(alloc: Global, id: Id, version: u64) -> Result<Object, NoMemory> {
-    Ok(Object {
-        id,
-        labels: Pairs::new(alloc),
-        annotations: Pairs::new(alloc),
-        payload: Payload::Plain {
-            members: no_members(alloc)?,
-            need: Need {
-                finished: false,
-                token: false,
-                storage: 0,
-                containers: List::of(Vec::new(alloc)),
-            },
-        },
-        version,
-    })
+/// A write that puts an object of an identity with labels.
+fn put_of(
+    alloc: Global,
+    id: Id,
+    labels: &[(&str, &str)],
+    version: u64,
+) -> Result<Change, NoMemory> {
+    let object = object(alloc, id, labels, version)?;
+    Change::put(Shared::new(alloc, object)?)
 }
 
 /// A write of one of the identities, which in one case of three takes its object away.
 fn change(alloc: Global, number: usize, version: u64) -> Result<Change, NoMemory> {
-    let id = id(alloc, number)?;
+    let id = id_of(alloc, number)?;
     if number / 8 % 3 == 0 {
         return Ok(Change::cut(id));
     }
-    Change::put(Shared::new(alloc, object(alloc, id, version)?)?)
+    put_of(alloc, id, &[], version)
 }
 
 // ---- the plain list
@@ -97,70 +77,110 @@ fn make(objects: &mut Vec<Object>, change: &Change) -> Result<(), NoMemory> {
     Ok(())
 }
 
-/// Whether an object is of the kind, and in the namespace where one is given.
-fn is_listed(object: &Object, kind: Kind, ns: Option<&Text>) -> bool {
-    let is_there = match ns {
-        Some(ns) => object.id.ns == *ns,
+/// The objects of a kind, of a namespace where one is given, and of a name where one is given.
+#[derive(Clone, Copy)]
+struct Wanted<'a> {
+    kind: Kind,
+    ns: Option<&'a str>,
+    name: Option<&'a str>,
+}
+
+fn is_wanted(object: &Object, wanted: Wanted<'_>) -> bool {
+    let has_ns = match wanted.ns {
+        Some(ns) => object.id.ns.as_str() == ns,
         None => true,
     };
-    is_there && object.id.kind == kind
+    let has_name = match wanted.name {
+        Some(name) => object.id.name.as_str() == name,
+        None => true,
+    };
+    has_ns && has_name && object.id.kind == wanted.kind
 }
 
-fn are_same(listed: &[Shared], objects: &[Object]) -> bool {
-    if listed.len() != objects.len() {
-        return false;
-    }
-    for i in 0..listed.len() {
-        if !listed[i].object().is_same(&objects[i]) {
-            return false;
+/// Whether a list that the store gives has the objects of the plain one that are wanted.
+fn are_those(listed: &[Shared], objects: &[Object], wanted: Wanted<'_>) -> bool {
+    let mut left = listed;
+    for object in objects {
+        if !is_wanted(object, wanted) {
+            continue;
+        }
+        match left.split_first() {
+            Some((first, others)) if first.object().is_same(object) => left = others,
+            _ => return false,
         }
     }
-    true
+    left.is_empty()
 }
 
-/// Whether the list that the store gives has the objects of the plain one that are of a kind, and in a namespace where one is given.
+/// Whether the store lists the objects of the plain list that are of a kind, and in a namespace where one is given.
 fn lists_alike(
     store: &Store,
     objects: &[Object],
     kind: Kind,
     ns: Option<&Text>,
 ) -> Result<bool, NoMemory> {
-    let mut wanted = Vec::new(store.allocator());
-    for object in objects {
-        if is_listed(object, kind, ns) {
-            wanted.push(object.copy()?)?;
-        }
-    }
     let listed = store.list(kind, ns)?;
-    Ok(are_same(listed.as_slice(), wanted.as_slice()))
+    let ns = match ns {
+        Some(ns) => Some(ns.as_str()),
+        None => None,
+    };
+    let name = None;
+    Ok(are_those(listed.as_slice(), objects, Wanted { kind, ns, name }))
 }
 
-/// Whether the store gives the first object of the plain list that lies in a namespace.
-fn is_least_alike(store: &Store, objects: &[Object], ns: &Text) -> bool {
-    let first = objects.iter().find(|object| object.id.ns == *ns);
-    match (store.least(ns), first) {
-        (Some(found), Some(object)) => found.object().is_same(object),
+/// Whether the store gives the anchors of the plain list that have a name.
+fn are_anchors_alike(store: &Store, objects: &[Object], name: &str) -> Result<bool, NoMemory> {
+    let anchors = store.anchors(name)?;
+    let wanted = Wanted {
+        kind: Kind::SubnamespaceAnchor,
+        ns: None,
+        name: Some(name),
+    };
+    Ok(are_those(anchors.as_slice(), objects, wanted))
+}
+
+fn first_in<'a>(objects: &'a [Object], ns: &Text) -> Option<&'a Object> {
+    for object in objects {
+        if object.id.ns == *ns {
+            return Some(object);
+        }
+    }
+    None
+}
+
+/// Whether what the store gives is an object of the plain list.
+fn is_found(found: Option<&Shared>, wanted: Option<&Object>) -> bool {
+    match (found, wanted) {
+        (Some(found), Some(wanted)) => found.object().is_same(wanted),
         (None, None) => true,
         _ => false,
     }
 }
 
-/// Whether the store gives the anchors of the plain list that have a name.
-fn are_anchors_alike(store: &Store, objects: &[Object], name: &str) -> Result<bool, NoMemory> {
-    let mut wanted = Vec::new(store.allocator());
-    for object in objects {
-        if object.id.kind == Kind::SubnamespaceAnchor && object.id.name.as_str() == name {
-            wanted.push(object.copy()?)?;
+/// Whether the store answers as the plain list for each kind in a namespace, and gives the first object that lies there.
+fn are_alike_in(store: &Store, objects: &[Object], ns: &Text) -> Result<bool, NoMemory> {
+    for kind in KINDS {
+        if !lists_alike(store, objects, kind, Some(ns))? {
+            return Ok(false);
         }
     }
-    let anchors = store.anchors(name)?;
-    Ok(are_same(anchors.as_slice(), wanted.as_slice()))
+    Ok(is_found(store.least(ns), first_in(objects, ns)))
+}
+
+/// Whether it gives each object of the plain list by its identity.
+fn are_found(store: &Store, objects: &[Object]) -> bool {
+    for object in objects {
+        if !is_found(store.get(&object.id), Some(object)) {
+            return false;
+        }
+    }
+    true
 }
 
 fn are_alike(store: &Store, objects: &[Object]) -> Result<bool, NoMemory> {
-    let alloc = store.allocator();
     for ns in NAMESPACES {
-        if !is_least_alike(store, objects, &Text::of(alloc, ns)?) {
+        let ns = Text::of(store.allocator(), ns)?;
+        if !are_alike_in(store, objects, &ns)? {
             return Ok(false);
         }
     }
@@ -170,46 +190,61 @@ fn are_alike(store: &Store, objects: &[Object]) -> Result<bool, NoMemory> {
         }
     }
     for kind in KINDS {
-        for ns in NAMESPACES {
-            let ns = Text::of(alloc, ns)?;
-            if !lists_alike(store, objects, kind, Some(&ns))? {
-                return Ok(false);
-            }
-        }
         if !lists_alike(store, objects, kind, None)? {
             return Ok(false);
         }
     }
-    Ok(
-        objects.iter().all(|object| match store.get(&object.id) {
-            Some(found) => found.object().is_same(object),
-            None => false,
-        }),
-    )
+    Ok(are_found(store, objects))
+}
+
+fn next(number: usize) -> usize {
+    number.wrapping_mul(1_103_515_245).wrapping_add(12_345) >> 8
+}
+
+/// Up to three writes, and the number behind theirs.
+fn changes(alloc: Global, number: usize, version: u64) -> Result<(Vec<Change>, usize), NoMemory> {
+    let mut changes = Vec::new(alloc);
+    let mut last = number;
+    for _ in 0..number % 4 {
+        last = next(last);
+        changes.push(change(alloc, last, version)?)?;
+    }
+    Ok((changes, next(last)))
+}
+
+fn make_all(objects: &mut Vec<Object>, changes: &[Change]) -> Result<(), NoMemory> {
+    for change in changes {
+        make(objects, change)?;
+    }
+    Ok(())
+}
+
+/// Stages writes that a number tells, and makes them in both or drops them. It gives the next number.
+fn advance(
+    store: &mut Store,
+    objects: &mut Vec<Object>,
+    number: usize,
+    version: u64,
+) -> Result<usize, NoMemory> {
+    let (changes, number) = changes(store.allocator(), number, version)?;
+    store.stage(changes)?;
+    if number % 5 == 0 {
+        store.discard();
+    } else {
+        make_all(objects, store.staged())?;
+        store.apply(version);
+    }
+    Ok(number)
 }
 
 #[test]
 fn a_store_answers_as_a_list(rt: HostRuntime) -> Result<(), Fail> {
-    let alloc = rt.alloc();
-    let mut store = Store::new(alloc, 0, RandomState::new(&rt)?);
-    let mut objects = Vec::new(alloc);
+    let keys = RandomState::new(&rt)?;
+    let mut store = Store::new(rt.alloc(), 0, keys);
+    let mut objects = Vec::new(rt.alloc());
     let mut number: usize = 1;
     for version in 1..400u64 {
-        let mut changes = Vec::new(alloc);
-        for _ in 0..number % 4 {
-            number = number.wrapping_mul(1_103_515_245).wrapping_add(12_345) >> 8;
-            changes.push(change(alloc, number, version)?)?;
-        }
-        number = number.wrapping_mul(1_103_515_245).wrapping_add(12_345) >> 8;
-        store.stage(changes)?;
-        if number % 5 == 0 {
-            store.discard();
-        } else {
-            for change in store.staged() {
-                make(&mut objects, change)?;
-            }
-            store.apply(version);
-        }
+        number = advance(&mut store, &mut objects, number, version)?;
         assert!(rt; are_alike(&store, objects.as_slice())?, "version {version}");
     }
     Ok(())
@@ -249,7 +284,7 @@ macro_rules! steps {
     };
 }
 
-const STEPS: [Step; 9] = steps!(
+static STEPS: [Step; 9] = steps!(
     Role "c" "x" Source true => "c ";
     Role "a" "x" Source true => "a c ";
     Role "b" "x" Copy true => "a c ";
@@ -261,65 +296,59 @@ const STEPS: [Step; 9] = steps!(
     Role "b" "x" Source true => "b ";
 );
 
-/// The labels of a source or a copy.
-fn labels(alloc: Global, is_copy: bool) -> Result<Pairs, NoMemory> {
-    if !is_copy {
-        return Ok(Pairs::new(alloc));
-    }
-    let key = Text::of(alloc, "hnc.x-k8s.io/inherited-from")?;
-    let from = Text::of(alloc, "root")?;
-    Ok(Pairs::of(Vec::from_array(alloc, [(key, from)])?))
-}
+/// The labels of a copy.
+const COPIED: [(&str, &str); 1] = [("hnc.x-k8s.io/inherited-from", "root")];
 
 fn write_of(alloc: Global, step: &Step) -> Result<Change, NoMemory> {
-    let id = Id {
-        kind: step.kind,
-        ns: Text::of(alloc, step.ns)?,
-        name: Text::of(alloc, step.name)?,
-    };
-    if step.written == Written::Nothing {
-        return Ok(Change::cut(id));
+    let id = id(alloc, step.kind, step.ns, step.name)?;
+    match step.written {
+        Written::Nothing => Ok(Change::cut(id)),
+        Written::Source => put_of(alloc, id, &[], 1),
+        Written::Copy => put_of(alloc, id, &COPIED, 1),
     }
-    let mut object = object(alloc, id, 1)?;
-    object.labels = labels(alloc, step.written == Written::Copy)?;
-    Change::put(Shared::new(alloc, object)?)
 }
 
-/// The namespaces that hold a source of the role `x`, with a blank behind each.
-fn holders(store: &Store) -> Result<String, NoMemory> {
-    let mut holders = String::new(store.allocator());
-    for source in store.sources(Kind::Role, "x")?.iter() {
+/// The write of a step alone.
+fn writes_of(alloc: Global, step: &Step) -> Result<Vec<Change>, NoMemory> {
+    let mut changes = Vec::new(alloc);
+    changes.push(write_of(alloc, step)?)?;
+    Ok(changes)
+}
+
+/// The namespaces that hold the sources, with a blank behind each.
+fn namespaces(alloc: Global, sources: &[Shared]) -> Result<String, NoMemory> {
+    let mut holders = String::new(alloc);
+    for source in sources {
         holders.push_str(source.object().id.ns.as_str())?;
-        holders.push_str(" ")?;
+        holders.push(' ')?;
     }
     Ok(holders)
 }
 
+/// Whether the namespaces with a blank behind each are those that hold a source of the role `x`.
+fn are_holders(store: &Store, wanted: &str) -> Result<bool, NoMemory> {
+    let sources = store.sources(Kind::Role, "x")?;
+    let found = namespaces(store.allocator(), sources.as_slice())?;
+    Ok(found.as_str() == wanted)
+}
+
 /// Whether the store tells the holders of a step once it is done.
 fn tells_holders(store: &mut Store, step: &Step) -> Result<bool, NoMemory> {
-    let alloc = store.allocator();
-    let mut changes = Vec::new(alloc);
-    changes.push(write_of(alloc, step)?)?;
-    store.stage(changes)?;
+    store.stage(writes_of(store.allocator(), step)?)?;
     if step.is_made {
         store.apply(1);
     } else {
         store.discard();
     }
-    Ok(holders(store)?.as_str() == step.holders)
+    are_holders(store, step.holders)
 }
 
 #[test]
 fn sources_are_told_by_kind_and_name(rt: HostRuntime) -> Result<(), Fail> {
     let mut store = Store::new(rt.alloc(), 0, RandomState::new(&rt)?);
     for step in STEPS.iter() {
-        assert!(rt;
-            tells_holders(&mut store, step)?,
-            "{} {} {}",
-            step.ns,
-            step.name,
-            step.holders
-        );
+        let tells = tells_holders(&mut store, step)?;
+        assert!(rt; tells, "{} {} {}", step.ns, step.name, step.holders);
     }
     Ok(())
 }

@@ -1,6 +1,6 @@
 use Rattle.std.proofs.Common.{rules, refl}
 use Rattle.serde_json.specs.Data.{no_members}
-use Rattle.hnc_tests.proofs.stores.no_members.Goals as goal
+use Rattle.hnc_tests.proofs.made.no_members.Goals as goal
 use Prim.{search}
 
 pub new-requires : goal.new-requires
