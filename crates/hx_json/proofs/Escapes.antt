@@ -1,7 +1,6 @@
 -- Strings that are escaped character by character.
 use Rattle.std.proofs.Common.{◌≡◌, ℕ, suc, ◌<◌, ◌≤◌, true, nat_lt, ◌==◌, ◌||◌, List, [], ◌∷◌, ◌++◌, length, get_or, inl, inr, refl, sym, ap, ap₂, ◌∙◌, arith, append_assoc, append-nil, encode_utf8, encode_utf8_all}
-use Rattle.std.specs.List.{list_all}
-use Rattle.std.proofs.lemmas.Bool.{and_parts, or_parts, not-true, eqb-false, ltb-false, cases_lt}
+use Rattle.std.proofs.lemmas.Bool.{or_parts, not-true, eqb-false, ltb-false, cases_lt}
 use Rattle.std.proofs.lemmas.Str.{encode_ascii, inside_one, encodes-append}
 use Rattle.json.specs.Print.{escape, escape_byte}
 use Rattle.json.specs.Run.{is_stop, is_plain}
@@ -12,13 +11,6 @@ plain_byte x h =
     let tests = or_parts ((x == 34) || (x == 92)) (nat_lt x 32) (not-true (is_stop x) h) in
     let others = or_parts (x == 34) (x == 92) tests.0 in
     escape_byte_plain x (eqb-false x 34 others.0) (eqb-false x 92 others.1) (ltb-false x 32 tests.1)
-
--- plain bytes stand for themselves
-pub plain_bytes : (bytes : List ℕ) → list_all is_plain bytes ≡ true → escape bytes ≡ bytes
-plain_bytes [] h = refl
-plain_bytes (x ∷ bytes) h =
-    let p = and_parts (is_plain x) (list_all is_plain bytes) h in
-    ap₂ (λ (a b : List ℕ). a ++ b) (plain_byte x p.0) (plain_bytes bytes p.1)
 
 escape_high : (xs : List ℕ) → ((k : ℕ) → k < length xs → 128 ≤ get_or xs k 0) → escape xs ≡ xs
 escape_high [] h = refl

@@ -3,6 +3,7 @@ mod details;
 mod list;
 mod object;
 mod payload;
+mod plain;
 mod status;
 pub mod text;
 mod usages;

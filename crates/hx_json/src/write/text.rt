@@ -2,13 +2,12 @@
 ghost use Rattle.std.specs.Prelude.{◌≡◌, ◌++◌, ◌/◌, ◌%◌, ◌<◌, ◌∷◌, [], encode_utf8, string_bytes, OnOk};
 ghost use Rattle.std.specs.Char.{digit_char};
 ghost use Rattle.std.specs.Fmt.{decimal};
-ghost use Rattle.std.specs.List.{list_all};
 ghost use Rattle.json.specs.Print.{escape, quoted};
-ghost use Rattle.json.specs.Run.{is_plain};
 ghost use Rattle.serde_json.specs.Written.{comma_if};
 ghost use Rattle.hx_object.specs.Kinds.{name_of, api_version_of};
 ghost use Rattle.hx_object.specs.Quantities.{quantity_text};
 
+use super::plain::is_plain;
 use hx_object::{Kind, NoMemory, Text};
 use hx_quantity::print;
 use itoa::Buffer;
@@ -95,28 +94,14 @@ pub fn push_named_amount(out: &mut String, name: &str, amount: u128) -> Result<(
 }
 
 /// Appends what stands between quotes for a text.
-#[tactic(auto, using(crate::proofs::Escapes::plain_bytes))]
 fn push_inside(out: &mut String, text: &str) -> Result<(), NoMemory>
     ensures { OnOk result (string_bytes out.new ≡ string_bytes out.old ++ escape text.now) }
 {
-    if are_plain(text.as_bytes()) {
+    if is_plain(text.as_bytes()) {
         push(out, text)
     } else {
         push_escaped(out, text)
     }
-}
-
-/// Whether none of the bytes wants an escape.
-fn are_plain(bytes: &[u8]) -> bool
-    ensures { result ≡ list_all is_plain bytes.now }
-{
-    bytes.iter().all(|byte| is_plain(*byte))
-}
-
-fn is_plain(byte: u8) -> bool
-    ensures { result ≡ is_plain byte }
-{
-    !(byte == b'"' || byte == b'\\' || byte < 32)
 }
 
 fn push_escaped(out: &mut String, text: &str) -> Result<(), NoMemory>
