@@ -22,15 +22,14 @@ fn push_value(out: &mut String, value: &Value<'_>) -> Result<(), NoMemory>
     ensures { OnOk result (string_bytes out.new ≡ string_bytes out.old ++ compact_text (laid_out (value_view value.now))) }
 {
     match value {
-        Value::Null => push(out, "null")?,
-        Value::Bool(true) => push(out, "true")?,
-        Value::Bool(false) => push(out, "false")?,
-        Value::Number(text) => push_number(out, text)?,
-        Value::String(text) => push_quoted(out, text)?,
-        Value::Array(items) => push_items(out, items)?,
-        Value::Object(members) => push_members(out, members)?,
+        Value::Null => push(out, "null"),
+        Value::Bool(true) => push(out, "true"),
+        Value::Bool(false) => push(out, "false"),
+        Value::Number(text) => push_number(out, text),
+        Value::String(text) => push_quoted(out, text),
+        Value::Array(items) => push_items(out, items),
+        Value::Object(members) => push_members(out, members),
     }
-    Ok(())
 }
 
 #[cycle(push_value)]
@@ -44,8 +43,7 @@ fn push_items(out: &mut String, items: &Vec<Value<'_>>) -> Result<(), NoMemory>
         push_value(out, item)?;
         later = true;
     }
-    push(out, "]")?;
-    Ok(())
+    push(out, "]")
 }
 
 #[cycle(push_value)]
@@ -68,8 +66,7 @@ fn push_members(out: &mut String, members: &Vec<(&str, Value<'_>)>) -> Result<()
         push_member(out, later, key, member)?;
         later = true;
     }
-    push(out, "}")?;
-    Ok(())
+    push(out, "}")
 }
 
 /// The places once a member of this key ends at `end`.

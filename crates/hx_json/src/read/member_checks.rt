@@ -8,7 +8,9 @@ ghost use Rattle.hx_json.specs.Trees.{has_sorted_metadata, has_sorted_pairs, kee
 
 use super::members::{get, in_metadata, in_spec, member, text_in};
 use super::resource_checks::{check_claim, check_pod, check_quota};
-use super::shapes::{MemberFault, Shape, check, check_in_spec, check_texts, is_object, required};
+use super::shapes::{
+    MemberFault, Shape, check, check_in_spec, check_required, check_texts, is_object, required,
+};
 use hx_object::{Kind, Text};
 use json::Value;
 
@@ -41,8 +43,7 @@ fn check_name(metadata: &Value<'_>, name: Option<&Text>) -> Result<(), MemberFau
     if name.is_some() {
         return check(member(metadata, "name"), "metadata.name", Shape::Text);
     }
-    required(get(metadata, "name"), "metadata.name", Shape::Text)?;
-    Ok(())
+    check_required(get(metadata, "name"), "metadata.name", Shape::Text)
 }
 
 fn check_metadata(metadata: &Value<'_>, name: Option<&Text>) -> Result<(), MemberFault>
@@ -95,14 +96,11 @@ impl EntryMember {
                 Shape::Text,
             ),
             EntryMember::Mode => check(member(entry, "mode"), "spec.resources.mode", Shape::Mode),
-            EntryMember::Resource => {
-                required(
-                    get(entry, "resource"),
-                    "spec.resources.resource",
-                    Shape::Text,
-                )?;
-                Ok(())
-            }
+            EntryMember::Resource => check_required(
+                get(entry, "resource"),
+                "spec.resources.resource",
+                Shape::Text,
+            ),
         }
     }
 }

@@ -165,6 +165,20 @@ pub fn required<'v, 'a>(
     }
 }
 
+/// Refuses a member that isn't there, and one that has another shape.
+pub fn check_required(
+    found: Option<&Value<'_>>,
+    path: &'static str,
+    shape: Shape,
+) -> Result<(), MemberFault>
+    ensures { fault_in result ≡ required_fault path.now (test_of shape) (option_map (λ v. said v.now) found.entry) }
+{
+    match required(found, path, shape) {
+        Ok(_) => Ok(()),
+        Err(fault) => Err(fault),
+    }
+}
+
 /// Refuses a member of `spec` that has another shape, and one that can't be there since `spec` is no object.
 pub fn check_in_spec(
     value: &Value<'_>,

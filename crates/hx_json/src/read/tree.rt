@@ -151,7 +151,7 @@ fn has_sorted_metadata(value: &Value<'_>) -> bool
 pub fn is_head(key: &str) -> bool
     ensures { result ≡ is_head key.now }
 {
-    key == "apiVersion" || key == "kind" || key == "metadata"
+    matches!(key, "apiVersion" | "kind" | "metadata")
 }
 
 fn kept_are_sorted(members: &[(&str, Value<'_>)]) -> bool

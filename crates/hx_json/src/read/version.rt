@@ -26,7 +26,12 @@ pub fn is_long_decimal(text: &[u8]) -> bool
 fn are_digits(text: &[u8]) -> bool
     ensures { result ≡ list_all is_digit text.now }
 {
-    text.iter().all(|byte| byte.is_ascii_digit())
+    for byte in text {
+        if !byte.is_ascii_digit() {
+            return false;
+        }
+    }
+    true
 }
 
 fn begins_with_zero(text: &[u8]) -> bool

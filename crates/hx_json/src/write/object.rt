@@ -1,5 +1,5 @@
 // Objects as compact JSON.
-ghost use Rattle.std.specs.Prelude.{◌≡◌, ◌++◌, false, string_bytes, IfOk, OnOk};
+ghost use Rattle.std.specs.Prelude.{◌≡◌, ◌++◌, codes, false, string_bytes, IfOk, OnOk};
 ghost use Rattle.serde_json.specs.Written.{members_text};
 ghost use Rattle.hx_object.specs.Faults.{IsLegal};
 ghost use Rattle.hx_object.specs.Json.{pairs_members, object_text};
@@ -61,10 +61,11 @@ fn push_namespace_of(out: &mut String, ns: &Text) -> Result<(), NoMemory>
     push_named(out, r#","namespace":"#, ns)
 }
 
+/// Appends the metadata under their name, behind a comma.
 fn push_metadata(out: &mut String, object: &Object) -> Result<(), NoMemory>
-    ensures { OnOk result (string_bytes out.new ≡ string_bytes out.old ++ metadata_text object.now) }
+    ensures { OnOk result (string_bytes out.new ≡ string_bytes out.old ++ (codes ",\"metadata\":" ++ metadata_text object.now)) }
 {
-    push(out, "{")?;
+    push(out, r#","metadata":{"#)?;
     push_front(out, r#""annotations":"#, &object.annotations)?;
     push_front(out, r#""labels":"#, &object.labels)?;
     push_named_text(out, r#""name":"#, &object.id.name)?;
@@ -80,7 +81,6 @@ fn push_head(out: &mut String, object: &Object) -> Result<(), NoMemory>
     let kind = object.id.kind;
     push_api_version(out, r#"{"apiVersion":"#, kind)?;
     push_kind(out, r#","kind":"#, kind)?;
-    push(out, r#","metadata":"#)?;
     push_metadata(out, object)
 }
 
@@ -115,7 +115,6 @@ fn push_plain(out: &mut String, object: &Object, text: &str, places: Places) -> 
     push_later_part(out, text, first, second)?;
     push_kind(out, r#","kind":"#, kind)?;
     push_later_part(out, text, second, third)?;
-    push(out, r#","metadata":"#)?;
     push_metadata(out, object)?;
     push_later_part(out, text, third, text.len() - 1)?;
     push(out, "}")

@@ -23,25 +23,22 @@ pub fn push_namespace(out: &mut String, terminating: bool) -> Result<(), NoMemor
 }
 
 /// The anchor's status, where there is one.
-#[tactic(auto, unfolding(json::specs::Print::escape_byte))]
 pub fn push_anchor(out: &mut String, status: Option<AnchorStatus>) -> Result<(), NoMemory>
     ensures { OnOk result (string_bytes out.new ≡ string_bytes out.old ++ members_text true (json.own_members (PayloadOf.Anchor status))) }
 {
-    let Some(status) = status else {
-        return push(out, "}");
-    };
-    push_named(out, r#","status":{"status":"#, anchor_text(status))?;
-    push(out, "}}")
+    push(out, anchor_rest(status))
 }
 
-fn anchor_text(status: AnchorStatus) -> &'static str
-    ensures { result.now ≡ json.anchor_text status }
+#[tactic(auto, unfolding(json::specs::Print::escape_byte))]
+fn anchor_rest(status: Option<AnchorStatus>) -> &'static str
+    ensures { result.now ≡ members_text true (json.own_members (PayloadOf.Anchor status)) }
 {
     match status {
-        AnchorStatus::Missing => "Missing",
-        AnchorStatus::Ok => "Ok",
-        AnchorStatus::Conflict => "Conflict",
-        AnchorStatus::Forbidden => "Forbidden",
+        None => "}",
+        Some(AnchorStatus::Missing) => r#","status":{"status":"Missing"}}"#,
+        Some(AnchorStatus::Ok) => r#","status":{"status":"Ok"}}"#,
+        Some(AnchorStatus::Conflict) => r#","status":{"status":"Conflict"}}"#,
+        Some(AnchorStatus::Forbidden) => r#","status":{"status":"Forbidden"}}"#,
     }
 }
 
@@ -178,54 +175,32 @@ fn push_conditions(out: &mut String, conditions: &[Condition]) -> Result<(), NoM
     let mut later = false;
     for condition in conditions {
         push_comma_if(out, later)?;
-        push_condition(out, *condition)?;
+        push(out, condition_text(*condition))?;
         later = true;
     }
     push(out, "]")
 }
 
-fn push_condition(out: &mut String, condition: Condition) -> Result<(), NoMemory>
-    ensures { OnOk result (string_bytes out.new ≡ string_bytes out.old ++ compact_text (json.condition_data condition)) }
-{
-    push_named(out, r#"{"message":"#, message_text(condition))?;
-    push_named(out, r#","reason":"#, reason_text(condition))?;
-    push_named(out, r#","status":"True","type":"#, type_text(condition))?;
-    push(out, "}")
-}
-
-fn reason_text(condition: Condition) -> &'static str
-    ensures { result.now ≡ json.reason_text condition }
+#[tactic(auto, unfolding(json::specs::Print::escape_byte))]
+fn condition_text(condition: Condition) -> &'static str
+    ensures { result.now ≡ compact_text (json.condition_data condition) }
 {
     match condition {
-        Condition::InCycle => "InCycle",
-        Condition::ParentMissing => "ParentMissing",
-        Condition::IllegalParent => "IllegalParent",
-        Condition::Ancestor => "AncestorHaltActivities",
-        Condition::AnchorMissing => "SubnamespaceAnchorMissing",
-    }
-}
-
-fn type_text(condition: Condition) -> &'static str
-    ensures { result.now ≡ json.type_text condition }
-{
-    match condition {
-        Condition::AnchorMissing => "BadConfiguration",
-        Condition::InCycle
-        | Condition::ParentMissing
-        | Condition::IllegalParent
-        | Condition::Ancestor => "ActivitiesHalted",
-    }
-}
-
-fn message_text(condition: Condition) -> &'static str
-    ensures { result.now ≡ json.message_text condition }
-{
-    match condition {
-        Condition::InCycle => "the namespace is its own ancestor",
-        Condition::ParentMissing => "the parent does not exist",
-        Condition::IllegalParent => "the parent is excluded",
-        Condition::Ancestor => "an ancestor is halted",
-        Condition::AnchorMissing => "the parent has no anchor of this name",
+        Condition::InCycle => {
+            r#"{"message":"the namespace is its own ancestor","reason":"InCycle","status":"True","type":"ActivitiesHalted"}"#
+        }
+        Condition::ParentMissing => {
+            r#"{"message":"the parent does not exist","reason":"ParentMissing","status":"True","type":"ActivitiesHalted"}"#
+        }
+        Condition::IllegalParent => {
+            r#"{"message":"the parent is excluded","reason":"IllegalParent","status":"True","type":"ActivitiesHalted"}"#
+        }
+        Condition::Ancestor => {
+            r#"{"message":"an ancestor is halted","reason":"AncestorHaltActivities","status":"True","type":"ActivitiesHalted"}"#
+        }
+        Condition::AnchorMissing => {
+            r#"{"message":"the parent has no anchor of this name","reason":"SubnamespaceAnchorMissing","status":"True","type":"BadConfiguration"}"#
+        }
     }
 }
 

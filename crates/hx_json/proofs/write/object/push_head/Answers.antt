@@ -11,9 +11,9 @@ returns c =
     last c.push_metadata.result (λ e.
     glue (string_bytes c.args.out.now)
     ((codes "{\"apiVersion\":" ++ quoted (api_version_of c.args.object.now.id.kind)) ∷ (codes ",\"kind\":" ++ quoted (name_of c.args.object.now.id.kind)) ∷
-    codes ",\"metadata\":" ∷ metadata_text c.args.object.now ∷ [])
+    (codes ",\"metadata\":" ++ metadata_text c.args.object.now) ∷ [])
     (string_bytes c.push_metadata.new.out) (
       _,
       c.in_ok-push_api_version.ensures,
-      (_, c.in_ok-push_kind.ensures, (_, c.in_ok-push.ensures, e)),
+      (_, c.in_ok-push_kind.ensures, e),
     )) c.push_metadata.ensures

@@ -9,7 +9,7 @@ unfolding metadata_text
 returns c =
     last c.push-2.result (λ e.
     glue (string_bytes c.args.out.now)
-    (codes "{" ∷ pairs_front (codes "\"annotations\":") c.args.object.now.annotations ∷ pairs_front (codes "\"labels\":") c.args.object.now.labels ∷
+    (codes ",\"metadata\":{" ∷ pairs_front (codes "\"annotations\":") c.args.object.now.annotations ∷ pairs_front (codes "\"labels\":") c.args.object.now.labels ∷
     (codes "\"name\":" ++ quoted c.args.object.now.id.name) ∷ namespace_text c.args.object.now.id.ns ∷
     (codes ",\"resourceVersion\":" ++ quoted (decimal c.args.object.now.version)) ∷ codes "}" ∷ [])
     (string_bytes c.push-2.new.out) (_, c.in_ok-push.ensures, (_, c.in_ok-push_front.ensures, (_, c.in_ok-push_front-2.ensures, (_, c.in_ok-push_named_text.ensures, (_, c.in_ok-push_namespace_of.ensures, (_, c.in_ok-push_named_number.ensures, e))))))) c.push-2.ensures

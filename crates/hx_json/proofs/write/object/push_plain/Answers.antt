@@ -8,13 +8,13 @@ use Rattle.hx_json.proofs.write.object.push_plain.Goals as goal
 pub returns : goal.returns
 unfolding plain_text
 returns c =
-    last c.push-2.result (λ e.
+    last c.push.result (λ e.
     glue (string_bytes c.args.out.now)
     (front_part c.args.text.now c.args.places.api_version ∷ (codes "\"apiVersion\":" ++ quoted (api_version_of c.args.object.now.id.kind)) ∷
     later_part c.args.text.now c.args.places.api_version c.args.places.kind ∷ (codes ",\"kind\":" ++ quoted (name_of c.args.object.now.id.kind)) ∷
-    later_part c.args.text.now c.args.places.kind c.args.places.metadata ∷ codes ",\"metadata\":" ∷ metadata_text c.args.object.now ∷
+    later_part c.args.text.now c.args.places.kind c.args.places.metadata ∷ (codes ",\"metadata\":" ++ metadata_text c.args.object.now) ∷
     later_part c.args.text.now c.args.places.metadata (length c.args.text.now - 1) ∷ codes "}" ∷ [])
-    (string_bytes c.push-2.new.out) (
+    (string_bytes c.push.new.out) (
       _,
       c.in_ok-push_front_part.ensures,
       (
@@ -29,13 +29,9 @@ returns c =
             (
               _,
               c.in_ok-push_later_part-2.ensures,
-              (
-                _,
-                c.in_ok-push.ensures,
-                (_, c.in_ok-push_metadata.ensures, (_, c.in_ok-push_later_part-3.ensures, e)),
-              ),
+              (_, c.in_ok-push_metadata.ensures, (_, c.in_ok-push_later_part-3.ensures, e)),
             ),
           ),
         ),
       ),
-    )) c.push-2.ensures
+    )) c.push.ensures
