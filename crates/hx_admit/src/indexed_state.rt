@@ -21,7 +21,6 @@ use std::marker::Model;
 ///
 /// Writes are staged first, which makes room for all that they change. They are made later without taking memory, or given up.
 /// Reviews are in review.rt, what stands against a write in checks.rt, what quotas refuse in quotas.rt, what writes change beside the objects in plan.rt, which names come and go in names.rt, and what is taken in at a start in load.rt.
-#[derive(Drop)]
 pub struct IndexedState {
     pub(crate) store: Store,
     pub(crate) forest: Forest,
@@ -33,6 +32,20 @@ pub struct IndexedState {
     /// What the objects of subtrees are charged.
     pub(crate) usage: Usage,
     pub(crate) config: RunConfig,
+}
+
+impl Drop for IndexedState {
+    fn drop(self) {
+        let IndexedState {
+            store: _,
+            forest: _,
+            owners: _,
+            counts: _,
+            next: _,
+            usage: _,
+            config: _,
+        } = self;
+    }
 }
 
 impl Model for IndexedState {

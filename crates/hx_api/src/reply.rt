@@ -10,10 +10,15 @@ use hx_object::{NoMemory, Text};
 use std::alloc::Global;
 
 /// A reply: an HTTP status and a body.
-#[derive(Drop)]
 pub struct Reply {
     pub status: u16,
     pub body: Text,
+}
+
+impl Drop for Reply {
+    fn drop(self) {
+        let Reply { status: _, body: _ } = self;
+    }
 }
 
 impl Reply {

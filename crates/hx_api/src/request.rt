@@ -18,10 +18,18 @@ use std::alloc::Global;
 use std::marker::Model;
 
 /// Reads requests, one after another. It keeps the room that reading a body takes.
-#[derive(Drop)]
 pub struct RequestReader {
     alloc: Global,
     bodies: BodyReader,
+}
+
+impl Drop for RequestReader {
+    fn drop(self) {
+        let RequestReader {
+            alloc: _,
+            bodies: _,
+        } = self;
+    }
 }
 
 impl Model for RequestReader {

@@ -17,10 +17,15 @@ pub enum Take {
 }
 
 /// A turn of a settle: the key that was taken, and how its turn ended.
-#[derive(Drop)]
 pub struct Turned {
     pub key: Key,
     pub end: Finish,
+}
+
+impl Drop for Turned {
+    fn drop(self) {
+        let Turned { key: _, end: _ } = self;
+    }
 }
 
 /// How a settle ended.

@@ -52,9 +52,14 @@ impl Link {
 }
 
 /// The names of children, by the name of the parent.
-#[derive(Drop)]
 pub(crate) struct Children {
     lists: NameMap<Names>,
+}
+
+impl Drop for Children {
+    fn drop(self) {
+        let Children { lists: _ } = self;
+    }
 }
 
 impl Children {

@@ -18,11 +18,20 @@ use std::mem;
 /// Namespaces and their parents.
 ///
 /// It keeps a node for each namespace, and the children of each name in ascending order, also of one that isn't there. Changes are staged first, with all that they need, and made later without taking memory.
-#[derive(Drop)]
 pub struct Forest {
     pub(crate) nodes: Nodes,
     children: Children,
     staged: Vec<Prepared>,
+}
+
+impl Drop for Forest {
+    fn drop(self) {
+        let Forest {
+            nodes: _,
+            children: _,
+            staged: _,
+        } = self;
+    }
 }
 
 impl Model for Forest {

@@ -11,9 +11,14 @@ use std::marker::Model;
 /// Names in ascending order, each once.
 ///
 /// Room is made first, and names are added later without taking memory.
-#[derive(Drop)]
 pub(crate) struct Names {
     names: Vec<Text>,
+}
+
+impl Drop for Names {
+    fn drop(self) {
+        let Names { names: _ } = self;
+    }
 }
 
 impl Model for Names {

@@ -30,11 +30,19 @@ pub(crate) struct Place {
 /// Nodes by the names of their namespaces.
 ///
 /// A step up goes by the way, which reads no name. Where it doesn't meet a place of its number, the step goes by the parent's name.
-#[derive(Drop)]
 pub(crate) struct Nodes {
     places: NameMap<Place>,
     /// The greatest number of a place so far.
     drawn: u64,
+}
+
+impl Drop for Nodes {
+    fn drop(self) {
+        let Nodes {
+            places: _,
+            drawn: _,
+        } = self;
+    }
 }
 
 impl Nodes {

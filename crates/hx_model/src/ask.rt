@@ -35,7 +35,6 @@ pub enum Ask {
 }
 
 /// What a cluster answers.
-#[derive(Drop)]
 pub enum Answer {
     /// The object; `fresh` where the request made it.
     One {
@@ -53,4 +52,22 @@ pub enum Answer {
         version: u64,
     },
     Refused(Refusal),
+}
+
+impl Drop for Answer {
+    fn drop(self) {
+        match self {
+            Answer::One {
+                object: _,
+                fresh: _,
+            } => {}
+            Answer::Many {
+                kind: _,
+                objects: _,
+                version: _,
+            } => {}
+            Answer::Gone { version: _ } => {}
+            Answer::Refused(_) => {}
+        }
+    }
 }

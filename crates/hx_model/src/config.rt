@@ -5,12 +5,20 @@ ghost use Rattle.hx_model.specs.Forest.{is_in};
 use hx_object::{List, Text};
 
 /// What is fixed for a run.
-#[derive(Drop)]
 pub struct RunConfig {
     /// The namespaces that take no part in trees.
     pub excluded: List<Text>,
     /// Whether a request may skip the rules on trees.
     pub allow_skip: bool,
+}
+
+impl Drop for RunConfig {
+    fn drop(self) {
+        let RunConfig {
+            excluded: _,
+            allow_skip: _,
+        } = self;
+    }
 }
 
 impl RunConfig {

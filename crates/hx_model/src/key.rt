@@ -2,7 +2,7 @@
 use hx_object::{Id, Kind, Object, Text};
 
 /// A place that a reconciler looks after.
-#[derive(Clone, PartialEq, Eq, Hash, Drop)]
+#[derive(Clone, PartialEq, Eq, Hash)]
 pub enum Key {
     /// The copy of a kind and name in a namespace.
     Copy { ns: Text, kind: Kind, name: Text },
@@ -20,11 +20,34 @@ pub enum Key {
     Purge { ns: Text },
 }
 
+impl Drop for Key {
+    fn drop(self) {
+        match self {
+            Key::Copy {
+                ns: _,
+                kind: _,
+                name: _,
+            } => {}
+            Key::Tree { ns: _ } => {}
+            Key::Report { ns: _ } => {}
+            Key::Child { ns: _, name: _ } => {}
+            Key::Anchor { ns: _, name: _ } => {}
+            Key::Used { ns: _, name: _ } => {}
+            Key::Purge { ns: _ } => {}
+        }
+    }
+}
+
 /// An identity that a write rests on, with its version when it was read, or `None` where it wasn't there.
-#[derive(Drop)]
 pub struct Guard {
     pub id: Id,
     pub version: Option<u64>,
+}
+
+impl Drop for Guard {
+    fn drop(self) {
+        let Guard { id: _, version: _ } = self;
+    }
 }
 
 /// A change of the stored objects.

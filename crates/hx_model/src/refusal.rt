@@ -11,7 +11,6 @@ use hx_object::{Kind, NoMemory, Text};
 use std::alloc::Global;
 
 /// Why a request is refused. Reason and message are those of a Kubernetes `Status`.
-#[derive(Drop)]
 pub enum Refusal {
     /// 400: a line of a script is in none of its forms.
     BadLine,
@@ -92,6 +91,49 @@ pub enum Refusal {
     NotServed,
     /// 503: no memory was left. Nothing was changed.
     NoMemory,
+}
+
+impl Drop for Refusal {
+    fn drop(self) {
+        match self {
+            Refusal::BadLine => {}
+            Refusal::BadPath => {}
+            Refusal::BadQuery { name: _ } => {}
+            Refusal::NotJson => {}
+            Refusal::NotWhole => {}
+            Refusal::NotKind { kind: _ } => {}
+            Refusal::OtherPlace => {}
+            Refusal::Broken { rule: _ } => {}
+            Refusal::OverQuota {
+                namespace: _,
+                quota: _,
+                resource: _,
+                used: _,
+                asked: _,
+                hard: _,
+            } => {}
+            Refusal::NoPath => {}
+            Refusal::NotFound { kind: _, name: _ } => {}
+            Refusal::NoMethod => {}
+            Refusal::Exists { kind: _, name: _ } => {}
+            Refusal::OtherVersion {
+                kind: _,
+                name: _,
+                version: _,
+            } => {}
+            Refusal::TooLong => {}
+            Refusal::Missing { member: _ } => {}
+            Refusal::WrongType { member: _ } => {}
+            Refusal::NoQuantity { member: _ } => {}
+            Refusal::BadName => {}
+            Refusal::BadLabel => {}
+            Refusal::TooManyLabels => {}
+            Refusal::TooLarge => {}
+            Refusal::StoreFailed => {}
+            Refusal::NotServed => {}
+            Refusal::NoMemory => {}
+        }
+    }
 }
 
 impl From<NoMemory> for Refusal {

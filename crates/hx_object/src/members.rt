@@ -11,10 +11,15 @@ use std::marker::Model;
 /// The members that an object of a plain kind keeps, as compact JSON text, and where those that each object has go among them.
 ///
 /// Contracts see the text.
-#[derive(Drop)]
 pub struct Members {
     text: Text,
     places: Places,
+}
+
+impl Drop for Members {
+    fn drop(self) {
+        let Members { text: _, places: _ } = self;
+    }
 }
 
 /// How many bytes of the text of kept members stand in front of where each member goes that they lack: `{` and the members whose keys come before it.

@@ -9,15 +9,25 @@ use std::cmp::Ordering;
 /// What an object is found by. `ns` is empty for the kinds that lie in no namespace.
 ///
 /// Identities are ordered by kind number, namespace and name.
-#[derive(Clone, PartialEq, Eq, PartialOrd, Ord, Hash, Drop)]
+#[derive(Clone, PartialEq, Eq, PartialOrd, Ord, Hash)]
 pub struct Id {
     pub kind: Kind,
     pub ns: Text,
     pub name: Text,
 }
 
+impl Drop for Id {
+    fn drop(self) {
+        let Id {
+            kind: _,
+            ns: _,
+            name: _,
+        } = self;
+    }
+}
+
 /// A stored object, or one that is to be stored.
-#[derive(Clone, PartialEq, Eq, Drop)]
+#[derive(Clone, PartialEq, Eq)]
 pub struct Object {
     pub id: Id,
     pub labels: Pairs,
@@ -27,8 +37,20 @@ pub struct Object {
     pub version: u64,
 }
 
+impl Drop for Object {
+    fn drop(self) {
+        let Object {
+            id: _,
+            labels: _,
+            annotations: _,
+            payload: _,
+            version: _,
+        } = self;
+    }
+}
+
 /// What an object holds beside its metadata, by its kind.
-#[derive(Clone, PartialEq, Eq, Drop)]
+#[derive(Clone, PartialEq, Eq)]
 pub enum Payload {
     Namespace {
         terminating: bool,
@@ -60,12 +82,43 @@ pub enum Payload {
     },
 }
 
+impl Drop for Payload {
+    fn drop(self) {
+        match self {
+            Payload::Namespace { terminating: _ } => {}
+            Payload::Config { entries: _ } => {}
+            Payload::Hierarchy {
+                parent: _,
+                cascade: _,
+                children: _,
+                conditions: _,
+            } => {}
+            Payload::Anchor { status: _ } => {}
+            Payload::Quota { hard: _, status: _ } => {}
+            Payload::Plain {
+                members: _,
+                need: _,
+            } => {}
+        }
+    }
+}
+
 /// How objects of one resource are propagated.
-#[derive(Clone, PartialEq, Eq, Drop)]
+#[derive(Clone, PartialEq, Eq)]
 pub struct ModeEntry {
     pub group: Text,
     pub resource: Text,
     pub mode: Mode,
+}
+
+impl Drop for ModeEntry {
+    fn drop(self) {
+        let ModeEntry {
+            group: _,
+            resource: _,
+            mode: _,
+        } = self;
+    }
 }
 
 /// HNC's synchronization modes.
@@ -97,23 +150,43 @@ pub enum AnchorStatus {
 }
 
 /// A limit of a quota, as it was written and in thousandths.
-#[derive(Clone, PartialEq, Eq, Drop)]
+#[derive(Clone, PartialEq, Eq)]
 pub struct Limit {
     pub resource: Text,
     pub written: Text,
     pub amount: u64,
 }
 
+impl Drop for Limit {
+    fn drop(self) {
+        let Limit {
+            resource: _,
+            written: _,
+            amount: _,
+        } = self;
+    }
+}
+
 /// A reported usage, in thousandths.
-#[derive(Clone, PartialEq, Eq, Drop)]
+#[derive(Clone, PartialEq, Eq)]
 pub struct Usage {
     pub resource: Text,
     pub hard: u64,
     pub used: u128,
 }
 
+impl Drop for Usage {
+    fn drop(self) {
+        let Usage {
+            resource: _,
+            hard: _,
+            used: _,
+        } = self;
+    }
+}
+
 /// What the members of a Pod, a claim or a Secret say for quotas and propagation. It is empty for the other kinds.
-#[derive(Clone, PartialEq, Eq, Drop)]
+#[derive(Clone, PartialEq, Eq)]
 pub struct Need {
     /// Whether a Pod has ended.
     pub finished: bool,
@@ -124,11 +197,28 @@ pub struct Need {
     pub containers: List<Container>,
 }
 
+impl Drop for Need {
+    fn drop(self) {
+        let Need {
+            finished: _,
+            token: _,
+            storage: _,
+            containers: _,
+        } = self;
+    }
+}
+
 /// A container's `requests.cpu`, `requests.memory`, `limits.cpu` and `limits.memory`, in thousandths.
-#[derive(Clone, PartialEq, Eq, Drop)]
+#[derive(Clone, PartialEq, Eq)]
 pub struct Container {
     pub init: bool,
     pub asks: [Option<u64>; 4],
+}
+
+impl Drop for Container {
+    fn drop(self) {
+        let Container { init: _, asks: _ } = self;
+    }
 }
 
 /// Why an object is refused. Where several hold, the first of them is given.

@@ -12,9 +12,14 @@ use std::marker::Model;
 /// Labels or annotations: pairs of a key and a value, in ascending order of keys by their bytes, each key once.
 ///
 /// Contracts see the list of the pairs.
-#[derive(Drop)]
 pub struct Pairs {
     items: Vec<(Text, Text)>,
+}
+
+impl Drop for Pairs {
+    fn drop(self) {
+        let Pairs { items: _ } = self;
+    }
 }
 
 impl Model for Pairs {

@@ -9,9 +9,14 @@ use std::sync::Arc;
 /// An object with several owners. Contracts see it as the object itself.
 ///
 /// The store, an answer and what is told of a write hold one object together, so that none of them copies it.
-#[derive(Drop)]
 pub struct Shared {
     inner: Arc<Object>,
+}
+
+impl Drop for Shared {
+    fn drop(self) {
+        let Shared { inner: _ } = self;
+    }
 }
 
 impl Model for Shared {

@@ -14,9 +14,14 @@ use std::hash::{Hash, Hasher};
 use std::marker::Model;
 
 /// Text, which contracts see as its bytes.
-#[derive(Drop)]
 pub struct Text {
     text: String,
+}
+
+impl Drop for Text {
+    fn drop(self) {
+        let Text { text: _ } = self;
+    }
 }
 
 impl Model for Text {

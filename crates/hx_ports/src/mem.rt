@@ -17,10 +17,18 @@ use hx_object::NoMemory;
 use std::hash::RandomState;
 
 /// The numbers of the calls that fail, and how many calls there were.
-#[derive(Drop)]
 struct Plan {
     numbers: Vec<u64>,
     calls: u64,
+}
+
+impl Drop for Plan {
+    fn drop(self) {
+        let Plan {
+            numbers: _,
+            calls: _,
+        } = self;
+    }
 }
 
 impl Plan {
@@ -41,11 +49,20 @@ impl Plan {
 }
 
 /// Bytes in memory, given in pieces, with reads that fail.
-#[derive(Drop)]
 pub struct MemSource {
     source: SureSource,
     plan: Plan,
     faults: u64,
+}
+
+impl Drop for MemSource {
+    fn drop(self) {
+        let MemSource {
+            source: _,
+            plan: _,
+            faults: _,
+        } = self;
+    }
 }
 
 impl MemSource {
@@ -85,13 +102,23 @@ impl Source for MemSource {
 }
 
 /// Takes bytes in pieces, up to the capacity of a vector, with writes that fail.
-#[derive(Drop)]
 pub struct MemSink {
     sink: SureSink,
     piece: usize,
     plan: Plan,
     faults: u64,
     ghost takes: { 0 < piece },
+}
+
+impl Drop for MemSink {
+    fn drop(self) {
+        let MemSink {
+            sink: _,
+            piece: _,
+            plan: _,
+            faults: _,
+        } = self;
+    }
 }
 
 impl MemSink {
@@ -148,7 +175,6 @@ pub struct FailCommit {
 }
 
 /// Rows in memory, with calls that fail.
-#[derive(Drop)]
 pub struct MemKeeper {
     keeper: SureKeeper,
     fail_commits: Vec<FailCommit>,
@@ -156,6 +182,19 @@ pub struct MemKeeper {
     commits: u64,
     broken: bool,
     faults: u64,
+}
+
+impl Drop for MemKeeper {
+    fn drop(self) {
+        let MemKeeper {
+            keeper: _,
+            fail_commits: _,
+            reads: _,
+            commits: _,
+            broken: _,
+            faults: _,
+        } = self;
+    }
 }
 
 impl MemKeeper {

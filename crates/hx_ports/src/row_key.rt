@@ -12,9 +12,14 @@ use std::hash::{Hash, Hasher};
 use std::marker::Model;
 
 /// The key of a row, which contracts see as its bytes.
-#[derive(Drop)]
 pub(crate) struct RowKey {
     bytes: List<u8>,
+}
+
+impl Drop for RowKey {
+    fn drop(self) {
+        let RowKey { bytes: _ } = self;
+    }
 }
 
 impl Model for RowKey {

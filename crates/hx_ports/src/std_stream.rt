@@ -9,11 +9,20 @@ use std::io;
 use std::io::{ErrorKind, Read, Write};
 
 /// A reader, with the count of its failures. A read that was interrupted is made again.
-#[derive(Drop)]
 pub struct StdSource<R: Read> {
     inner: R,
     faults: u64,
     last_fault: Option<ErrorKind>,
+}
+
+impl<R: Read + Drop> Drop for StdSource<R> {
+    fn drop(self) {
+        let StdSource {
+            inner: _,
+            faults: _,
+            last_fault: _,
+        } = self;
+    }
 }
 
 impl<R: Read> StdSource<R> {
@@ -86,12 +95,22 @@ fn read_again<R: Read>(reader: &mut R, into: &mut [u8]) -> io::Result<usize>
 }
 
 /// A writer, with the counts of its failures and of the writes that took nothing. A write that was interrupted is made again.
-#[derive(Drop)]
 pub struct StdSink<W: Write> {
     inner: W,
     faults: u64,
     stalls: u64,
     last_fault: Option<ErrorKind>,
+}
+
+impl<W: Write + Drop> Drop for StdSink<W> {
+    fn drop(self) {
+        let StdSink {
+            inner: _,
+            faults: _,
+            stalls: _,
+            last_fault: _,
+        } = self;
+    }
 }
 
 impl<W: Write> StdSink<W> {

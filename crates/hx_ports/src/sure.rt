@@ -7,13 +7,22 @@ ghost use Rattle.hx_ports.specs.Causes.{StallCause};
 use crate::stream::{ReadFault, Sink, Source, WriteFault};
 
 /// Bytes in memory, given in pieces.
-#[derive(Drop)]
 pub struct SureSource {
     bytes: Vec<u8>,
     at: usize,
     piece: usize,
     ghost within: { at ≤ vec_len bytes },
     ghost gives: { 0 < piece },
+}
+
+impl Drop for SureSource {
+    fn drop(self) {
+        let SureSource {
+            bytes: _,
+            at: _,
+            piece: _,
+        } = self;
+    }
 }
 
 impl SureSource {
@@ -49,10 +58,15 @@ impl Source for SureSource {
 }
 
 /// Takes bytes up to the capacity of a vector, which it never grows.
-#[derive(Drop)]
 pub struct SureSink {
     into: Vec<u8>,
     stalls: u64,
+}
+
+impl Drop for SureSink {
+    fn drop(self) {
+        let SureSink { into: _, stalls: _ } = self;
+    }
 }
 
 impl SureSink {

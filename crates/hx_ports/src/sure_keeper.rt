@@ -15,7 +15,6 @@ use std::alloc::Global;
 use std::hash::RandomState;
 
 /// Rows in memory. They lie as they were given until they are wanted by their keys, at the first commit at the latest, and then in a map.
-#[derive(Drop)]
 pub struct SureKeeper {
     given: Vec<Row>,
     rows: RowMap,
@@ -24,6 +23,19 @@ pub struct SureKeeper {
     place: Option<String>,
     alloc: Global,
     ghost ascends: { tells ≡ true → is_sorted bytes_cmp (entries_of given.items) ≡ true },
+}
+
+impl Drop for SureKeeper {
+    fn drop(self) {
+        let SureKeeper {
+            given: _,
+            rows: _,
+            meta: _,
+            tells: _,
+            place: _,
+            alloc: _,
+        } = self;
+    }
 }
 
 impl SureKeeper {

@@ -21,10 +21,18 @@ type KeySet = IndexSet<Key, RandomState>;
 /// The keys that wait.
 ///
 /// A key that is pushed goes to the younger generation, and the next one is the last of the older generation. Where that has no keys left, the younger one takes its place, the other way round. So a key that is pushed and taken is moved twice, whatever waits.
-#[derive(Drop)]
 pub(crate) struct Line {
     older: KeySet,
     younger: KeySet,
+}
+
+impl Drop for Line {
+    fn drop(self) {
+        let Line {
+            older: _,
+            younger: _,
+        } = self;
+    }
 }
 
 impl Model for Line {

@@ -13,10 +13,15 @@ use std::hash::RandomState;
 use std::marker::Model;
 
 /// Keys that wait, and keys that a worker holds.
-#[derive(Drop)]
 pub struct Queue {
     line: Line,
     slots: Slots,
+}
+
+impl Drop for Queue {
+    fn drop(self) {
+        let Queue { line: _, slots: _ } = self;
+    }
 }
 
 impl Model for Queue {

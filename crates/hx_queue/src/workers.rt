@@ -17,11 +17,16 @@ use std::hash::RandomState;
 use std::marker::Model;
 
 /// The queue of keys, and the brief that each worker holds.
-#[derive(Drop)]
 pub struct Workers {
     queue: Queue,
     /// In the order in which they were taken. They are few, since a worker has one at most.
     hands: Vec<Handed>,
+}
+
+impl Drop for Workers {
+    fn drop(self) {
+        let Workers { queue: _, hands: _ } = self;
+    }
 }
 
 /// What a worker holds.

@@ -16,9 +16,14 @@ use std::marker::Model;
 /// What all namespaces have together of a resource is below 2^128. Room is made first, and all changes are made without taking memory.
 ///
 /// The sums over subtrees are kept too, and each change goes along a chain. As long as parents go in a cycle, they aren't kept, and are formed by walks where they are asked for. The move that parts the last cycle forms them anew, in as many steps as all chains together have members.
-#[derive(Drop)]
 pub struct Counters {
     pub(crate) ledger: Ledger,
+}
+
+impl Drop for Counters {
+    fn drop(self) {
+        let Counters { ledger: _ } = self;
+    }
 }
 
 impl Model for Counters {

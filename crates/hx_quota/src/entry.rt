@@ -6,12 +6,17 @@ use hx_model::Resource;
 use hx_object::Text;
 
 /// What is kept of a namespace.
-#[derive(Drop)]
 pub struct Entry {
     /// Its parent among the namespaces.
     pub(crate) parent: Option<Text>,
     /// What it has of each resource by itself, in the order of the resources, in thousandths.
     pub(crate) own: [u128; 15],
+}
+
+impl Drop for Entry {
+    fn drop(self) {
+        let Entry { parent: _, own: _ } = self;
+    }
 }
 
 /// A change of what a namespace has of a resource by itself: `old` goes, and `new` comes in its place, in thousandths.

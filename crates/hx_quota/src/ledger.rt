@@ -17,11 +17,19 @@ use std::alloc::Global;
 use std::hash::RandomState;
 
 /// Places by the names of their namespaces, in no order.
-#[derive(Drop)]
 pub(crate) struct Ledger {
     pub(crate) places: PlaceMap,
     /// The sums of the places are those of their subtrees, and each walk up the parents ends. This is lost where a move makes a cycle, and is so again after a move that leaves none.
     pub(crate) summed: bool,
+}
+
+impl Drop for Ledger {
+    fn drop(self) {
+        let Ledger {
+            places: _,
+            summed: _,
+        } = self;
+    }
 }
 
 impl Ledger {

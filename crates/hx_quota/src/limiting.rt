@@ -8,11 +8,20 @@ use hx_model::Resource;
 use hx_object::{Limit, List, Text};
 
 /// A quota: its namespace, its name and its limits.
-#[derive(Drop)]
 pub struct QuotaRow {
     pub ns: Text,
     pub name: Text,
     pub hard: List<Limit>,
+}
+
+impl Drop for QuotaRow {
+    fn drop(self) {
+        let QuotaRow {
+            ns: _,
+            name: _,
+            hard: _,
+        } = self;
+    }
 }
 
 /// A limit that would be exceeded: the places of its quota and in that one, what is used before, what is asked for beyond it, and the limit. Amounts are in thousandths.

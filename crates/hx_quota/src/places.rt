@@ -11,10 +11,15 @@ use indexmap::IndexMap;
 use std::hash::RandomState;
 
 /// An entry, and what its namespace has with all below it, in the order of the resources.
-#[derive(Drop)]
 pub(crate) struct Place {
     pub(crate) entry: Entry,
     pub(crate) sums: [u128; 15],
+}
+
+impl Drop for Place {
+    fn drop(self) {
+        let Place { entry: _, sums: _ } = self;
+    }
 }
 
 /// What is taken off sums, and what is added to them.

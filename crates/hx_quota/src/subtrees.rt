@@ -23,7 +23,6 @@ use std::mem;
 /// What the objects of subtrees are charged, beside a store and the tree of its namespaces.
 ///
 /// It counts as long as each change of the tree and of a charge is staged here, before it is staged there. Where several writes are made at once and they change more than that namespaces are on their way out, the counts are lost, and what a subtree uses is then found by a walk over the objects. Changes are staged first, which makes room for them, and made later without taking memory.
-#[derive(Drop)]
 pub struct Usage {
     pub(crate) counters: Counters,
     /// What all namespaces have together of each resource, in the order of the resources, in thousandths.
@@ -34,6 +33,19 @@ pub struct Usage {
     /// They will once the staged changes are made.
     pub(crate) counts_then: bool,
     pub(crate) alloc: Global,
+}
+
+impl Drop for Usage {
+    fn drop(self) {
+        let Usage {
+            counters: _,
+            totals: _,
+            counts: _,
+            staged: _,
+            counts_then: _,
+            alloc: _,
+        } = self;
+    }
 }
 
 impl Model for Usage {

@@ -8,7 +8,6 @@ use std::marker::Model;
 use std::sync::Arc;
 
 /// What a plan is made from, copied out of a state: the key, and what of the state its write depends on.
-#[derive(Drop)]
 pub struct Brief {
     pub key: Key,
     /// The last version of the state.
@@ -18,8 +17,18 @@ pub struct Brief {
     pub facts: Facts,
 }
 
+impl Drop for Brief {
+    fn drop(self) {
+        let Brief {
+            key: _,
+            seen: _,
+            guards: _,
+            facts: _,
+        } = self;
+    }
+}
+
 /// What the write of a key depends on, by the kind of key.
-#[derive(Drop)]
 pub enum Facts {
     /// Of the copy of a kind and name in a namespace.
     Copy {
@@ -92,12 +101,62 @@ pub enum Facts {
     },
 }
 
+impl Drop for Facts {
+    fn drop(self) {
+        match self {
+            Facts::Copy {
+                ns: _,
+                is_open: _,
+                place: _,
+                mode: _,
+                sources: _,
+            } => {}
+            Facts::Tree {
+                ns: _,
+                is_open: _,
+                chain: _,
+            } => {}
+            Facts::Report {
+                is_calm: _,
+                hierarchy: _,
+                children: _,
+                conditions: _,
+            } => {}
+            Facts::Child {
+                is_open: _,
+                is_anchored: _,
+                is_excluded: _,
+                is_taken: _,
+            } => {}
+            Facts::Anchor {
+                is_live: _,
+                anchor: _,
+                status: _,
+            } => {}
+            Facts::Used {
+                is_live: _,
+                quota: _,
+                sums: _,
+            } => {}
+            Facts::Purge {
+                is_leaving: _,
+                least: _,
+            } => {}
+        }
+    }
+}
+
 /// A brief with several owners. Contracts see it as the brief itself.
 ///
 /// Whoever gave a brief out keeps it too, so that it knows what a plan was made from.
-#[derive(Drop)]
 pub struct SharedBrief {
     inner: Arc<Brief>,
+}
+
+impl Drop for SharedBrief {
+    fn drop(self) {
+        let SharedBrief { inner: _ } = self;
+    }
 }
 
 impl Model for SharedBrief {

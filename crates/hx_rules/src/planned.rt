@@ -9,10 +9,15 @@ use std::marker::Model;
 /// A brief with the write that its key wants: at most one, of an object without a version.
 ///
 /// Contracts see the two. The write is the wanted one of every valid state that the brief stands for.
-#[derive(Drop)]
 pub struct Plan {
     brief: SharedBrief,
     write: Option<Write>,
+}
+
+impl Drop for Plan {
+    fn drop(self) {
+        let Plan { brief: _, write: _ } = self;
+    }
 }
 
 impl Model for Plan {

@@ -21,12 +21,21 @@ use hx_ports::{Keeper, Sink};
 use std::alloc::Global;
 
 /// Answers lines. What reading and writing them takes is kept from one line to the next.
-#[derive(Drop)]
 pub struct Responder {
     alloc: Global,
     reader: RequestReader,
     /// The line of an answer while it is written. It is empty between two lines.
     line: String,
+}
+
+impl Drop for Responder {
+    fn drop(self) {
+        let Responder {
+            alloc: _,
+            reader: _,
+            line: _,
+        } = self;
+    }
 }
 
 impl Responder {

@@ -7,20 +7,32 @@ use hx_object::{List, NoMemory, Pairs, Text};
 use std::alloc::{AllocFailed, Global};
 
 /// What labels have to be: all the requirements hold. Without a requirement it always holds.
-#[derive(Clone, PartialEq, Eq, Drop)]
+#[derive(Clone, PartialEq, Eq)]
 pub struct Selector {
     pub needs: List<Requirement>,
 }
 
+impl Drop for Selector {
+    fn drop(self) {
+        let Selector { needs: _ } = self;
+    }
+}
+
 /// What the label of one key has to be.
-#[derive(Clone, PartialEq, Eq, Drop)]
+#[derive(Clone, PartialEq, Eq)]
 pub struct Requirement {
     pub key: Text,
     pub test: Test,
 }
 
+impl Drop for Requirement {
+    fn drop(self) {
+        let Requirement { key: _, test: _ } = self;
+    }
+}
+
 /// What is asked of a label.
-#[derive(Clone, PartialEq, Eq, Drop)]
+#[derive(Clone, PartialEq, Eq)]
 pub enum Test {
     /// It is there, whatever its value.
     There,
@@ -30,6 +42,17 @@ pub enum Test {
     In(List<Text>),
     /// It isn't there, or has none of the values. `!=` excludes one value.
     NotIn(List<Text>),
+}
+
+impl Drop for Test {
+    fn drop(self) {
+        match self {
+            Test::There => {}
+            Test::Absent => {}
+            Test::In(_) => {}
+            Test::NotIn(_) => {}
+        }
+    }
 }
 
 /// Why a text isn't read as a selector. A place is the number of bytes before it.

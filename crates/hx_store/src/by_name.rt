@@ -13,9 +13,14 @@ use std::hash::RandomState;
 /// The sources and the anchors among the objects, kind by kind in the order of their numbers.
 ///
 /// They lie in places like all objects, but the other way round: by name, and then by namespace. So those of one name are found in all namespaces at once.
-#[derive(Drop)]
 pub(crate) struct ByName {
     kinds: [Shelves; 14],
+}
+
+impl Drop for ByName {
+    fn drop(self) {
+        let ByName { kinds: _ } = self;
+    }
 }
 
 impl ByName {

@@ -9,12 +9,21 @@ use hx_object::{Id, Kind, NoMemory, Object, Shared};
 use std::marker::Model;
 
 /// A write, with the identity that it is of.
-#[derive(Drop)]
 pub struct Change {
     key: Id,
     object: Option<Shared>,
     /// The object once more, if it is a source or an anchor.
     entry: Option<Shared>,
+}
+
+impl Drop for Change {
+    fn drop(self) {
+        let Change {
+            key: _,
+            object: _,
+            entry: _,
+        } = self;
+    }
 }
 
 impl Model for Change {

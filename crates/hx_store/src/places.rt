@@ -17,9 +17,14 @@ const KINDS: usize = 14;
 const FIRST_NAMESPACED: usize = 2;
 
 /// The places of the objects of all kinds, kind by kind in the order of their numbers.
-#[derive(Drop)]
 pub(crate) struct Places {
     kinds: [Shelves; KINDS],
+}
+
+impl Drop for Places {
+    fn drop(self) {
+        let Places { kinds: _ } = self;
+    }
 }
 
 impl Places {

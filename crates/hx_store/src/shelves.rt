@@ -11,9 +11,14 @@ use std::alloc::Global;
 use std::hash::RandomState;
 
 /// The objects of one kind, by their namespaces. No board is without places.
-#[derive(Drop)]
 pub(crate) struct Shelves {
     shelves: TextMap<Board>,
+}
+
+impl Drop for Shelves {
+    fn drop(self) {
+        let Shelves { shelves: _ } = self;
+    }
 }
 
 impl Shelves {

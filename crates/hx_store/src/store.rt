@@ -19,13 +19,24 @@ use std::mem;
 /// Objects by kind, namespace and name, and the version of the last write.
 ///
 /// An object is found in constant time on average, and a list looks at nothing but what it gives. Sources, which copies are made of, and anchors lie by kind, name and namespace as well. Writes are staged, which makes room for them, and then made without taking memory.
-#[derive(Drop)]
 pub struct Store {
     places: Places,
     by_name: ByName,
     version: u64,
     staged: Vec<Change>,
     alloc: Global,
+}
+
+impl Drop for Store {
+    fn drop(self) {
+        let Store {
+            places: _,
+            by_name: _,
+            version: _,
+            staged: _,
+            alloc: _,
+        } = self;
+    }
 }
 
 impl Model for Store {

@@ -1,5 +1,5 @@
 // What a row's body reports, which a request's body doesn't.
-ghost use Rattle.std.specs.Prelude.{◌≡◌, true, IfOk};
+ghost use Rattle.std.specs.Prelude.{◌≡◌, true, IfOk, OnOk};
 ghost use Rattle.json.specs.Value.{value_view};
 ghost use Rattle.hx_object.specs.Canonical.{IsCanonical};
 ghost use Rattle.hx_object.specs.Faults.{IsLegal};
@@ -24,49 +24,31 @@ pub fn with_status(alloc: Global, object: Object, value: &Value<'_>) -> Result<O
     ensures object { IfOk result (λ x. x ≡ with_status (said value.now) object) }
     ensures legal { IfOk result (λ x. IsLegal x × IsKept x) }
 {
-    let Object {
-        id,
-        labels,
-        annotations,
-        payload,
-        version,
-    } = object;
-    Ok(Object {
-        id,
-        labels,
-        annotations,
-        payload: reported(alloc, payload, value)?,
-        version,
-    })
+    let mut object = object;
+    report(alloc, &mut object.payload, value)?;
+    Ok(object)
 }
 
-fn reported(alloc: Global, payload: Payload, value: &Value<'_>) -> Result<Payload, NoMemory>
+/// Sets what the body reports of a payload.
+fn report(alloc: Global, payload: &mut Payload, value: &Value<'_>) -> Result<(), NoMemory>
     requires { has_sorted_usages (value_view value.now) ≡ true }
-    ensures { IfOk result (λ p. p ≡ reported (said value.now) payload) }
+    ensures { OnOk result (payload.new ≡ reported (said value.now) payload.old) }
 {
     match payload {
-        Payload::Namespace { .. } => Ok(Payload::Namespace {
-            terminating: is_terminating(value),
-        }),
+        Payload::Namespace { terminating } => *terminating = is_terminating(value),
         Payload::Hierarchy {
-            parent,
-            cascade,
+            children,
+            conditions,
             ..
-        } => Ok(Payload::Hierarchy {
-            parent,
-            cascade,
-            children: children_said(alloc, value)?,
-            conditions: conditions_said(alloc, value)?,
-        }),
-        Payload::Anchor { .. } => Ok(Payload::Anchor {
-            status: anchor_status(value),
-        }),
-        Payload::Quota { hard, .. } => Ok(Payload::Quota {
-            hard,
-            status: usages_said(alloc, value)?,
-        }),
-        payload => Ok(payload),
+        } => {
+            *children = children_said(alloc, value)?;
+            *conditions = conditions_said(alloc, value)?;
+        }
+        Payload::Anchor { status } => *status = anchor_status(value),
+        Payload::Quota { status, .. } => *status = usages_said(alloc, value)?,
+        _ => {}
     }
+    Ok(())
 }
 
 /// Whether the phase is that of a namespace on its way out.

@@ -7,6 +7,6 @@ use Rattle.hx_admit.proofs.moves.goes_along.Goals as goal
 
 pub returns : goal.returns
 returns c =
-    subst (λ (b : Bool). IfOk c.goes_to-3.result (λ goes. goes ≡ b))
+    subst (λ (b : Bool). IfOk c.goes_to-2.result (λ goes. goes ≡ b))
     (unlooked c.args.mode c.args.source.now _ (prescribed_labels c.args.chain.now (labels_in c.args.store.now.objects c.args.name.now)) (sym c.looks_at_labels.ensures ∙ c.if-looks_at_labels.false))
-    c.goes_to-3.ensures
+    c.goes_to-2.ensures

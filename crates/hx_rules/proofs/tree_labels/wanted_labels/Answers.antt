@@ -8,7 +8,7 @@ returns-then-is_same-clause-write c = labels_stand c.args.chain.now c.args.names
 pub returns-clause-write : goal.returns-clause-write
 returns-clause-write c =
     let id = c.in_ok-clone.ensures.cases in
-    labels_differ c.args.chain.now c.args.namespace.now c.in_ok-clone.field-0 c.labels.inside.items.items c.in_ok-clone-2.field-0 c.in_ok-copy.field-0
+    labels_differ c.args.chain.now c.args.namespace.now c.in_ok-clone.field-0 c.in_ok-labels.labels c.in_ok-clone-2.field-0 c.in_ok-copy.field-0
     (λ i. record { kind = id.0 i; ns = id.1.0 i; name = id.1.1 i })
-    (c.labels.view_is ∙ c.in_ok-labels.ensures) c.in_ok-clone-2.ensures.cases c.in_ok-copy.ensures
-    (λ e. true≢false (sym (c.is_same.ensures.1 (sym c.labels.view_is ∙ e)) ∙ c.if-is_same.false))
+    c.in_ok-labels.ensures c.in_ok-clone-2.ensures.cases c.in_ok-copy.ensures
+    (λ e. true≢false (sym (c.is_same.ensures.1 e) ∙ c.if-is_same.false))

@@ -10,4 +10,4 @@ pub returns-clause-legal : goal.returns-clause-legal
 returns-clause-legal c =
     let x = c.args.object in
     let d = said c.args.value.now in
-    subst (λ (p : Payload). IsLegal (record x { payload = p }) × IsKept (record x { payload = p })) (sym c.in_ok-reported.ensures) (with_legal d x c.requires.canonical c.requires.legal, with_kept d x c.requires.given)
+    subst (λ (p : Payload). IsLegal (record x { payload = p }) × IsKept (record x { payload = p })) (sym c.in_ok-report.ensures) (with_legal d x c.requires.canonical c.requires.legal, with_kept d x c.requires.given)
