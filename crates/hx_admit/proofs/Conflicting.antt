@@ -2,7 +2,6 @@
 --     conflict_put     in its own place, or where it goes to sources of its kind and name
 --     conflict_alike   not there, where the source that it replaces went to the same labels
 --     reached_down     a place is reached from one of the namespaces above
---     unlabelled       a source without exceptions looks at no labels
 use Rattle.std.proofs.Common.{◌≡◌, ℕ, Bool, true, false, cond, not, ◌&&◌, ◌||◌, Option, Some, None, List, [], ◌∷◌, ◌⊎◌, filter, refl, sym, ap, ◌∙◌, subst, true≢false, eqb, eq-eqb, eqb-true, inl, inr}
 use Rattle.std.specs.Prelude.{is_some, is_none, option_and_then, Result, IfOk}
 use Rattle.hx_object.specs.declared.memory.NoMemory.{NoMemory}
@@ -10,7 +9,7 @@ use Rattle.std.specs.List.{list_any}
 use Rattle.std.specs.Option.{option_map_or, MatchOption}
 use Rattle.std.specs.Str.{bytes_eq}
 use Rattle.std.proofs.lemmas.Map.Entries.{option_filter}
-use Rattle.std.proofs.lemmas.Bool.{and_parts, and_from, and_left, and_right, or_parts, or_cases, or_left, or_right, not-true, not_from_false, false_from_ne_true}
+use Rattle.std.proofs.lemmas.Bool.{and_parts, and_from, and_left, and_right, or_cases, or_left, or_right, not-true, not_from_false, false_from_ne_true}
 use Rattle.hx_object.specs.Kinds.{number_of, can_be_copied}
 use Rattle.hx_object.specs.declared.kind.Kind.{Kind}
 use Rattle.hx_object.specs.declared.object.Id.{Id}
@@ -385,19 +384,6 @@ unreached s ns kind name mode is out = sym (no_name (goes_down s mode ns kind na
     by : (found : Option Object) → goes_from mode (labels_at s ns) found ≡ false
     by None = refl
     by (Some x) = unpropagated mode x (labels_at s ns) out
-
--- a source without such exceptions looks at no labels
-pub unlabelled : (mode : Mode) (x : Object) (labels : List (List ℕ × List ℕ)) → (is_some (select_of x) || is_some (tree_select_in x)) ≡ false → goes_to mode x [] ≡ goes_to mode x labels
-unlabelled mode x labels out =
-    let none = or_parts (is_some (select_of x)) (is_some (tree_select_in x)) out in
-    ap (λ b. is_propagated mode && (is_source x && (not (stays_home x) && b))) (by (select_of x) (tree_select_in x) none.0 none.1)
-  where
-    by : (select tree : Option (List ℕ)) → is_some select ≡ false → is_some tree ≡ false
-        → (passes (λ text. select_allows [] (selector_of text)) select && (passes (λ text. tree_select_allows [] (tree_select_of text)) tree && passes is_false (none_of x)))
-        ≡ (passes (λ text. select_allows labels (selector_of text)) select && (passes (λ text. tree_select_allows labels (tree_select_of text)) tree && passes is_false (none_of x)))
-    by None None e f = refl
-    by (Some t) tree e f = absurd (true≢false e)
-    by None (Some t) e f = absurd (true≢false f)
 
 -- ---- what is there
 

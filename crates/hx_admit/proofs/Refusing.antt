@@ -7,7 +7,7 @@
 --     replace_two                      its version and its rules, by what was checked
 --     replace_unchanged, replace_grown     one that changes nothing, and one that does
 --     bytes_stay                       namespaces that begin to leave and objects that go add no bytes
---     delete_ruled, delete_rest        a DELETE against a rule, and what is left
+--     delete_rest                      what is left of a DELETE
 use Rattle.std.proofs.Common.{◌≡◌, cond, filter, map, ◌<◌, ◌≤◌, ◌+◌, ◌-◌, ℕ, Bool, true, false, not, ◌&&◌, nat_lt, nat_le, List, [], ◌∷◌, None, Some, Option, IfSome, refl, sym, ap, subst, ◌∙◌, arith, le-ltb, option_map}
 use Rattle.std.specs.Prelude.{Result, is_none, if◌then◌else◌}
 use Rattle.std.specs.Cmp.{both_ways}
@@ -297,10 +297,6 @@ delete_found s id old skip valid there =
     ∙ ap (λ b. or_else (rule_refusal s (Delete id skip)) (first (so b (of.Broken L3) ∷ so (is_some_write (deleting s id skip) && nat_le greatest_version s.last) (of.Broken L4) ∷ [])))
     (unexceeded (bytes_in s.objects) (bytes_in (after_writes (deleting s id skip) s.objects)) (bytes_stay (deleting s id skip) s.objects (adds_nothing s id skip) valid.in_order))
     ∙ ap (or_else (rule_refusal s (Delete id skip))) (alone (so (is_some_write (deleting s id skip) && nat_le greatest_version s.last) (of.Broken L4)))
-
--- a rule is broken
-pub delete_ruled : (s : State) (id : Id) (old : Object) (skip : Bool) (refusal : Refusal) → IsValid s → object_at s.objects id ≡ Some old → rule_refusal s (Delete id skip) ≡ Some refusal → refusal_of s (Delete id skip) ≡ Some refusal
-delete_ruled s id old skip refusal valid there ruled = delete_found s id old skip valid there ∙ ap (λ o. or_else o (so (is_some_write (deleting s id skip) && nat_le greatest_version s.last) (of.Broken L4))) ruled
 
 -- what is left where none is, as it was checked
 pub delete_rest : {A : Type 0} (s : State) (id : Id) (old : Object) (skip : Bool) (writes : List Write) (result : Result A Denial) (found : Option Denial) → IsDeletion s id old skip writes

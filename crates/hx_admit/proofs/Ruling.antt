@@ -1,7 +1,6 @@
 -- What the rules on HierarchyConfigurations find.
 --     moves_there      where the parent changes, the namespace is there
 --     moves_apart      and unless a cycle is closed, the chain of its new parent doesn't have it
---     unbroken         a rule that denies nothing isn't broken
 --     other_rules      the rules on objects of kinds that have none of their own
 use Rattle.std.specs.Prelude.{is_some, option_and_then, IfSome, if◌then◌else◌}
 use Rattle.std.specs.Str.{bytes_eq}
@@ -10,14 +9,13 @@ use Rattle.std.proofs.lemmas.Bool.{not-true}
 use Rattle.hx_object.specs.declared.kind.Kind.{Kind}
 use Rattle.hx_object.specs.declared.kind.Kind.TheVariants.{Namespace, HncConfiguration, HierarchyConfiguration, SubnamespaceAnchor, HierarchicalResourceQuota}
 use Rattle.hx_object.specs.declared.object.Object.{Object}
-use Rattle.hx_model.specs.Cases.{Case, breaks, any_of, same_name}
+use Rattle.hx_model.specs.Cases.{Case, any_of, same_name}
 use Rattle.hx_model.specs.First.{so, or_else, first}
 use Rattle.hx_model.specs.Forest.{is_there, parent_of, in_chain}
 use Rattle.hx_model.specs.RulesCopies.{source_rules}
 use Rattle.hx_model.specs.RulesHierarchy.{changes_parent, parent_after, closes_cycle}
 use Rattle.hx_model.specs.Rules.{kind_rules}
 use Rattle.hx_model.specs.Tree.{hierarchy, subnamespace_parent, named_parent, parent_with}
-use Rattle.hx_model.specs.declared.rule.Rule.{Rule}
 use Rattle.hx_model.proofs.Climbing.{is_same, same_itself}
 use Rattle.hx_model.proofs.Walking.{same_flips, no_parent}
 use Rattle.hx_admit.specs.Ruling.{IsAtHome}
@@ -63,11 +61,6 @@ moves_apart c at_home open_chain moves = named (bytes_eq c.id.name hierarchy) re
         → IfSome (if b then option_and_then (parent_with c.new) c.home else parent_of c.tree c.id.ns) (λ p. in_chain c.tree p c.id.ns ≡ false)
     named true e differ = found c.home (at_home.parent (is_same c.id.name hierarchy e)) differ
     named false e differ = no_change (parent_of c.tree c.id.ns) differ
-
--- a rule that denies nothing isn't broken
-pub unbroken : (rule : Rule) (test : Bool) → breaks rule test ≡ None → test ≡ false
-unbroken rule true e = absurd (let h = e in cc)
-unbroken rule false e = refl
 
 -- the rules on objects of kinds that have none of their own
 pub other_rules : (kind : Kind) (c : Case) → kind ≢ Namespace → kind ≢ HncConfiguration → kind ≢ HierarchyConfiguration → kind ≢ SubnamespaceAnchor → kind ≢ HierarchicalResourceQuota → first (source_rules c) ≡ first (kind_rules kind c)

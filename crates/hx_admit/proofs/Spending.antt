@@ -2,9 +2,8 @@
 --     unrefused       no quota refuses a write that raises no charge and brings no Pod that asks for something else
 --     used_seen       what is used is the sum over all objects of the subtree
 --     over_sides      a sum passes a limit where it did before, or where the rest is too small for the rise
-use Rattle.std.proofs.Common.{◌≡◌, ◌≤◌, ◌+◌, ◌-◌, ℕ, Bool, true, false, ◌&&◌, ◌||◌, nat_lt, List, [], ◌∷◌, None, Some, Option, refl, ap, ◌∙◌, inl, inr, ◌⊎◌, sum_by, arith, true≢false}
-use Rattle.std.specs.Cmp.{both_ways}
-use Rattle.std.proofs.lemmas.Bool.{ltb-true, ltb-false, lt-ltb, le-ltb}
+use Rattle.std.proofs.Common.{◌≡◌, ◌+◌, ◌-◌, ℕ, Bool, true, false, ◌&&◌, ◌||◌, nat_lt, List, [], ◌∷◌, None, Some, Option, refl, ap, ◌∙◌, inl, inr, ◌⊎◌, sum_by, arith, true≢false}
+use Rattle.std.proofs.lemmas.Bool.{ltb-true, lt-ltb, le-ltb}
 use Rattle.hx_object.specs.declared.object.Limit.{Limit}
 use Rattle.hx_object.specs.declared.object.Object.{Object}
 use Rattle.hx_model.specs.Charges.{hard_of, resource_named, charge_of}
@@ -77,9 +76,3 @@ used_seen config objects last s nodes a r same planted =
 -- it did before
 pub over_before : (limit sum rise : ℕ) → nat_lt limit sum ≡ true → nat_lt limit (sum + rise) ≡ true
 over_before limit sum rise e = lt-ltb limit (sum + rise) (omega (arith, ltb-true limit sum e))
-
--- or the rest is too small
-pub over_rest : (limit sum rise : ℕ) → nat_lt limit sum ≡ false → nat_lt (limit - sum) rise ≡ nat_lt limit (sum + rise)
-over_rest limit sum rise e =
-    let fits : sum ≤ limit = ltb-false limit sum e in
-    both_ways (nat_lt (limit - sum) rise) (nat_lt limit (sum + rise)) (λ h. lt-ltb limit (sum + rise) (omega (arith, fits, ltb-true (limit - sum) rise h))) (λ h. lt-ltb (limit - sum) rise (omega (arith, fits, ltb-true limit (sum + rise) h)))

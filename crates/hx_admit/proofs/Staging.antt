@@ -1,6 +1,6 @@
 -- The writes of one version, made one after the other.
 --     same_change               the change of the tree by a write is as it was before all of them
---     plan_none, plan_step      the numbers, and the changes of the tree and of the owners, of no writes, and of the next of all
+--     plan_step                 the numbers, and the changes of the tree and of the owners, of the next of all
 --     plan_small, plan_part, plan_named      the sizes, the numbers and the names of what it looks at
 --     may_make_all              the writes of one commit may be planned together
 --     alone_distinct, alone_apart, alone_naming      one write by itself touches no other, and changes at most one name
@@ -46,7 +46,7 @@ use Rattle.hx_admit.specs.Planning.{IsPlan, LeadTo, MayMake, MayMakeAll, plantin
 use Rattle.hx_admit.specs.StateView.{Agrees, IsIndexed, state_in}
 use Rattle.hx_admit.specs.declared.limits.LimitCounts.{LimitCounts}
 use Rattle.hx_admit.proofs.Apart.{DontTouch, after_writes-append, all_map, may_at, found_own, found_home, found_config}
-use Rattle.hx_admit.proofs.Counting.{all_served, counted, stored_found, valid_agrees, small_legal, is_part}
+use Rattle.hx_admit.proofs.Counting.{counted, stored_found, valid_agrees, small_legal, is_part}
 use Rattle.hx_admit.proofs.NameCounts.{names_by, names_at, name_fits}
 use Rattle.hx_admit.proofs.Owners.{owned}
 use Rattle.hx_admit.proofs.Planting.{IsPlanted, planted}
@@ -90,16 +90,6 @@ served_then s (Cut id) objects may all = All-cut IsServed id objects all
 ordered : (w : Write) (objects : Objects) → ascends objects ≡ true → ascends (after_writes (w ∷ []) objects) ≡ true
 ordered (Put x) objects up = ascends-put x objects up
 ordered (Cut id) objects up = ascends-cut id objects up
-
--- nothing is written yet
-pub plan_none : (s : State) (counts : LimitCounts) (nodes owners : Forest) → Agrees s.config s.objects s.last counts nodes owners → IsPlan s [] counts [] []
-plan_none s counts nodes owners agrees = record {
-  in_order = agrees.in_order;
-  served = all_served s.last s.objects agrees.stored;
-  numbers = agrees.numbers;
-  planted = record { may = tt; gives = refl };
-  owned = record { may = tt; gives = refl };
-}
 
 may_make : (s : State) (done : List Write) (w : Write) → MayMake s w → AllByRecursion (λ d. DontTouch (id_of d) (id_of w)) done → MayMake (during s done) w
 may_make s done (Put x) may apart = (may.0, λ is. subst (λ (o : Option Object). IfSome o (λ old. KeepsItsPlace old x)) (sym (found_own done s.objects x.id apart)) (may.1 is))

@@ -5,7 +5,6 @@
 --     asks_passed        an answer without writes
 --     asks_landed        an answer whose writes landed
 --     asks_lost          an ask whose writes were lost
---     idle_written       an ask that makes a write would change something
 use Rattle.std.proofs.Common.{◌≡◌, ◌≢◌, Bool, true, false, List, [], ◌∷◌, None, Some, Option, refl, sym, ap, subst, ◌∙◌, inl, inr}
 use Rattle.std.specs.Prelude.{◌⊎◌, ◌||◌}
 use Rattle.std.specs.List.{AllByRecursion}
@@ -139,7 +138,3 @@ asks_lost old new ask ws answer CommitKeeperFault refusal stood passes some memo
     subst (λ r. Simulates old (request_entry ask (Refusing r) ∷ []) new) (sym (store refl)) (asks_failed old new ask ws answer stood passes some (failed refl) same)
 asks_lost old new ask ws answer CommitNoMemory refusal stood passes some memory failed same store room =
     subst (λ r. Simulates old (request_entry ask (Refusing r) ∷ []) new) (sym (room refl)) (subst (λ c. Simulates old (LostRequest ask NoMemory ∷ []) c) (sym (memory refl)) (asks_nothing old ask stood))
-
--- an ask that makes writes isn't idle
-pub idle_written : (A : Type 0) (s : State) (ask : Ask) (ws : List Write) (answer : Answer) → Passes s ask ws answer → ws ≢ [] → (Mutates s ask → ⊥) → A
-idle_written A s ask ws answer passes some idle = absurd (idle (changing s ask ws answer passes some))

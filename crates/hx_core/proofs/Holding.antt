@@ -1,5 +1,4 @@
 -- Hands among hands.
---     hand_worker          the hand that a worker has is that worker's
 --     held_new, held_old   one hand more: it is found, and so are the others
 --     gone, stays          without a worker's hand: it has none, and the others have theirs
 --     held_by, holds_key   who has a hand of a key holds the key
@@ -21,15 +20,6 @@ no_found h e = absurd (true≢false (ap is_some e))
 
 one_hand : (a b : Hand) → Some a ≡ Some b → a ≡ b
 one_hand a b e = cc
-
--- the hand that a worker has is that worker's
-pub hand_worker : (worker : ℕ) (hands : List Hand) (h : Hand) → hand_of worker hands ≡ Some h → h.worker ≡ worker
-hand_worker worker [] h e = no_hand h e
-hand_worker worker (x ∷ hands) h e =
-    elim (x.worker == worker) as (λ b. (x.worker == worker) ≡ b → cond b (Some x) (hand_of worker hands) ≡ Some h → h.worker ≡ worker) [
-      | true ↦ λ same found. ap (λ (y : Hand). y.worker) (sym (one_hand x h found)) ∙ eqb-true x.worker worker same
-      | false ↦ λ other found. hand_worker worker hands h found
-    ] refl e
 
 -- ---- one hand more
 

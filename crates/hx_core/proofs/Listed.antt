@@ -1,11 +1,8 @@
 -- The objects of all kinds, one kind after the other, are all objects.
 --     split          those from a number on are those of the number, and those from the next one on
---     more_kinds, whole_kinds     the objects of some kinds
 --     all_listed
 use Rattle.std.proofs.Common.{◌≡◌, ◌≤◌, ◌<◌, ◌+◌, ℕ, Bool, true, false, cond, ◌&&◌, ◌==◌, List, [], ◌∷◌, ◌++◌, filter, None, refl, sym, ap, ◌∙◌, arith, true≢false, inl, inr}
-use Rattle.std.specs.Prelude.{nat_le, length, take, slice_index_or}
-use Rattle.std.proofs.lemmas.Grind.{flat_map-append}
-use Rattle.std.proofs.lemmas.List.{take_more, take_all, append-nil}
+use Rattle.std.specs.Prelude.{nat_le}
 use Rattle.std.specs.List.{AllByRecursion}
 use Rattle.std.specs.Ordering.{is_lt, ordering_then}
 use Rattle.std.specs.declared.cmp.Ordering.TheVariants.{Greater}
@@ -81,14 +78,6 @@ split kind (x ∷ xs) up =
     split_by kind x xs (nat_le (number_of kind) (number_of x.id.kind)) (number_of kind == number_of x.id.kind) (nat_le (number_of kind + 1) (number_of x.id.kind)) refl refl refl (each_above x.id xs parts.0) (split kind xs parts.1)
 
 -- ---- one kind after the other
-
-pub more_kinds : (objects : Objects) (kinds : List Kind) (index : ℕ) (kind : Kind) → index < length kinds → kind ≡ slice_index_or kinds index kind → of_kinds objects (take (index + 1) kinds) ≡ of_kinds objects (take index kinds) ++ filter (is_listed kind None) objects
-more_kinds objects kinds index kind less at =
-    ap (of_kinds objects) (take_more kinds index kind less ∙ ap (λ k. take index kinds ++ k ∷ []) (sym at))
-    ∙ (flat_map-append (λ k. filter (is_listed k None) objects) (take index kinds) (kind ∷ []) ∙ ap (λ ys. of_kinds objects (take index kinds) ++ ys) (append-nil (filter (is_listed kind None) objects)))
-
-pub whole_kinds : (objects found : Objects) (kinds : List Kind) (index : ℕ) → found ≡ of_kinds objects (take index kinds) → length kinds ≤ index → found ≡ of_kinds objects kinds
-whole_kinds objects found kinds index is all = is ∙ ap (of_kinds objects) (take_all index kinds all)
 
 -- ---- all kinds
 

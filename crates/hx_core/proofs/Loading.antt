@@ -78,15 +78,6 @@ takeable s row key body x o same_key same_body is_of given known says = by (has_
         let nobody : (y : Object) → IsTakeable s row y → ⊥ = λ y takes. true≢false (sym takes.home ∙ ap (λ (q : Id). has_home s.objects q) (same_row_id s row x y takes stored is.is) ∙ home) in
         subst (λ p. IfSome p (IsTakeable s row) × IfNone p ((y : Object) → IsTakeable s row y → ⊥)) (sym none) (tt, nobody)
 
--- nobody may take a row whose version wasn't given out
-pub untakeable_version : (s : State) (row : Row) → (1 ≤ row.version → row.version ≤ s.last → ⊥) → (x : Object) → IsTakeable s row x → ⊥
-untakeable_version s row out x takes =
-    let same : x.version ≡ row.version = ap (λ (e : Entry). e.1.0) takes.entry in
-    out (omega (arith, same, takes.stored.given)) (omega (arith, same, takes.stored.known))
-
-pub untakeable_row : (s : State) (row : Row) (key body : List ℕ) → key ≡ row.key → body ≡ row.body → ((x : Object) → IsRowOf key row.version body x → ⊥) → (x : Object) → IsTakeable s row x → ⊥
-untakeable_row s row key body same_key same_body none x takes = none x (record { served = takes.stored.served; text = subst IsUtf8 (sym same_body) takes.text; is = takes.entry ∙ (λ i. (sym same_key i, (row.version, sym same_body i))) })
-
 -- an object whose key lies behind those of all others is not there yet
 pub is_new : (key : List ℕ) (x : Object) (objects : Objects) → IsBehindAll key objects → is_lt (bytes_cmp key (key_text x.id)) ≡ true → object_at objects x.id ≡ None
 is_new key x objects last behind = by (object_at objects x.id) refl

@@ -1,5 +1,4 @@
 -- What a keeper holds once writes are committed.
---     puts_legal      an object that is put is legal
 --     is_batch        the batch of the writes of a commit is one
 --     may_follow      it may be put to a keeper of the state
 --     landed_held     what is held after it
@@ -33,15 +32,9 @@ use Rattle.hx_model.proofs.Storing.{All-found, All-put, All-cut, HasNoSlash, IsK
 use Rattle.hx_model.proofs.Writes.{key_apart}
 use Rattle.hx_core.specs.Committing.{IsPrepared}
 use Rattle.hx_core.specs.Refinement.{kept_of}
-use Rattle.hx_core.specs.Rows.{rows_put, keys_cut, batch_of, IsLegalWrite, IsRowOfTexts, IsOfTexts}
+use Rattle.hx_core.specs.Rows.{rows_put, keys_cut, batch_of, IsRowOfTexts, IsOfTexts}
 
 -- ---- legal objects
-
--- an object that is put is legal
-pub puts_legal : (s : State) (ws : List Write) → AllByRecursion (MayWrite s) ws → AllByRecursion IsLegalWrite ws
-puts_legal s [] may = tt
-puts_legal s (Put x ∷ ws) may = (may.0.served.legal, puts_legal s ws may.1)
-puts_legal s (Cut id ∷ ws) may = (tt, puts_legal s ws may.1)
 
 -- the namespace of each identity that is written has no slash
 abbrev pub IsKeyedWrite : Write → Type 0

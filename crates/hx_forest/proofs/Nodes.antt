@@ -219,10 +219,6 @@ forest-changed new old n change node there is =
     at q true same = sym (ap (option_map change) (ap (λ (m : List ℕ). lookup (bytes_eq m) old) (sym (is_same n q same)) ∙ there))
     at q false out = refl
 
--- a namespace of the forest is among the entries
-pub among_entries : (f : Forest) (es : List (List ℕ × Node)) (n : List ℕ) → forest_from es ≡ f → is_there f n ≡ true → lookup (bytes_eq n) es ≡ None → ⊥
-among_entries f es n same there none = true≢false (sym there ∙ ap (λ (g : Forest). is_there g n) (sym same) ∙ ap is_some (node_of-forest es n ∙ none))
-
 -- ---- as many nodes as entries
 
 length-with_node : (n : List ℕ) (node : Node) (f : Forest) → node_of f n ≡ None → length (with_node n node f) ≡ length f + 1

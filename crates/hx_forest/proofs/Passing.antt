@@ -1,5 +1,5 @@
 -- The names that a walk up passes.
---     names_none, names_missing, names_on      one step of the walk
+--     names_none                               a walk from nowhere
 --     names_chain                              as many steps as the chain is long pass the chain
 use Rattle.std.proofs.Common.{◌≡◌, ℕ, zero, suc, ◌+◌, ◌-◌, ◌<◌, false, cond, not, Option, Some, None, List, [], ◌∷◌, ◌++◌, length, is_some, refl, sym, ap, ◌∙◌, arith, length-append, append_assoc, append-nil}
 use Rattle.std.specs.Prelude.{option_and_then}
@@ -13,17 +13,6 @@ use Rattle.hx_forest.specs.Inside.{walk_names}
 pub names_none : (left : ℕ) (f : Forest) → walk_names left f None ≡ []
 names_none zero f = refl
 names_none (suc left) f = refl
-
-pub names_missing : (left : ℕ) (f : Forest) (n : List ℕ) → is_there f n ≡ false → walk_names left f (Some n) ≡ []
-names_missing zero f n out = refl
-names_missing (suc left) f n out = ap (λ b. cond b (n ∷ walk_names left f (parent_of f n)) []) out
-
-pub names_on : (left : ℕ) (f : Forest) (n : List ℕ) (node : Node) → 0 < left → node_of f n ≡ Some node → walk_names left f (Some n) ≡ n ∷ walk_names (left - 1) f node.parent
-names_on zero f n node pos found = let no : ⊥ = omega arith in absurd no
-names_on (suc left) f n node pos found =
-    let same : left ≡ suc left - 1 = omega arith in
-    (λ i. cond (is_some (found i)) (n ∷ walk_names left f (option_and_then (λ node. node.parent) (found i))) [])
-    ∙ ap (λ k. n ∷ walk_names k f node.parent) same
 
 climbs_names : (f : Forest) (built : List (List ℕ)) (next : Option (List ℕ)) (all : List (List ℕ)) → Climbs f built next all → (k : ℕ) → length all ≡ length built + k → all ≡ built ++ walk_names k f next
 climbs_names f built None all at_top k long = sym (ap (λ xs. built ++ xs) (names_none k f) ∙ append-nil built)

@@ -113,16 +113,6 @@ count_chain f n = count_all (length f) f n (few f (chain_of f n) (chain_there f 
 
 -- ---- one step, for a loop that counts down
 
-pub count_missing : (left : ℕ) (f : Forest) (n : List ℕ) → node_of f n ≡ None → chain_count left f n ≡ 0
-count_missing zero f n none = refl
-count_missing (suc left) f n none = ap (λ (o : Option Node). cond (is_some o) (option_map_or (λ p. option_map_or (λ k. k + 1) (walk_to (length f) f (Some p) n) (1 + chain_count left f p)) (option_and_then (λ node. node.parent) o) 1) 0) none
-
-pub count_top : (left : ℕ) (f : Forest) (n : List ℕ) (node : Node) → 0 < left → node_of f n ≡ Some node → node.parent ≡ None → chain_count left f n ≡ 1
-count_top zero f n node some found none = let never : ⊥ = omega arith in absurd never
-count_top (suc left) f n node some found none =
-    ap (λ (o : Option Node). cond (is_some o) (option_map_or (λ p. option_map_or (λ k. k + 1) (walk_to (length f) f (Some p) n) (1 + chain_count left f p)) (option_and_then (λ node. node.parent) o) 1) 0) found
-    ∙ ap (λ (o : Option (List ℕ)). option_map_or (λ p. option_map_or (λ k. k + 1) (walk_to (length f) f (Some p) n) (1 + chain_count left f p)) o 1) none
-
 pub count_on : (left : ℕ) (f : Forest) (n p : List ℕ) (node : Node) → 0 < left → node_of f n ≡ Some node → node.parent ≡ Some p → chain_count left f n ≡ option_map_or (λ k. k + 1) (walk_to (length f) f (Some p) n) (1 + chain_count (left - 1) f p)
 count_on zero f n p node some found is = let never : ⊥ = omega arith in absurd never
 count_on (suc left) f n p node some found is =

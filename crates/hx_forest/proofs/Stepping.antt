@@ -89,8 +89,3 @@ halts_on (suc left) f next node has pos is =
     further a b None = refl
     further true b (Some c) = refl
     further false b (Some c) = refl
-
--- where nothing is passed yet
-pub halts_start : (more : Option Bool) → halts_with false more ≡ more
-halts_start None = refl
-halts_start (Some b) = refl

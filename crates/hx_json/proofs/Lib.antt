@@ -14,7 +14,6 @@ pub mod Escapes
 pub mod Steps
 pub mod Pushes
 pub mod Spliced
-pub mod Ordered
 mod WrittenExamples
 pub mod InOrder
 pub mod Payloads

@@ -19,7 +19,7 @@ use Rattle.hx_object.specs.declared.object.Object.{Object}
 use Rattle.hx_json.specs.Inside.{AreAlike, IsFaultIn, Says}
 use Rattle.hx_json.specs.Reading.{Target, fault_of, kept_members, without}
 use Rattle.hx_json.specs.ReadObject.{IsFaultOf, IsReadOf, IsWhole}
-use Rattle.hx_json.specs.Trees.{data_of, is_tame, is_ordered, is_sorted, is_sorted_in, is_sorted_inside, has_sorted_pairs, has_sorted_metadata, keeps_order_for, tree_of}
+use Rattle.hx_json.specs.Trees.{data_of, is_tame, is_ordered, is_sorted, is_sorted_in, is_sorted_inside, has_sorted_pairs, tree_of}
 use Rattle.hx_json.specs.declared.fault.JsonFault.{JsonFault}
 use Rattle.hx_json.specs.declared.fault.JsonFault.TheVariants.{NotJson, NotWhole, WrongKind, MissingMember, WrongType, BadQuantity, WrongPlace, Object as ObjectFaultOf, NoMemory}
 use Rattle.hx_json.proofs.Canonical.{read-canonical}
@@ -32,25 +32,9 @@ use Rattle.hx_json.proofs.Trees.{read_tame, whole_data}
 pub tame : (kind : Kind) (j : Json) → is_ordered kind j ≡ true → is_tame j ≡ true
 tame kind j h = (and_parts (is_tame j) _ h).0
 
-pub sorted_metadata : (kind : Kind) (j : Json) → is_ordered kind j ≡ true → has_sorted_metadata j ≡ true
-sorted_metadata kind j h = (and_parts (has_sorted_metadata j) _ (and_parts (is_tame j) _ h).1).0
-
-pub ordered_kept : (kind : Kind) (j : Json) → is_ordered kind j ≡ true → keeps_order_for kind j ≡ true
-ordered_kept kind j h = (and_parts (has_sorted_metadata j) _ (and_parts (is_tame j) _ h).1).1
-
 labels_in : (o : Option Json) → unwrap_or (option_map has_sorted_pairs o) true ≡ true → unwrap_or (option_map (is_sorted_in (codes "labels")) o) true ≡ true
 labels_in None h = refl
 labels_in (Some j) h = (and_parts (is_sorted_in (codes "labels") j) _ h).0
-
-annotations_in : (o : Option Json) → unwrap_or (option_map has_sorted_pairs o) true ≡ true → unwrap_or (option_map (is_sorted_in (codes "annotations")) o) true ≡ true
-annotations_in None h = refl
-annotations_in (Some j) h = (and_parts (is_sorted_in (codes "labels") j) _ h).1
-
-pub sorted_labels : (kind : Kind) (j : Json) → is_ordered kind j ≡ true → is_sorted_inside (codes "labels") j ≡ true
-sorted_labels kind j h = labels_in (find.get (codes "metadata") j) (sorted_metadata kind j h)
-
-pub sorted_annotations : (kind : Kind) (j : Json) → is_ordered kind j ≡ true → is_sorted_inside (codes "annotations") j ≡ true
-sorted_annotations kind j h = annotations_in (find.get (codes "metadata") j) (sorted_metadata kind j h)
 
 -- ---- the value of an ordered tree
 

@@ -1,5 +1,5 @@
 -- Limits of quotas.
---     amount_laid, written_laid    what is read of a value as it stands
+--     amount_laid          what is read of a value as it stands
 --     quota_payload        what a canonical body without fault says of a quota is a quota's payload
 --     quota_sound          a quota without fault has quantities as its limits
 --     quantities_back      so has one whose payload is a quota's
@@ -43,14 +43,6 @@ amount_laid (json.number text) = refl
 amount_laid (json.string text) = refl
 amount_laid (json.array js) = refl
 amount_laid (json.object ms) = refl
-
-pub written_laid : (j : Json) → written_in (laid_out j) ≡ written_in (data_of j)
-written_laid json.null = refl
-written_laid (json.boolean b) = refl
-written_laid (json.number text) = refl
-written_laid (json.string text) = refl
-written_laid (json.array js) = refl
-written_laid (json.object ms) = refl
 
 -- a member that is null has no members either
 pub no_null : (o : Option Data) → members_in (unless_null o) ≡ members_in o

@@ -12,7 +12,7 @@ use Rattle.serde_json.specs.Written.{has_float, items_have_float, members_have_f
 use Rattle.serde_json.proofs.Views.{get_member-put, get_member-put_other}
 use Rattle.hx_json.proofs.NoFloat.{none_of, no_float_put}
 use Rattle.hx_json.specs.Trees as tree
-use Rattle.hx_json.specs.Trees.{unless_float, whole_in, whole_or_zero, is_tame, items_are_tame, members_are_tame, data_of, items_of, members_onto, tree_of}
+use Rattle.hx_json.specs.Trees.{unless_float, is_tame, items_are_tame, members_are_tame, data_of, items_of, members_onto, tree_of}
 
 -- ---- tame trees are values
 
@@ -111,6 +111,3 @@ get_of name (json.object ms) = get_onto name ms no_members ∙ or_none _
 
 pub read_tame : (text : List ℕ) (j : Json) → tree_of text ≡ Some j → is_tame j ≡ true → read text ≡ Some (data_of j)
 read_tame text j is h = ap (option_and_then of_json) is ∙ of_tame j h
-
-pub read_none : (text : List ℕ) → tree_of text ≡ None → read text ≡ None
-read_none text is = ap (option_and_then of_json) is

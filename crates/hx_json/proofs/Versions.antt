@@ -1,11 +1,9 @@
 -- The number that digits make, and its bounds.
-use Rattle.std.proofs.Common.{◌≡◌, ℕ, zero, suc, ◌+◌, ◌*◌, ◌-◌, ◌^◌, ◌<◌, ◌≤◌, List, Bool, true, false, length, take, get_or, refl, sym, subst, ◌∙◌, add-one, zero-add, suc-add, arith, true≢false}
+use Rattle.std.proofs.Common.{◌≡◌, ℕ, zero, suc, ◌+◌, ◌*◌, ◌-◌, ◌^◌, ◌<◌, ◌≤◌, List, Bool, true, false, length, get_or, refl, sym, subst, ◌∙◌, zero-add, suc-add, arith, true≢false}
 use Rattle.std.specs.List.{list_all}
 use Rattle.std.proofs.Math.Nat.{pow-suc, le_refl}
 use Rattle.std.proofs.lemmas.List.Folds.{list_all_at}
-use Rattle.std.proofs.lemmas.List.Sums.{fold_more}
 use Rattle.hx_object.specs.Names.{is_digit}
-use Rattle.hx_json.specs.Reading.{number_in}
 
 grows : (i k : ℕ) → 10 ^ i ≤ 10 ^ (k + i)
 grows i zero = rw (zero-add i) (le_refl (10 ^ i))
@@ -19,15 +17,9 @@ pub digit_fits : (n i length : ℕ) → n < 10 ^ i → i < length → length ≤
 digit_fits n i length h within short =
     let top : 10 ^ i ≤ 10 ^ 18 = most i (omega arith) in omega arith
 
-pub below_next : (n i d : ℕ) → n < 10 ^ i → d ≤ 9 → n * 10 + d < 10 ^ (i + 1)
-below_next n i d h k = rw (add-one i) (omega (arith, pow-suc 10 i))
-
 pub digit_at : (xs : List ℕ) (i : ℕ) → list_all is_digit xs ≡ true → i < length xs → is_digit (get_or xs i 0) ≡ true
 digit_at xs i h within = by (is_digit (get_or xs i 0)) refl
   where
     by : (v : Bool) → is_digit (get_or xs i 0) ≡ v → v ≡ true
     by true e = refl
     by false e = absurd (true≢false (sym h ∙ list_all_at is_digit xs i 0 within e))
-
-pub number_more : (xs : List ℕ) (i : ℕ) → i < length xs → number_in (take (i + 1) xs) ≡ number_in (take i xs) * 10 + (get_or xs i 0 - 48)
-number_more xs i within = fold_more (λ n byte. n * 10 + (byte - 48)) 0 xs i 0 within

@@ -177,7 +177,3 @@ one_end f built (Some n) xs ys (stopped stops) (stopped _) = refl
 one_end f built (Some n) xs ys (stopped stops) (onward goes _) = absurd (true≢false (sym goes ∙ stops))
 one_end f built (Some n) xs ys (onward goes _) (stopped stops) = absurd (true≢false (sym goes ∙ stops))
 one_end f built (Some n) xs ys (onward goes left) (onward _ right) = one_end f (built ++ n ∷ []) (parent_of f n) xs ys left right
-
--- with enough left to go it doesn't matter how much
-pub enough_is_enough : (f : Forest) (left : ℕ) (n : List ℕ) → length f ≤ left → climb left f [] (Some n) ≡ chain_of f n
-enough_is_enough f left n enough = one_end f [] (Some n) _ _ (climb-Climbs left f [] (Some n) (none_there f) (omega arith)) (chain-Climbs f n)

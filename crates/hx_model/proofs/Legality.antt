@@ -3,7 +3,6 @@
 --     legal_with_version      with another version
 --     HasLegalStatus, status_legal   what a payload tells of a quota is legal;  as it is in a legal object
 --     legal_replaced     with such a status of another object
---     given_with_version, given_replaced      the same of what requests give
 use Rattle.std.proofs.Common.{◌≡◌, ℕ, Bool, true, false, not, ◌&&◌, ◌||◌, List, [], ◌∷◌, map, None, Some, Option, refl, sym, ap, ◌∙◌, subst, true≢false, eqb-true, ◌==◌}
 use Rattle.std.specs.Prelude.{if◌then◌else◌}
 use Rattle.std.specs.List.{AllByRecursion, list_all}
@@ -107,30 +106,9 @@ same_size old x = rw (same_specified old.payload x.payload) refl
 
 -- ---- what requests give
 
-pub given_with_version : (x : Object) (version : ℕ) → IsGiven x → IsGiven (with_version x version)
-given_with_version x version given = record { labels = given.labels; annotations = given.annotations; payload = given.payload; typed = given.typed }
-
-still_given : (old x : Payload) → is_given old ≡ true → is_given x ≡ true → is_given (with_status old x) ≡ true
-still_given (NamespaceOf t) (NamespaceOf u) p q = p
-still_given (Hierarchy a b [] []) (Hierarchy e f g h) p q = refl
-still_given (Hierarchy a b [] (d ∷ ds)) (Hierarchy e f g h) p q = p
-still_given (Hierarchy a b (c ∷ cs) ds) (Hierarchy e f g h) p q = p
-still_given (Anchor s) (Anchor t) p q = p
-still_given (Quota h []) (Quota k t) p q = refl
-still_given (Quota h (s ∷ ss)) (Quota k t) p q = p
-still_given old x p q = q
-
 still_typed : (kind : Kind) (old x : Payload) → is_typed kind x ≡ true → is_typed kind (with_status old x) ≡ true
 still_typed Secret old x is = by_status (λ x y. is_typed Secret x ≡ true → is_typed Secret y ≡ true) (λ t u is. is) (λ p c a b d e is. is) (λ s t is. is) (λ h s t is. is) (λ x is. is) old x is
 still_typed kind old x is = refl
-
-pub given_replaced : (old x : Object) → IsGiven old → IsGiven x → IsGiven (replaced_by old x)
-given_replaced old x before given = record {
-  labels = given.labels;
-  annotations = given.annotations;
-  payload = still_given old.payload x.payload before.payload given.payload;
-  typed = still_typed x.id.kind old.payload x.payload given.typed;
-}
 
 -- ---- keys
 

@@ -7,7 +7,6 @@ pub mod Naming
 pub mod NamesAfter
 pub mod Legality
 pub mod Writes
-pub mod Counting
 pub mod Replying
 pub mod Climbing
 pub mod Passing

@@ -2,8 +2,6 @@
 --     brings, takes          what a write adds to the number, and what it takes off
 --     names_one              the number after one write
 --     names_after_writes     the number after writes of which at most one changes names, by the objects before them
---     names_after            the same of the writes of one commit
---     takes_fit              what they take off is there
 --     brings_found           what a put adds, by the object that is there
 use Rattle.std.proofs.Common.{◌≡◌, ◌≤◌, ℕ, suc, ◌+◌, Bool, true, false, cond, not, ◌&&◌, Option, Some, None, List, [], ◌∷◌, filter, map, length, sum_by, refl, sym, ap, ◌∙◌, subst, arith, true≢false}
 use Rattle.std.specs.Prelude.{is_some, is_none, if◌then◌else◌}
@@ -237,33 +235,6 @@ names_after_writes (w ∷ ws) objects named fits distinct naming =
           let same : length (filter (changes_names objects) ws) ≡ length (filter (changes_names next) ws) = ap length (same_filter (changes_names objects) (changes_names next) ws (changes_alike objects next alike)) in
           number_quiet objects w ws named fits.0 e (names_after_writes ws next then_named (fitting_alike objects next alike ws fits.1) tail (let h : length (filter (changes_names next) ws) ≤ 1 = omega (arith, same, most) in h))
     ] refl naming
-
--- what one write takes off is there
-takes_one : (w : Write) (objects : Objects) → AreNamed objects → IsFitting objects w → takes objects w ≤ names_in objects
-takes_one (Put x) objects named fits = omega arith
-takes_one (Cut id) objects named fits =
-    let after : names_in (cut id objects) + takes objects (Cut id) ≡ names_in objects + 0 = names_one (Cut id) objects named fits in
-    omega (arith, after)
-
--- so is what all of them take off, since at most one does
-pub takes_fit : (ws : List Write) (objects : Objects) → AreNamed objects → AllByRecursion (IsFitting objects) ws → length (filter (changes_names objects) ws) ≤ 1 → sum_by (takes objects) ws ≤ names_in objects
-takes_fit [] objects named fits naming = omega arith
-takes_fit (w ∷ ws) objects named fits naming =
-    elim (changes_names objects w) as (λ b. changes_names objects w ≡ b → length (cond b (w ∷ filter (changes_names objects) ws) (filter (changes_names objects) ws)) ≤ 1 → sum_by (takes objects) (w ∷ ws) ≤ names_in objects) [
-      | true ↦ λ e most.
-          let none : length (filter (changes_names objects) ws) ≡ 0 = let h : suc (length (filter (changes_names objects) ws)) ≤ 1 = most in omega (arith, h) in
-          omega (arith, (sums_quiet objects ws fits.1 (quiet_by_length objects ws none)).1, takes_one w objects named fits.0, sum_by-cons (takes objects) w ws)
-      | false ↦ λ e most. omega (arith, takes_quiet objects w e, takes_fit ws objects named fits.1 most, sum_by-cons (takes objects) w ws)
-    ] refl naming
-
-pub fitting_writes : (s : State) (ws : List Write) → AllByRecursion (MayWrite s) ws → AllByRecursion (IsFitting s.objects) ws
-fitting_writes s [] may = tt
-fitting_writes s (Put x ∷ ws) may = (namespace_is_homed x may.0.served, fitting_writes s ws may.1)
-fitting_writes s (Cut id ∷ ws) may = ((λ gives. ap is_some may.0.there.1), fitting_writes s ws may.1)
-
--- the number after the writes of one commit, each of which is looked up in the state before them
-pub names_after : (s : State) (ws : List Write) → IsValid s → MayWriteAll s ws → names_in (after_writes ws s.objects) + sum_by (takes s.objects) ws ≡ names_in s.objects + sum_by (brings s.objects) ws
-names_after s ws valid may = names_after_writes ws s.objects (named_valid s valid) (fitting_writes s ws may.each) may.distinct may.naming
 
 -- what a put adds, by the object that is there
 pub brings_found : (x : Object) (objects : Objects) → IsHomed x → brings objects (Put x) ≡ (if gives_name x.id.kind && is_none (object_at objects x.id) then one_unless (is_named objects x.id.name) else 0)

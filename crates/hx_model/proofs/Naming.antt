@@ -3,7 +3,7 @@
 --     named_valid            so are those of a valid state
 --     names_by               the number of names is that of any texts that have the same names
 --     named-put, named-cut   which names there are after a put;  and before a cut
---     names_put_new, names_put_same, names_put_other     the number after a put
+--     names_put_new, names_put_other     the number after a put
 --     names_cut, names_cut_other                         the number after a cut
 --     is_named_by            a name is one of a namespace, or of some anchor among those of the name
 --     named_without_namespace, named_without_anchor      a name once its namespace is cut, or one of its anchors
@@ -364,18 +364,9 @@ alike_put_other x objects none id gives = sym (ap is_some (object_at-put x objec
 pub alike_cut_other : (id : Id) (objects : Objects) → gives_name id.kind ≡ false → AreAlike objects (cut id objects)
 alike_cut_other id objects none k gives = sym (ap is_some (object_at-cut id objects k ∙ ap (λ b. cond b None (object_at objects k)) (other_kind k id gives none)))
 
--- what is put in the place of another is homed as that is
-homed_again : (x old : Object) (objects : Objects) → AllByRecursion IsHomed objects → object_at objects x.id ≡ Some old → IsHomed x
-homed_again x old objects homed there = home_of objects x.id homed (ap is_some there)
-
 -- one that gives no name is homed anyway
 homed_other : (x : Object) → gives_name x.id.kind ≡ false → IsHomed x
 homed_other x none is = absurd (true≢false (sym (or_left (is_namespace x.id.kind) (is_anchor x.id.kind) is) ∙ none))
-
--- an object is put that was there before
-pub names_put_same : (x old : Object) (objects : Objects) → AreNamed objects → object_at objects x.id ≡ Some old → names_in (put x objects) ≡ names_in objects
-names_put_same x old objects named there =
-    names_alike objects (put x objects) named (named_put x objects (homed_again x old objects named.homed there) named) (alike_put_same x objects (ap is_some there))
 
 -- an object is put that is neither a namespace nor an anchor
 pub names_put_other : (x : Object) (objects : Objects) → AreNamed objects → gives_name x.id.kind ≡ false → names_in (put x objects) ≡ names_in objects

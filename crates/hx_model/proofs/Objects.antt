@@ -214,20 +214,6 @@ object_at-filter p (y ∷ objects) q h =
     dropped true same e low = ap (option_filter p) (subst (λ (k : Id). object_at objects k ≡ None) (sym (is_same_id q y.id same)) (none_below y.id objects low)) ∙ sym (ap (λ t. cond t (Some y) None) e)
     dropped false same e low = refl
 
--- a put of an object that isn't there makes one row more
-pub length-put : (x : Object) (objects : Objects) → object_at objects x.id ≡ None → length (put x objects) ≡ length objects + 1
-length-put x [] none = refl
-length-put x (y ∷ objects) none =
-    elim (id_cmp x.id y.id) as (λ o. id_cmp x.id y.id ≡ o → length (by_order o (x ∷ y ∷ objects) (x ∷ objects) (y ∷ put x objects)) ≡ length (y ∷ objects) + 1) [
-      | Less ↦ λ e. omega arith
-      | Equal ↦ λ e. absurd (true≢false (ap is_some (sym (ap (λ b. cond b (Some y) (object_at objects x.id)) (same_id-cmp x.id y.id ∙ ap is_eq e)) ∙ none)))
-      | Greater ↦ λ e. let more : length (put x objects) ≡ length objects + 1 = length-put x objects (rest (same_id x.id y.id) (same_id-cmp x.id y.id ∙ ap is_eq e) none) in omega arith
-    ] refl
-  where
-    rest : (b : Bool) → b ≡ false → cond b (Some y) (object_at objects x.id) ≡ None → object_at objects x.id ≡ None
-    rest true e h = absurd (true≢false e)
-    rest false e h = h
-
 -- ---- rows in order that answer alike are the same
 
 same_tail : (x : Object) (xs ys : Objects) → is_below_all x.id xs ≡ true → is_below_all x.id ys ≡ true → ((q : Id) → object_at (x ∷ xs) q ≡ object_at (x ∷ ys) q) → (q : Id) → object_at xs q ≡ object_at ys q
@@ -267,21 +253,6 @@ object_at-objects_from (x ∷ xs) q = object_at-put x (objects_from xs) q ∙ ap
 pub ascends-objects_from : (xs : List Object) → ascends (objects_from xs) ≡ true
 ascends-objects_from [] = refl
 ascends-objects_from (x ∷ xs) = ascends-put x (objects_from xs) (ascends-objects_from xs)
-
-object_at-push : (xs : List Object) (x : Object) (q : Id) → object_at xs x.id ≡ None → object_at (xs ++ x ∷ []) q ≡ cond (same_id q x.id) (Some x) (object_at xs q)
-object_at-push [] x q absent = refl
-object_at-push (y ∷ xs) x q absent =
-    elim (same_id x.id y.id) as (λ b. same_id x.id y.id ≡ b → cond b (Some y) (object_at xs x.id) ≡ None → cond (same_id q y.id) (Some y) (object_at (xs ++ x ∷ []) q) ≡ cond (same_id q x.id) (Some x) (cond (same_id q y.id) (Some y) (object_at xs q))) [
-      | true ↦ λ e some. absurd (true≢false (ap is_some some))
-      | false ↦ λ e none. ap (cond (same_id q y.id) (Some y)) (object_at-push xs x q none)
-          ∙ swap_tests (same_id q x.id) (same_id q y.id) (Some x) (Some y) (object_at xs q) (λ p r. true≢false (sym (same_from_Equal x.id y.id (joined q x.id y.id p r)) ∙ e))
-    ] refl absent
-
--- an object that isn't there is put where it is pushed
-pub objects_from-push : (xs : List Object) (x : Object) → object_at xs x.id ≡ None → objects_from (xs ++ x ∷ []) ≡ put x (objects_from xs)
-objects_from-push xs x absent =
-    same_rows _ _ (ascends-objects_from (xs ++ x ∷ [])) (ascends-put x (objects_from xs) (ascends-objects_from xs))
-    (λ q. object_at-objects_from (xs ++ x ∷ []) q ∙ object_at-push xs x q absent ∙ sym (object_at-put x (objects_from xs) q ∙ ap (cond (same_id q x.id) (Some x)) (object_at-objects_from xs q)))
 
 -- ---- an object is found where it was put
 

@@ -13,7 +13,7 @@
 --     forest-put_terminating                 one that is on its way out in the place of one with the same annotation
 --     forest-cut_namespace                   a namespace that is cut takes its node along
 --     forest-put_moves, forest-kept_moves, forest-cut_moves     a HierarchyConfiguration of any name, by the namespace that is found
---     named_parent-replaced, terminating-replaced    what a replacement keeps
+--     terminating-replaced    what a replacement keeps
 -- The laws hold of any object: none looks at its version.
 use Rattle.std.proofs.Common.{◌≡◌, ℕ, Bool, true, false, cond, not, Option, Some, None, List, [], ◌∷◌, map, Ordering, Less, Equal, Greater, is_lt, refl, sym, ap, ◌∙◌, subst, true≢false}
 use Rattle.std.specs.Prelude.{is_some, unwrap_or, if◌then◌else◌, option_map, option_and_then}
@@ -535,21 +535,6 @@ module _ (ex : List (List ℕ)) (objects : Objects) (id : Id) (is : is_hierarchy
       by_name false e = forest-cut_other ex id objects is e
 
 -- ---- replacements
-
--- a replacement names the parent that is given
-pub named_parent-replaced : (old x : Object) → named_parent (replaced_by old x) ≡ named_parent x
-named_parent-replaced old x = kept old.payload x.payload
-  where
-    kept : (a b : Payload) → spec_parent (with_status a b) ≡ spec_parent b
-    kept (NamespaceOf _) (NamespaceOf _) = refl
-    kept (NamespaceOf _) _ = refl
-    kept (Hierarchy _ _ _ _) (Hierarchy _ _ _ _) = refl
-    kept (Hierarchy _ _ _ _) _ = refl
-    kept (Anchor _) (Anchor _) = refl
-    kept (Anchor _) _ = refl
-    kept (Quota _ _) (Quota _ _) = refl
-    kept (Quota _ _) _ = refl
-    kept _ _ = refl
 
 -- a namespace keeps its phase
 pub terminating-replaced : (old x : Object) → old.id ≡ x.id → is_namespace x.id.kind ≡ true → IsServed old → IsServed x → is_terminating (replaced_by old x).payload ≡ is_terminating old.payload

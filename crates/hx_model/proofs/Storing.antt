@@ -81,10 +81,6 @@ All-found P id x (y ∷ objects) all e =
       | false ↦ λ rest. All-found P id x objects all.1 rest
     ] e
 
-pub All-objects_from : (P : Object → Type 0) (xs : List Object) → AllByRecursion P xs → AllByRecursion P (objects_from xs)
-All-objects_from P [] all = tt
-All-objects_from P (x ∷ xs) all = All-put P x (objects_from xs) all.0 (All-objects_from P xs all.1)
-
 abbrev pub IsKeyed : Object → Type 0
 IsKeyed x = HasNoSlash x.id.ns
 

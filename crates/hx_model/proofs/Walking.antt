@@ -2,7 +2,6 @@
 --     walk_has_chain       whether a walk passes a name is whether its chain has it
 --     walk_to_has          a walk that comes to a name passes it
 --     walk_ends_length     where a walk has ended, as many namespaces as it passed are in the chain
---     chain_length_counts  the length of a chain by counting who is in it
 --     walk_halts_above     whether an ancestor is halted by itself
 use Rattle.std.specs.Prelude.{is_some, option_and_then}
 use Rattle.std.proofs.Common.{◌≡◌, ℕ, zero, suc, ◌+◌, ◌≤◌, Bool, true, false, cond, not, ◌&&◌, ◌||◌, Option, Some, None, option_map, List, [], ◌∷◌, ◌++◌, length, filter, refl, sym, ap, ◌∙◌, subst, inl, inr, arith, length-append, true≢false}
@@ -225,15 +224,6 @@ IsDistinct-filter t (x ∷ xs) h = elim (t x) as (λ b. IsDistinct bytes_eq (con
   | true ↦ IsDistinct-cons bytes_eq x (filter t xs) (all_filter (λ y. bytes_eq x y ≡ false) t xs (IsDistinct-head bytes_eq x xs h)) (IsDistinct-filter t xs (IsDistinct-tail bytes_eq x xs h))
   | false ↦ IsDistinct-filter t xs (IsDistinct-tail bytes_eq x xs h)
 ]
-
--- as many names of the forest are in the chain as it is long
-pub chain_length_counts : (f : Forest) (n : List ℕ) → IsDistinct bytes_eq (names_of f) → length (chain_of f n) ≡ length (filter (λ m. in_chain f n m) (names_of f))
-chain_length_counts f n distinct = length-from_same_keys nat_list_eq_equiv (chain_of f n) (filter (λ m. in_chain f n m) (names_of f)) (chain_there f n).distinct (IsDistinct-filter (λ m. in_chain f n m) (names_of f) distinct) same
-  where
-    same : (a : List ℕ) → is_in a (chain_of f n) ≡ is_in a (filter (λ m. in_chain f n m) (names_of f))
-    same a = both _ _
-        (λ h. is_in_filter (λ m. in_chain f n m) a (names_of f) ∙ and_from (is_in a (names_of f)) (in_chain f n a) (sym (names_have f a) ∙ (chain_there f n).there a h) h)
-        (λ h. (and_parts (is_in a (names_of f)) (in_chain f n a) (sym (is_in_filter (λ m. in_chain f n m) a (names_of f)) ∙ h)).1)
 
 -- ---- halted ancestors
 

@@ -38,9 +38,6 @@ length-is text missing =
 pub place-is : (text : List ℕ) (place : ℕ) → position other text ≡ Some place → place ≡ digits_len text
 place-is text place found = sym (place_found _ _ _ found) ∙ up-to text
 
-pub digits-within : (text : List ℕ) → digits_len text ≤ length text
-digits-within text = prefix_len-le-length is_digit text
-
 both : (a b : Bool) → a ≡ true → b ≡ true → (a && b) ≡ true
 both true true e f = refl
 both true false e f = absurd (cc f)

@@ -1,6 +1,5 @@
 -- Numbers that 128 bits hold, digit by digit.
 --     more, missing    the digits so far with one more stand for a number that is held;  or else all of them stand for more
---     no-units         so many whole units are more than their number
 --     held-below       what is held is below 2^128
 use Rattle.std.proofs.Common.{◌≡◌, ℕ, ◌+◌, ◌-◌, ◌*◌, ◌^◌, ◌<◌, ◌≤◌, Bool, true, false, cond, List, Option, Some, None, length, take, get_or, nat_lt, unwrap_or, refl, sym, ap, ◌∙◌, arith}
 use Rattle.std.specs.List.{list_all}
@@ -41,9 +40,6 @@ module _ (ds : List ℕ) (i number : ℕ) (digits : list_all is_digit ds ≡ tru
 
   pub missing : (result : Option ℕ) → result ≡ if_held (number * 10 + (get_or ds i 0 - 48)) → result ≡ None → if_held (digits_value 10 ds) ≡ None
   missing result is none = still-none (digits_value 10 (take (i + 1) ds)) (digits_value 10 ds) (digits_value-take-le 10 ds (i + 1) (omega arith)) (ap if_held next ∙ sym is ∙ none)
-
-pub no-units : (n : ℕ) → if_held n ≡ None → if_held (n * 1000) ≡ None
-no-units n none = still-none n (n * 1000) (omega arith) none
 
 pub held-below : (n : ℕ) → unwrap_or (if_held n) 0 < 2 ^ 128
 held-below n = by (nat_lt n (2 ^ 128)) refl

@@ -1,11 +1,10 @@
 -- What look-ups in a queue answer after its calls.
 use Rattle.std.proofs.Common.{◌≡◌, ◌+◌, ℕ, Bool, true, false, not, cond, ◌&&◌, ◌||◌, List, [], ◌∷◌, ◌++◌, map, filter, length, refl, sym, ap, subst, ◌∙◌, Option, Some, None, is_some, if◌then◌else◌}
 use Rattle.std.specs.Prelude.{find, option_map}
-use Rattle.std.specs.List.{IsDistinct, list_any, AllPairs}
+use Rattle.std.specs.List.{IsDistinct, list_any}
 use Rattle.std.proofs.lemmas.List.{length-append}
 use Rattle.std.proofs.lemmas.List.Folds.{list_any-append}
 use Rattle.std.proofs.lemmas.List.Sorted.{IsPermutation-sym, IsPermutation-map, list_any-IsPermutation}
-use Rattle.std.proofs.lemmas.Map.Keys.{apart_from_distinct}
 use Rattle.std.specs.Map.{keys_of, lookup}
 use Rattle.indexmap.proofs.MapLemmas.{lookup_permutation}
 use Rattle.hx_model.specs.Keys.{same_key, is_among}
@@ -16,10 +15,6 @@ use Rattle.hx_queue.proofs.Sets.{among_without}
 use Rattle.hx_queue.proofs.Queueing.{is_held_among, keys_again, keys_without}
 
 -- ---- keys and tests
-
--- distinct keys, by their places
-pub pairs_apart : (keys : List Key) → IsDistinct same_key keys → AllPairs (λ a b. same_key a b ≡ false) keys
-pairs_apart keys d i j e l m = apart_from_distinct same_key keys i j e d l m
 
 or_false : (b : Bool) → (b || false) ≡ b
 or_false true = refl

@@ -56,9 +56,6 @@ holder_none k hands q tied = by (holding_of q k) refl
 
 -- ---- marks
 
-pub tied_by_marks : (keys : List Key) (hands : List Hand) (old new : QueueView) → IsTied hands old → MarksEach keys old new → IsTied hands new
-tied_by_marks keys hands old new tied m = record { same = λ test. tied.same test ∙ sym (m.held test); workers = tied.workers; keys = tied.keys }
-
 pub seen_by_marks : (keys : List Key) (hands : List Hand) (old new : QueueView) → IsTied hands old → MarksEach keys old new → IsMarkedBy keys (view_of hands old) (view_of hands new)
 seen_by_marks keys hands old new tied m = record {
   hands = refl;

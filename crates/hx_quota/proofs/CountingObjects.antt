@@ -9,7 +9,6 @@
 --     put_total, put_fits, cut_total, cut_fits       what all have together then, and that it fits
 --     put_unchanged, cut_unchanged   where nothing charged changes by it
 --     writes_unchanged               nor by any of several writes
---     counts_none                    nothing is counted in the beginning
 use Rattle.std.proofs.Common.{◌≡◌, ℕ, ◌+◌, ◌-◌, ◌≤◌, Bool, true, false, cond, Option, Some, None, option_map, List, [], ◌∷◌, refl, sym, ap, subst, ◌∙◌, arith, true≢false}
 use Rattle.std.specs.Prelude.{is_some}
 use Rattle.std.specs.List.{AllByRecursion}
@@ -223,6 +222,3 @@ pub cut_unchanged : (id : Id) (objects : Objects) (f : Forest) (es : Entries) �
 cut_unchanged id objects f es up none counts = writes_unchanged (Cut id ∷ []) objects f es up ((none_deltas (object_at objects id) None none, tt)) counts
 
 -- ---- the beginning
-
-pub counts_none : Counts [] [] []
-counts_none = record { there = λ n. refl; parents = λ n. refl; own = λ n r. refl }

@@ -1,6 +1,6 @@
 -- Entries whose names are in order, and of which each has a sum of each resource.
 --     in_order                         their names ascend
---     regular_none, regular_changed    there are none;  after a change
+--     regular_changed                  after a change
 --     regular_all                      after changes, whichever
 use Rattle.std.proofs.Common.{◌≡◌, ℕ, ◌+◌, ◌-◌, Bool, true, false, cond, Option, Some, None, option_map, List, [], ◌∷◌, length, refl, sym, ap, subst, ◌∙◌}
 use Rattle.std.specs.Prelude.{slice_index, slice_set}
@@ -26,9 +26,6 @@ in_order es regular = subst (λ (xs : Entries). ascends xs ≡ true) regular.ord
 
 regular_by : (es : Entries) → ascends es ≡ true → AreLong es → AreRegular es
 regular_by es up long = record { ordered = same_entries (entries_from es) es (ascends-entries es) up (entry_of-entries es); long = long }
-
-pub regular_none : AreRegular []
-regular_none = record { ordered = refl; long = λ n e there. absurd (none-some e there) }
 
 -- ---- each change
 

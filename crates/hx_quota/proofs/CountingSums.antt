@@ -6,8 +6,7 @@
 --     nothing_counted           nothing that is counted is charged where there is no namespace
 --     lie_counted               so what is counted lies in namespaces that are there
 --     used_of_counts, used_told      so it is for all that counts;  of a state
---     nothing_lies              nothing is charged in a namespace in which no object lies
-use Rattle.std.proofs.Common.{◌≡◌, ℕ, zero, suc, ◌+◌, ◌≤◌, ◌<◌, Bool, true, false, cond, not, ◌&&◌, ◌||◌, Option, Some, None, List, [], ◌∷◌, map, refl, sym, ap, subst, ◌∙◌, arith, true≢false}
+use Rattle.std.proofs.Common.{◌≡◌, ℕ, zero, suc, ◌+◌, ◌≤◌, ◌<◌, Bool, true, false, cond, ◌||◌, Option, Some, None, List, [], ◌∷◌, map, refl, sym, ap, subst, ◌∙◌, arith, true≢false}
 use Rattle.std.specs.Prelude.{is_some, sum_by, if◌then◌else◌, option_and_then}
 use Rattle.std.specs.List.{AllByRecursion}
 use Rattle.std.specs.Map.{lookup}
@@ -24,17 +23,15 @@ use Rattle.hx_object.specs.declared.object.Object.{Object}
 use Rattle.hx_model.specs.Charges.{charge_of}
 use Rattle.hx_model.specs.Forest.{Forest, is_in, is_there, in_chain}
 use Rattle.hx_model.specs.Quotas.{charge_below, used}
-use Rattle.hx_model.specs.State.{State, Objects, same_id, object_at, namespace_id, has_home, lies_in, least_in}
+use Rattle.hx_model.specs.State.{State, Objects, same_id, object_at, namespace_id, has_home}
 use Rattle.hx_model.specs.Tree.{node_in, namespaces_in, forest_in, forest_of}
 use Rattle.hx_model.specs.Valid.{AreHoused}
 use Rattle.hx_model.specs.declared.node.Node.{Node}
 use Rattle.hx_model.specs.declared.resource.Resource.{Resource}
 use Rattle.hx_model.proofs.Admitting.{charged_plain}
 use Rattle.hx_model.proofs.Climbing.{is_same, same_itself}
-use Rattle.hx_model.proofs.Freely.{free_elsewhere}
 use Rattle.hx_model.proofs.Objects.{is_same_id}
 use Rattle.hx_model.proofs.Parents.{swap_same}
-use Rattle.hx_model.proofs.Walking.{same_flips}
 use Rattle.hx_quota.specs.declared.entry.Entry.{Entry}
 use Rattle.hx_quota.specs.Counters.{Entries, entry_of, tree_of, own_of, part_of, used_in, without_entry}
 use Rattle.hx_quota.specs.Counting.{Counts, AreRegular, charge_in, own_charge}
@@ -245,28 +242,3 @@ used_of_counts objects f es regular counts a r = used_counted objects f es regul
 pub used_told : (s : State) (es : Entries) → AreRegular es → Counts s.objects (forest_of s) es → (a : List ℕ) (r : Resource) → used_in es a r ≡ used s a r
 unfolding used
 used_told s es regular counts a r = used_of_counts s.objects (forest_of s) es regular counts a r
-
--- ---- a namespace in which no object lies
-
-pub nothing_lies : (objects : Objects) (n : List ℕ) → least_in objects n ≡ None → (r : Resource) → own_charge objects n r ≡ 0
-nothing_lies [] n none r = refl
-nothing_lies (x ∷ objects) n none r =
-    elim (lies_in n x.id) as (λ b. lies_in n x.id ≡ b → cond b (Some x) (least_in objects n) ≡ None → own_charge (x ∷ objects) n r ≡ 0) [
-      | true ↦ λ _ some. absurd (none-some x (sym some))
-      | false ↦ λ out rest.
-          let free : charge_in n r x ≡ 0 = free_here (bytes_eq x.id.ns n) refl out in
-          omega (arith, free, nothing_lies objects n rest r, sum_by-cons (charge_in n r) x objects)
-    ] refl none
-  where
-    free_here : (b : Bool) → bytes_eq x.id.ns n ≡ b → lies_in n x.id ≡ false → charge_in n r x ≡ 0
-    free_here false other out = ap (λ b. cond b (charge_of x r) 0) other
-    free_here true here out =
-        let cluster : is_in_cluster x.id.kind ≡ true = in_none (is_in_cluster x.id.kind) (sym (ap (λ b. not (is_in_cluster x.id.kind) && b) (same_flips n x.id.ns ∙ here)) ∙ out) in
-        ap (λ b. cond b (charge_of x r) 0) here ∙ uncharged cluster
-      where
-        in_none : (b : Bool) → (not b && true) ≡ false → b ≡ true
-        in_none true h = refl
-        in_none false h = absurd (true≢false h)
-
-        uncharged : is_in_cluster x.id.kind ≡ true → charge_of x r ≡ 0
-        uncharged cluster = free_elsewhere x (false_from_ne_true (is_plain x.id.kind) (λ plain. true≢false (sym cluster ∙ plain_inside x.id.kind plain))) r

@@ -1,11 +1,10 @@
 -- Counters of a tree and its objects, where the tree changes.
 --     IsEmptied              nothing is charged in a namespace that goes
---     once_names, once_ascending      so it is where the names of the tree are distinct, and those are where they are in order
+--     once_ascending         the names of a tree in order are distinct
 --     added, moved, terminated, removed      the counters may be changed so, and then count the tree after the change
 --     replanted              a namespace that gets the parent that it has leaves all as it was
 --     counts_tree            the same of any change
 --     fits_tree, ordered_tree         all still fits then, and the entries stay in order
---     ascends_tree           the tree stays in order
 use Rattle.std.proofs.Common.{◌≡◌, ℕ, Bool, true, false, cond, Option, Some, None, option_map, List, [], ◌∷◌, refl, sym, ap, ◌∙◌, subst, true≢false}
 use Rattle.std.specs.Prelude.{is_some, option_and_then, IfSome}
 use Rattle.std.specs.List.{AllByRecursion, IsDistinct}
@@ -15,16 +14,15 @@ use Rattle.std.proofs.lemmas.Map.Keys.{IsDistinct-cons}
 use Rattle.hx_forest.specs.Kept.{changed_by, MayChange as MayChangeTree}
 use Rattle.hx_forest.specs.declared.change.Change.{Change as TreeChange}
 use Rattle.hx_forest.specs.declared.change.Change.TheVariants as tree
-use Rattle.hx_forest.proofs.Nodes.{is_below_all, ascends as forest_ascends, ascends-with_node, ascends-without_node, ascends-with_changed, none_below}
+use Rattle.hx_forest.proofs.Nodes.{is_below_all, ascends as forest_ascends, none_below}
 use Rattle.hx_model.specs.First.{so}
-use Rattle.hx_model.specs.Forest.{Forest, names_of, node_of, is_there, parent_of, is_child, with_parent as forest_with_parent}
+use Rattle.hx_model.specs.Forest.{Forest, names_of, node_of, is_there, parent_of, with_parent as forest_with_parent}
 use Rattle.hx_model.specs.ForestChanges.{with_terminating}
 use Rattle.hx_model.specs.State.{Objects}
 use Rattle.hx_model.specs.declared.node.Node.{Node}
 use Rattle.hx_model.specs.declared.resource.Resource.{Resource}
 use Rattle.hx_model.proofs.Climbing.{is_same}
 use Rattle.hx_model.proofs.Moving.{with_that, changed_node, moved_node, moved_there, moved_parent, other_parent}
-use Rattle.hx_model.proofs.Walking.{IsDistinct-filter}
 use Rattle.hx_quota.specs.declared.change.CounterChange.{CounterChange}
 use Rattle.hx_quota.specs.declared.change.CounterChange.TheVariants.{Move}
 use Rattle.hx_quota.specs.Counters.{Entries, entry_of, with_parent, AllFit}
@@ -44,12 +42,6 @@ IsEmptied objects (tree.SetParent name parent) = Unit {0}
 IsEmptied objects (tree.SetTerminating name) = Unit {0}
 IsEmptied objects (tree.Remove name) = (r : Resource) → own_charge objects name r ≡ 0
 
-pub once_names : (f : Forest) (c : TreeChange) → IsDistinct bytes_eq (names_of f) → AreOnce f c
-once_names f (tree.Add name node) distinct = IsDistinct-filter (is_child f name) (names_of f) distinct
-once_names f (tree.SetParent name parent) distinct = tt
-once_names f (tree.SetTerminating name) distinct = tt
-once_names f (tree.Remove name) distinct = IsDistinct-filter (is_child f name) (names_of f) distinct
-
 others_apart : (n : List ℕ) (f : Forest) → node_of f n ≡ None → AllByRecursion (λ m. bytes_eq n m ≡ false) (names_of f)
 others_apart n [] none = tt
 others_apart n (e ∷ f) none = at (bytes_eq n e.0) refl none (others_apart n f)
@@ -66,13 +58,6 @@ once_ascending [] up = tt
 once_ascending (e ∷ f) up =
     let parts = and_parts (is_below_all e.0 f) (forest_ascends f) up in
     IsDistinct-cons bytes_eq e.0 (names_of f) (others_apart e.0 f (none_below e.0 f parts.0)) (once_ascending f parts.1)
-
--- the tree stays in order
-pub ascends_tree : (c : TreeChange) (f : Forest) → forest_ascends f ≡ true → forest_ascends (changed_by c f) ≡ true
-ascends_tree (tree.Add name node) f up = ascends-with_node name node f up
-ascends_tree (tree.SetParent name parent) f up = ascends-with_changed name _ f ∙ up
-ascends_tree (tree.SetTerminating name) f up = ascends-with_changed name _ f ∙ up
-ascends_tree (tree.Remove name) f up = ascends-without_node name f up
 
 -- ---- changes that leave all parents
 

@@ -85,10 +85,6 @@ pub shifted_first : (es : Entries) (chain : List (List ℕ)) (deltas : List Delt
 shifted_first es [] deltas n first = no_first n first
 shifted_first es (m ∷ names) deltas n first = ap (λ (k : List ℕ). with_changed k (shift_in deltas) es) (same_Some m n first)
 
-pub shifted_none : (es : Entries) (chain : List (List ℕ)) (deltas : List Delta) → slice_get chain 0 ≡ None → with_shifted chain deltas es ≡ es
-shifted_none es [] deltas first = refl
-shifted_none es (m ∷ names) deltas first = no_first m (sym first)
-
 -- a namespace that isn't there has nothing to change
 pub unchanged : (n : List ℕ) (change : Entry → Entry) (es : Entries) → entry_of es n ≡ None → with_changed n change es ≡ es
 unchanged n change [] none = refl

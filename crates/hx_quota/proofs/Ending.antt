@@ -1,9 +1,9 @@
 -- Walks up the parents that end at a namespace without one.
---     ends_on, ends_out, ends_top, ends_last      a step of a walk: on, before a name that isn't there, past the last one, with no steps left
+--     ends_on, ends_out, ends_top      a step of a walk: on, before a name that isn't there, past the last one
 --     free, chain_on         a walk that ends doesn't come round:  a chain is its namespace and the chain of the parent
 --     closed_all             where all walks end, all parents are there
 --     all_from, from_all     all walks end where all of those from places do, and so the other way round
-use Rattle.std.specs.Prelude.{is_some, is_none, option_and_then}
+use Rattle.std.specs.Prelude.{is_some, option_and_then}
 use Rattle.std.proofs.Common.{◌≡◌, ℕ, zero, suc, ◌-◌, ◌<◌, Bool, true, false, cond, ◌&&◌, Option, Some, None, List, [], ◌∷◌, length, refl, sym, ap, ◌∙◌, subst, arith, true≢false}
 use Rattle.std.specs.List.{list_all, IsDistinct}
 use Rattle.std.specs.Str.{bytes_eq}
@@ -40,13 +40,6 @@ ends_out (suc left) f next n is out = ap (λ o. ends_by (suc left) f o) is ∙ a
 
 pub ends_top : (left : ℕ) (f : Forest) (next : Option (List ℕ)) → next ≡ None → ends_by left f next ≡ true
 ends_top left f next is = ap (λ o. ends_by left f o) is
-
-pub ends_last : (left : ℕ) (f : Forest) (next : Option (List ℕ)) → left ≡ 0 → is_none next ≡ ends_by left f next
-ends_last left f next is = at next ∙ ap (λ k. ends_by k f next) (sym is)
-  where
-    at : (o : Option (List ℕ)) → is_none o ≡ ends_by 0 f o
-    at None = refl
-    at (Some n) = refl
 
 -- ---- a walk that ends doesn't come round
 

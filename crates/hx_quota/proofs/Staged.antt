@@ -7,7 +7,6 @@
 --     unchanged_write                 by a write that changes no charge
 --     may_write, tells_write          by one that does
 --     uncharged_housed, uncharged_tells      by writes of kinds that are charged nothing
---     tells_none                      nothing is counted in the beginning
 --     may_some .. used_some           the same of entries that may count no more
 use Rattle.std.proofs.Common.{◌≡◌, ◌≢◌, ℕ, ◌+◌, ◌≤◌, Bool, true, false, cond, not, Option, Some, None, List, [], ◌∷◌, length, get_or, IfSome, refl, sym, ap, subst, ◌∙◌, inl, inr, ◌⊎◌, arith, true≢false}
 use Rattle.std.specs.Prelude.{nat_eq, is_some, slice_index, sum_by, Result, Ok, Err, OnOk, IsSomeAnd}
@@ -41,8 +40,8 @@ use Rattle.hx_quota.specs.Counters.{Entries, CountersView, entry_of, place_of, o
 use Rattle.hx_quota.specs.Counting.{AreRegular, own_charge, changed, changed_all, MayChangeAll, changes_of_tree, deltas_of}
 use Rattle.hx_quota.specs.SubtreeUsage.{Tells, IsCounted, HasTotals, IsReady, is_any, is_charged_kind, are_uncharged, is_staying, MayShift, IsHoused, AreOnce}
 use Rattle.hx_quota.proofs.CountingDeltas.{apart_deltas, old_deltas, deltas_none}
-use Rattle.hx_quota.proofs.CountingObjects.{ChargesMove, KeepsCharge, counts_then, put_moves, cut_moves, charged_there, own_alike, counts_none, writes_alike, writes_unchanged, put_unchanged, cut_unchanged}
-use Rattle.hx_quota.proofs.CountingRegular.{in_order, regular_none, regular_changed, regular_all, regular_shifted}
+use Rattle.hx_quota.proofs.CountingObjects.{ChargesMove, KeepsCharge, counts_then, put_moves, cut_moves, charged_there, own_alike, writes_alike, writes_unchanged, put_unchanged, cut_unchanged}
+use Rattle.hx_quota.proofs.CountingRegular.{in_order, regular_changed, regular_all, regular_shifted}
 use Rattle.hx_quota.proofs.CountingSums.{used_of_counts}
 use Rattle.hx_quota.proofs.CountingTree.{IsEmptied, counts_tree, replanted, same_parents, same_parents_ending, terminated}
 use Rattle.hx_quota.proofs.DeltasAmong.{found_kind}
@@ -239,10 +238,6 @@ pub uncharged_tells : (objects : Objects) (f : Forest) (es : Entries) (ws : List
 uncharged_tells objects f es ws up none tells = record { regular = tells.regular; counts = writes_unchanged ws objects f es up (uncharged_keep objects ws none) tells.counts }
 
 -- ---- what counts, where it isn't lost
-
--- nothing, in the beginning
-pub tells_none : Tells [] [] []
-tells_none = record { regular = regular_none; counts = counts_none }
 
 pub may_some : (objects : Objects) (f : Forest) (c : TreeChange) → MayChangeTree c f → AreOnce f c → IsHoused objects (changed_by c f) → (o : Option Entries) → IsSomeAnd o (Tells objects f)
     → (changes : List CounterChange) → changes ≡ changes_of_tree f c → IsSomeAnd o (λ es. MayChangeAll changes es)

@@ -1,15 +1,14 @@
 -- What all namespaces have together, after a change.
---     totals_added, totals_moved, totals_removed      where one comes, moves or goes
---     set_fits                                        each fits, where one is set to what does
+--     totals_added, totals_removed                    where one comes or goes
 --     old_totals, fit_totals, shifted_totals          where own sums of one are shifted
 --     totals_fit                                      all fits then, where the totals do
-use Rattle.std.proofs.Common.{◌≡◌, ℕ, zero, suc, ◌+◌, ◌≤◌, ◌<◌, ◌^◌, Option, Some, None, List, [], ◌∷◌, length, refl, sym, ap, subst, ◌∙◌, arith, true≢false}
-use Rattle.std.specs.Prelude.{is_some, slice_index, slice_set}
+use Rattle.std.proofs.Common.{◌≡◌, ℕ, ◌+◌, ◌≤◌, ◌<◌, ◌^◌, Option, Some, None, List, [], ◌∷◌, length, refl, sym, ap, subst, ◌∙◌, arith, true≢false}
+use Rattle.std.specs.Prelude.{is_some, slice_index}
 use Rattle.std.specs.Option.{option_map_or}
 use Rattle.hx_model.specs.declared.resource.Resource.{Resource}
 use Rattle.hx_quota.specs.declared.entry.Delta.{Delta}
 use Rattle.hx_quota.specs.declared.entry.Entry.{Entry}
-use Rattle.hx_quota.specs.Counters.{Entries, entry_of, own_in, own_of, place_of, total_of, shifted, with_entry, new_entry, without_entry, with_parent, with_shifted, HaveOld, AllFit}
+use Rattle.hx_quota.specs.Counters.{Entries, entry_of, own_in, own_of, place_of, total_of, shifted, with_entry, new_entry, without_entry, with_shifted, HaveOld, AllFit}
 use Rattle.hx_quota.specs.Counting.{AreRegular}
 use Rattle.hx_quota.specs.Inside.{OwnFit}
 use Rattle.hx_quota.specs.SubtreeUsage.{HasTotals, MayShift}
@@ -17,7 +16,7 @@ use Rattle.hx_quota.proofs.CountingDeltas.{shifted_at, total_shifted}
 use Rattle.hx_quota.proofs.CountingRegular.{in_order}
 use Rattle.hx_quota.proofs.Cutting.{sum-cut}
 use Rattle.hx_quota.proofs.Fitting.{has_nothing}
-use Rattle.hx_quota.proofs.Sums.{sum-with_entry, sum-same, part-le}
+use Rattle.hx_quota.proofs.Sums.{sum-with_entry, part-le}
 
 plain : (k : ℕ) → k + 0 ≡ k
 plain k = omega arith
@@ -26,10 +25,6 @@ pub totals_added : (totals : List ℕ) (es new : Entries) (n : List ℕ) → ent
 totals_added totals es new n none is whole r =
     let more : total_of (with_entry n new_entry es) r ≡ total_of es r = sum-with_entry (λ e. own_of r e.1) n new_entry es none ∙ ap (λ k. total_of es r + k) (has_nothing r) ∙ plain (total_of es r) in
     whole r ∙ sym (ap (λ (xs : Entries). total_of xs r) is ∙ more)
-
-pub totals_moved : (totals : List ℕ) (es new : Entries) (n : List ℕ) (parent : Option (List ℕ)) → new ≡ with_parent n parent es → HasTotals totals es → HasTotals totals new
-totals_moved totals es new n parent is whole r =
-    whole r ∙ sym (ap (λ (xs : Entries). total_of xs r) is ∙ sum-same (own_of r) n (λ (e : Entry). record e { parent = parent }) es (λ e. refl))
 
 pub totals_removed : (totals : List ℕ) (es new : Entries) (n : List ℕ) → AreRegular es → ((r : Resource) → own_in es n r ≡ 0) → new ≡ without_entry n es → HasTotals totals es → HasTotals totals new
 totals_removed totals es new n regular nothing is whole r =
@@ -43,14 +38,6 @@ totals_removed totals es new n regular nothing is whole r =
 -- each does
 abbrev pub EachFits : List ℕ → Type 0
 EachFits xs = (k : ℕ) → slice_index xs k < 2 ^ 128
-
--- still, where one is set to what fits
-pub set_fits : (xs : List ℕ) (p v : ℕ) → EachFits xs → v < 2 ^ 128 → EachFits (slice_set xs p v)
-set_fits [] p v all fit k = all k
-set_fits (x ∷ xs) zero v all fit zero = fit
-set_fits (x ∷ xs) zero v all fit (suc k) = all (suc k)
-set_fits (x ∷ xs) (suc p) v all fit zero = all zero
-set_fits (x ∷ xs) (suc p) v all fit (suc k) = set_fits xs p v (λ j. all (suc j)) fit k
 
 -- ---- own sums that are shifted
 

@@ -3,5 +3,4 @@ pub mod LabelNames
 pub mod Labels
 pub mod Legal
 pub mod Placing
-pub mod Standing
 pub mod Storable

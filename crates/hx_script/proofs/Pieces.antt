@@ -258,7 +258,3 @@ ReadsOn-long s l l' into waiting total n a b x y on within read long =
         subst (λ bs. Cuts (script_lines bs) a b x y) (sym (append_assoc on.bytes piece (left_of l'))) (Cuts-front on.bytes waiting (piece ++ left_of l') a b x y on.feeds),
       ),
     )
-
--- a script with more to say of it
-pub OfScript-weaker : (s : Option (List ℕ)) (P Q : List ℕ → Type 0) → ((script : List ℕ) → P script → Q script) → OfScript s P → OfScript s Q
-OfScript-weaker s P Q f (script, told, p) = (script, told, f script p)

@@ -1,5 +1,5 @@
 -- Runs of lines put together.
-use Rattle.std.proofs.Common.{◌≡◌, ℕ, Bool, true, false, cond, List, [], ◌∷◌, ◌++◌, None, Some, Ok, Err, refl, sym, ap, subst, ◌∙◌, inl, inr, append_assoc, append-nil, map}
+use Rattle.std.proofs.Common.{◌≡◌, ℕ, Bool, false, cond, List, [], ◌∷◌, ◌++◌, None, Some, Ok, Err, refl, sym, ap, subst, ◌∙◌, inl, inr, append_assoc, append-nil, map}
 use Rattle.std.specs.Prelude.{OnOk, OnErr}
 use Rattle.std.specs.declared.option.Option.{Option}
 use Rattle.std.specs.declared.result.Result.{Result}
@@ -146,13 +146,6 @@ asking_is part text b is asks = ap (λ l. map line_of_text (cond (is_asking l) (
 -- it asks nothing
 pub Does-quiet : (part text : List ℕ) (c : ClusterView) (x : Option (List ℕ)) → text ≡ strip_carriage_return part → is_asking text ≡ false → Does (asking part) c c x x
 Does-quiet part text c x is quiet = subst (λ ls. Does ls c c x x) (sym (asking_is part text false is quiet)) (Ran-none [] c x)
-
--- it asks
-pub Does-asking : (part text : List ℕ) (a b : ClusterView) (x y : Option (List ℕ)) → text ≡ strip_carriage_return part → is_asking text ≡ true → Does (line_of_text text ∷ []) a b x y → Does (asking part) a b x y
-Does-asking part text a b x y is asks p = subst (λ ls. Does ls a b x y) (sym (asking_is part text true is asks)) p
-
-pub Cuts-asking : (part text : List ℕ) (a b : ClusterView) (x y : Option (List ℕ)) → text ≡ strip_carriage_return part → is_asking text ≡ true → Cuts (line_of_text text ∷ []) a b x y → Cuts (asking part) a b x y
-Cuts-asking part text a b x y is asks p = subst (λ ls. Cuts ls a b x y) (sym (asking_is part text true is asks)) p
 
 -- ---- what writes do
 

@@ -1,5 +1,5 @@
 -- Texts that are written one after another.
-use Rattle.std.proofs.Common.{◌≡◌, ◌≤◌, ◌<◌, ℕ, ◌+◌, List, [], ◌∷◌, ◌++◌, Ok, Err, refl, sym, ap, subst, ◌∙◌, append_assoc, append-nil, take, drop, get_or, length, flat_map, arith}
+use Rattle.std.proofs.Common.{◌≡◌, ◌≤◌, ◌<◌, ℕ, ◌+◌, List, [], ◌∷◌, ◌++◌, Ok, Err, sym, ap, subst, ◌∙◌, append_assoc, append-nil, take, drop, get_or, length, flat_map}
 use Rattle.std.specs.Prelude.{IsErrAnd, ◌⊎◌}
 use Rattle.std.specs.declared.option.Option.{Option}
 use Rattle.std.specs.declared.result.Result.{Result}
@@ -10,7 +10,7 @@ use Rattle.std.proofs.lemmas.Result.{on_ok_weaker, on_err_weaker}
 use Rattle.hx_ports.specs.Causes.{Rose}
 use Rattle.hx_ports.specs.Views.{SinkView}
 use Rattle.hx_script.specs.Running.{IsCalm, Said, SaysText, WriteCause, WritesFront}
-use Rattle.hx_script.proofs.Running.{Appends-nil, Appends-trans, calm_on}
+use Rattle.hx_script.proofs.Running.{Appends-trans, calm_on}
 
 -- ---- fronts
 
@@ -31,19 +31,8 @@ cause_after a b c r p q =
 
 -- ---- texts
 
--- nothing was written
-pub Said-none : (a : SinkView) → Said [] a a
-Said-none a = record { calm = record { faults = refl; stalls = refl }; wrote = Appends-nil a.written }
-
 pub Said-of : {T E : Type 0} (s : List ℕ) (a b : SinkView) (v : T) → SaysText {T = T} {E = E} s a b (Ok v) → Said s a b
 Said-of s a b v p = record { calm = p.cause.still; wrote = p.whole }
-
-pub Said-then : (s t : List ℕ) (a b c : SinkView) → Said s a b → Said t b c → Said (s ++ t) a c
-Said-then s t a b c p q = record { calm = calm_on a b c p.calm q.calm; wrote = Appends-trans a.written b.written c.written s t p.wrote q.wrote }
-
--- all was written
-pub SaysText-said : {T E : Type 0} (s : List ℕ) (a b : SinkView) (v : T) → Said s a b → SaysText {T = T} {E = E} s a b (Ok v)
-SaysText-said s a b v p = record { whole = p.wrote; cut = tt; cause = record { later = omega (arith, p.calm.faults); longer = omega (arith, p.calm.stalls); failed = tt; still = p.calm } }
 
 -- one text after another
 pub SaysText-after : {T E : Type 0} (s t : List ℕ) (a b c : SinkView) (r : Result T E) → Said s a b → SaysText t b c r → SaysText (s ++ t) a c r
@@ -71,10 +60,6 @@ step : {A : Type 0} (f : A → List ℕ) (xs : List A) (i : ℕ) (d : A) → i <
 step f xs i d h =
     let rest = flat_map f (drop (i + 1) xs) in
     ap (flat_map f) (sym (take-append-drop (i + 1) xs)) ∙ flat_map-append f (take (i + 1) xs) (drop (i + 1) xs) ∙ ap (λ l. l ++ rest) (more f xs i d h) ∙ append_assoc (flat_map f (take i xs)) (f (get_or xs i d)) rest
-
--- the next one was written
-pub Said-next : {A : Type 0} (f : A → List ℕ) (xs : List A) (i : ℕ) (d : A) (a b c : SinkView) → i < length xs → Said (flat_map f (take i xs)) a b → Said (f (get_or xs i d)) b c → Said (flat_map f (take (i + 1) xs)) a c
-Said-next f xs i d a b c h p q = subst (λ l. Said l a c) (sym (more f xs i d h)) (Said-then (flat_map f (take i xs)) (f (get_or xs i d)) a b c p q)
 
 -- it failed
 pub SaysText-stop : {A T U E F : Type 0} (P : F → Type 0) (f : A → List ℕ) (xs : List A) (i : ℕ) (d : A) (a b c : SinkView) (e : E) (r : Result U F) → IsErrAnd r P → i < length xs → Said (flat_map f (take i xs)) a b → SaysText {T = T} (f (get_or xs i d)) b c (Err e) → SaysText (flat_map f xs) a c r

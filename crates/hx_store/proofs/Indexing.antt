@@ -88,11 +88,6 @@ pub add_there : {X Y : Type 0} (old new : ByName) (w : Write) (id : Id) (r : Res
 add_there old new w id (Ok _) same edits = entry_there old new w (subst (λ i. EditsPlaces made (turned_places old) (turned_places new) (turned i)) same edits)
 add_there old new w id (Err _) same edits = tt
 
--- what puts neither awaits nothing
-pub none_put : (by_name : ByName) (w : Write) → is_some (indexed_in (object_of w)) ≡ false → HasEntry by_name w
-none_put by_name (Put x) none = λ indexed. absurd (true≢false (sym (ap (λ b. is_some (cond b (Some x) None)) indexed) ∙ none))
-none_put by_name (Cut id) none = tt
-
 -- ---- a write
 
 and_turned : (a b c : Bool) → (a && b && c) ≡ (a && c && b)

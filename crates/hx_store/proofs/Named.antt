@@ -170,19 +170,3 @@ anchor_kind _ = refl
 or_true : (b : Bool) → (b || true) ≡ true
 or_true true = refl
 or_true false = refl
-
-only_name : (a b c d : Bool) → a ≡ d → (a && b && (c || d)) ≡ (d && b)
-only_name true b c true same = ap (λ e. b && e) (or_true c) ∙ and_true b
-only_name false b c false same = refl
-only_name true b c false same = absurd (true≢false same)
-only_name false b c true same = absurd (true≢false (sym same))
-
-flip_text : (a b : List ℕ) → bytes_eq a b ≡ bytes_eq b a
-flip_text a b = both_ways (bytes_eq a b) (bytes_eq b a)
-    (λ h. (bytes_eq-Decides b a).1 (sym ((bytes_eq-Decides a b).0 h)))
-    (λ h. (bytes_eq-Decides a b).1 (sym ((bytes_eq-Decides b a).0 h)))
-
-pub anchors_alone : (name : List ℕ) (objects : List Object) → filter (is_indexed_of SubnamespaceAnchor name) objects ≡ filter (is_anchor_of name) objects
-anchors_alone name objects = filter_agree (is_indexed_of SubnamespaceAnchor name) (is_anchor_of name)
-    (λ x. only_name (number_of SubnamespaceAnchor == number_of x.id.kind) (bytes_eq x.id.name name) (is_source x) (is_anchor x.id.kind) (anchor_kind x.id.kind)
-    ∙ ap (λ b. is_anchor x.id.kind && b) (flip_text x.id.name name)) objects
