@@ -3,10 +3,10 @@ use Rattle.hnc.proofs.Leaving.{Starts, starts_on, not_done, of_run-front, of_run
 use Rattle.hnc.specs.Headline.{is_cut_short}
 use Rattle.hnc.proofs.top.top.Given.{Over}
 use Rattle.hnc.proofs.top.top.Goals as goal
-use Rattle.hnc.proofs.top.top.Goals.{After-drop-db-inside-2}
+use Rattle.hnc.proofs.top.top.Goals.{After-drop-db-2}
 
 -- what the run stands on
-started : (g : Over) (c : After-drop-db-inside-2 g) → Starts c.in-Ok.run' (g.K.Keeper.shown c.args.keeper) c.in-Ok-start.cluster
+started : (g : Over) (c : After-drop-db-2 g) → Starts c.in-Ok.run' (g.K.Keeper.shown c.args.keeper) c.in-Ok-start.cluster
 started g c =
     let attached = c.in_default.ensures in
     let begun = c.in-Ok-start.ensures in
