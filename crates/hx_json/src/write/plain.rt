@@ -1,57 +1,50 @@
-// Whether a text needs no escape, 16 or 8 bytes at a step. The last step may look again at bytes of the one before.
-ghost use Rattle.std.specs.Prelude.{◌≡◌, ◌+◌, ◌≤◌, length};
+// How far a text wants no escape, 16 bytes at a step.
+ghost use Rattle.std.specs.Prelude.{◌≡◌, ◌+◌, ◌<◌, ◌≤◌, ℕ, length};
 ghost use Rattle.std.specs.Bool.{OnTrue};
-ghost use Rattle.json.specs.Print.{escape};
+ghost use Rattle.std.specs.List.{prefix_len};
+ghost use Rattle.json.specs.Run.{is_plain};
 ghost use Rattle.json.specs.Written.{PlainBetween};
 
 use std::simd::prelude::*;
 
-/// Whether none of the bytes wants an escape.
-pub(super) fn is_plain(bytes: &[u8]) -> bool
-    ensures { OnTrue result (escape bytes.now ≡ bytes.now) }
+/// How many bytes at the front want no escape.
+pub(super) fn plain_len(bytes: &[u8]) -> usize
+    ensures { result ≡ prefix_len is_plain bytes.now }
 {
-    are_plain(bytes)
-}
-
-#[inline(always)]
-fn are_plain(bytes: &[u8]) -> bool
-    ensures { OnTrue result (PlainBetween bytes.now 0 (length bytes.now)) }
-{
-    if bytes.len() >= 16 {
-        is_long_plain(bytes)
-    } else if bytes.len() >= 8 {
-        are_8_plain(bytes, 0) && are_8_plain(bytes, bytes.len() - 8)
-    } else {
-        is_short_plain(bytes)
-    }
-}
-
-#[inline(always)]
-fn is_long_plain(bytes: &[u8]) -> bool
-    requires { 16 ≤ length bytes.now }
-    ensures { OnTrue result (PlainBetween bytes.now 0 (length bytes.now)) }
-{
-    let last = bytes.len() - 16;
     let mut at = 0;
-    while at < last {
-        if !are_16_plain(bytes, at) {
-            return false;
-        }
+    while bytes.len() - at >= 16 && are_16_plain(bytes, at) {
         at += 16;
     }
-    are_16_plain(bytes, last)
+    if bytes.len() - at < 16 && is_end_plain(bytes) {
+        return bytes.len();
+    }
+    while bytes.len() - at >= 8 && are_8_plain(bytes, at) {
+        at += 8;
+    }
+    while at < bytes.len() && wants_no_escape(bytes[at]) {
+        at += 1;
+    }
+    at
+}
+
+/// Whether the last 16 bytes want no escape, or all of fewer. Two looks that overlap serve for 8 to 15, and of fewer than 8 it isn't told.
+#[inline(always)]
+fn is_end_plain(bytes: &[u8]) -> bool
+    ensures { OnTrue result ((i : ℕ) → length bytes.now < i + 16 → PlainBetween bytes.now i (length bytes.now)) }
+{
+    let len = bytes.len();
+    if len >= 16 {
+        are_16_plain(bytes, len - 16)
+    } else {
+        len >= 8 && are_8_plain(bytes, 0) && are_8_plain(bytes, len - 8)
+    }
 }
 
 #[inline(always)]
-fn is_short_plain(bytes: &[u8]) -> bool
-    ensures { OnTrue result (PlainBetween bytes.now 0 (length bytes.now)) }
+fn wants_no_escape(byte: u8) -> bool
+    ensures { result ≡ is_plain byte }
 {
-    for &byte in bytes {
-        if byte == b'"' || byte == b'\\' || byte < 32 {
-            return false;
-        }
-    }
-    true
+    !(byte == b'"' || byte == b'\\' || byte < 32)
 }
 
 #[inline(always)]

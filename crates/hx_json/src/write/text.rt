@@ -7,7 +7,7 @@ ghost use Rattle.serde_json.specs.Written.{comma_if};
 ghost use Rattle.hx_object.specs.Kinds.{name_of, api_version_of};
 ghost use Rattle.hx_object.specs.Quantities.{quantity_text};
 
-use super::plain::is_plain;
+use super::plain::plain_len;
 use hx_object::{Kind, NoMemory, Text};
 use hx_quantity::print;
 use itoa::Buffer;
@@ -93,24 +93,21 @@ pub fn push_named_amount(out: &mut String, name: &str, amount: u128) -> Result<(
     push_named_text(out, name, &text)
 }
 
-/// Appends what stands between quotes for a text.
+/// Appends what stands between quotes for a text: what wants no escape as it stands, and each character that wants one.
 fn push_inside(out: &mut String, text: &str) -> Result<(), NoMemory>
     ensures { OnOk result (string_bytes out.new ≡ string_bytes out.old ++ escape text.now) }
 {
-    if is_plain(text.as_bytes()) {
-        push(out, text)
-    } else {
-        push_escaped(out, text)
-    }
-}
-
-fn push_escaped(out: &mut String, text: &str) -> Result<(), NoMemory>
-    ensures { OnOk result (string_bytes out.new ≡ string_bytes out.old ++ escape text.now) }
-{
-    for c in text.chars() {
+    let mut rest = text;
+    loop {
+        let (plain, after) = rest.split_at(plain_len(rest.as_bytes()));
+        push(out, plain)?;
+        let mut chars = after.chars();
+        let Some(c) = chars.next() else {
+            return Ok(());
+        };
         push_char(out, c)?;
+        rest = chars.as_str();
     }
-    Ok(())
 }
 
 #[tactic(auto, using(crate::proofs::Escapes::high_char, crate::proofs::Escapes::plain_char), unfolding(json::specs::Print::escape_byte))]

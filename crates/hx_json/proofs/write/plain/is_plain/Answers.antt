@@ -1,5 +1,0 @@
-use Rattle.json.proofs.Printed.Plain.{escape_on_plain}
-use Rattle.hx_json.proofs.write.plain.is_plain.Goals as goal
-
-pub returns : goal.returns
-returns c = escape_on_plain c.are_plain.result c.args.bytes.now c.are_plain.ensures
