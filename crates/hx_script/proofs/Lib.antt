@@ -1,4 +1,5 @@
 mod Numbers
+mod Spaces
 mod Texts
 mod Ends
 mod Simulating

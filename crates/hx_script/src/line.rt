@@ -2,13 +2,12 @@
 ghost use Rattle.std.specs.Prelude.{◌≡◌, ◌⊎◌, IfOk, IfErr, Ok, Err, Result, option_copied};
 ghost use Rattle.hx_model.specs.Serving.{IsServedAsk};
 ghost use Rattle.hx_script.specs.Lines.{line_of_text};
-ghost use Rattle.hx_script.specs.Words.{rest_of};
 ghost use Rattle.hx_script.specs.Workers.{worker_order};
 ghost use Rattle.hx_script.specs.Forms.{method_of, takes_body, body_of, target_of, request_in, asking_for, turning, reading_of_bytes, reading_of_text, reading_of};
 ghost use Rattle.hx_script.specs.Inside.{IsServedOrder, IsUnread};
 
 use crate::order::Order;
-use crate::words::{rest_of, word_of};
+use crate::words::cut;
 use crate::worker::worker_order;
 use hx_api::{Method, RequestReader};
 use hx_model::{Ask, Refusal};
@@ -56,9 +55,10 @@ fn read_text(reader: &mut RequestReader, alloc: Global, text: &str) -> Result<Or
     ensures served { IfOk result IsServedOrder }
     ensures unread { IfErr result (λ unread. IsUnread (reading_of_text text.now) unread) }
 {
-    match method_of(word_of(text)) {
+    let (word, rest) = cut(text);
+    match method_of(word) {
         None => read_turn(alloc, text),
-        Some(method) => asked(read_request(reader, method, text)),
+        Some(method) => asked(read_request(reader, method, rest)),
     }
 }
 
@@ -91,15 +91,20 @@ fn asked(ask: Result<Ask, Refusal>) -> Result<Order, Unread>
 }
 
 /// What the method of a line and what follows it ask.
-fn read_request(reader: &mut RequestReader, method: Method, text: &str) -> Result<Ask, Refusal>
-    ensures asks { IfOk result (λ ask. request_in method (rest_of text.now) ≡ Ok ask) }
-    ensures refused { IfErr result (λ refusal. (refusal ≡ Refusal.NoMemory) ⊎ (request_in method (rest_of text.now) ≡ Err refusal)) }
+fn read_request(
+    reader: &mut RequestReader,
+    method: Method,
+    rest: Option<&str>,
+) -> Result<Ask, Refusal>
+    ensures asks { IfOk result (λ ask. request_in method (option_copied rest.entry) ≡ Ok ask) }
+    ensures refused { IfErr result (λ refusal. (refusal ≡ Refusal.NoMemory) ⊎ (request_in method (option_copied rest.entry) ≡ Err refusal)) }
     ensures served { IfOk result IsServedAsk }
 {
-    let Some(rest) = rest_of(text) else {
+    let Some(rest) = rest else {
         return Err(Refusal::BadLine);
     };
-    let Some(target) = target_of(word_of(rest)) else {
+    let (word, rest) = cut(rest);
+    let Some(target) = target_of(word) else {
         return Err(Refusal::BadLine);
     };
     let Some(body) = body_of(method, rest) else {
@@ -130,11 +135,11 @@ fn target_of(text: &str) -> Option<&str>
     }
 }
 
-/// The body that follows the first word, where the method may have it.
-fn body_of(method: Method, text: &str) -> Option<&str>
-    ensures { option_copied result ≡ body_of method (rest_of text.now) }
+/// The body that follows the target, where the method may have it.
+fn body_of(method: Method, rest: Option<&str>) -> Option<&str>
+    ensures { option_copied result ≡ body_of method (option_copied rest.entry) }
 {
-    match rest_of(text) {
+    match rest {
         None => Some(""),
         Some(body) => { if takes_body(method) { Some(body) } else { None } }
     }

@@ -4,28 +4,41 @@ ghost use Rattle.std.specs.List.{list_all};
 ghost use Rattle.std.specs.Str.Parse.{digits_value};
 ghost use Rattle.hx_object.specs.Names.{is_digit};
 ghost use Rattle.hx_model.specs.First.{so};
-ghost use Rattle.hx_script.specs.Words.{word_of, rest_of, is_short_decimal, has_no_leading_zero, is_number};
+ghost use Rattle.hx_script.specs.Words.{first_space, word_of, rest_of, is_short_decimal, has_no_leading_zero, is_number};
+
+use memchr::memchr;
 
 /// The first word.
-#[tactic(auto, unfolding(crate::specs::Words::word_of))]
 pub fn word_of(text: &str) -> &str
     ensures { result.now ≡ word_of text.now }
 {
-    match text.split_once(' ') {
-        Some((word, _)) => word,
-        None => text,
-    }
+    cut(text).0
 }
 
 /// What follows the first word and its space, where there is a space.
-#[tactic(auto, unfolding(crate::specs::Words::rest_of))]
 pub fn rest_of(text: &str) -> Option<&str>
     ensures { option_copied result ≡ rest_of text.now }
 {
-    match text.split_once(' ') {
-        Some((_, rest)) => Some(rest),
-        None => None,
+    cut(text).1
+}
+
+/// The first word, and what follows it and its space, where there is a space.
+#[tactic(auto, unfolding(crate::specs::Words::word_of, crate::specs::Words::rest_of))]
+pub fn cut(text: &str) -> (&str, Option<&str>)
+    ensures word { result.0.now ≡ word_of text.now }
+    ensures rest { option_copied result.1 ≡ rest_of text.now }
+{
+    match first_space(text) {
+        Some(space) => (&text[..space], Some(&text[space + 1..])),
+        None => (text, None),
     }
+}
+
+/// Where the first space is.
+fn first_space(text: &str) -> Option<usize>
+    ensures { result ≡ first_space text.now }
+{
+    memchr(b' ', text.as_bytes())
 }
 
 /// The number that a text is in decimal, without a leading zero, where it lies within the bounds. It has at most ten digits.
