@@ -82,7 +82,7 @@ def measure(program, length):
     rounds = [[store.round() for store in (small, large)] for _ in range(ROUNDS)]
     for store in (small, large):
         store.close()
-    times = {"POST": times} | {kind: [[one[kind], other[kind]] for one, other in rounds] for kind in rounds[0][0]}
+    times = {"POST": times, **{kind: [[one[kind], other[kind]] for one, other in rounds] for kind in rounds[0][0]}}
     return {kind: report(f"{kind}, values of {length} bytes", NAMES, columns, PART) for kind, columns in times.items()}
 
 
