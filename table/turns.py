@@ -366,6 +366,8 @@ STORIES = [
     ("a parent that leaves is told", [*TREE, "POST! namespace c", "POST! hierarchy c parent=b"], ("report b", "report c"), "finish", ["DELETE namespace a", "PUT! namespace c label:tier=x", "DELETE! hierarchy b"]),
     ("a missing anchor is told", SUBNAMESPACE, ("report b", "report a"), "finish", ["DELETE! anchor a/b", "POST anchor a/b", "DELETE namespace a"]),
     ("a parent that goes is told", [*TREE, "DELETE namespace a"], ("report b", "purge a"), "finish", ["POST! role b/r verb=get", "PUT! hierarchy b", "POST! namespace a"]),
+    ("what tells of its children leaves", [*TREE, "POST! namespace c", "POST! hierarchy c parent=b", "DELETE namespace b"], ("report b", "purge b"), "finish", ["DELETE! hierarchy c", "DELETE! hierarchy b", "PUT! hierarchy b cascade=true"]),
+    ("an anchor leaves with its namespace", [*TREE, "POST anchor b/c"], ("anchor b c", "purge b"), "finish", ["DELETE namespace b", "POST! namespace c", "DELETE anchor b/c"]),
     ("what is used changes", COUNTED, ("used a q", "used a q"), "finish", ["POST! pod b/y", "DELETE! pod b/x", "PUT! quota a/q pods=1"]),
     ("what is used is passed", [*COUNTED, "POST! quota b/q pods=1"], ("used a q", "used b q"), "drop", ["POST! pod b/y", "POST! pod a/y", "POST! pod a/z"]),
     ("what is used moves", COUNTED, ("used a q", "report a"), "finish", ["DELETE! hierarchy b", "POST! pod b/y", "POST! hierarchy b parent=a"]),
