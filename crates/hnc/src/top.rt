@@ -77,6 +77,7 @@ pub fn top<S: Source, W: Sink, K: Keeper>(
     ensures write_fault { result.status ≡ Status.WriteFault → Rose (W.shown sink.old).faults (W.shown sink.new).faults ⊎ Rose (W.shown sink.old).stalls (W.shown sink.new).stalls }
     ensures keeper_fault { result.status ≡ Status.KeeperFault → Rose (K.shown keeper).faults (K.shown result.keeper).faults }
     ensures damaged { result.status ≡ Status.Damaged → IsSomeAnd result.damaged_row (λ row. IfSome (K.shown keeper).kept (λ held. IsDamagedAt held row)) }
+    ensures whole { result.status ≢ Status.Damaged → result.damaged_row ≡ None }
     ensures too_long { result.status ≡ Status.TooLong → OfRun (run_of (map string_bytes words.now)) (S.shown source.old) (λ run script. (most_bytes < length script) × LeavesFront run script (W.shown sink.old) (W.shown sink.new) (K.shown keeper) (K.shown result.keeper)) }
     ensures unasked { result.status ≡ Status.Usage → result.keeper ≡ keeper }
     ensures calm { result.status ≡ Status.Done → ((S.shown source.new).faults ≡ (S.shown source.old).faults) × IsCalm (W.shown sink.old) (W.shown sink.new) }
@@ -110,7 +111,7 @@ pub fn top<S: Source, W: Sink, K: Keeper>(
 
 /// The end of a command that found no damaged row.
 fn end_with<K>(status: Status, keeper: K) -> Ended<K>
-    ensures { (result.status ≡ status) × (result.keeper ≡ keeper) }
+    ensures { (result.status ≡ status) × (result.keeper ≡ keeper) × (result.damaged_row ≡ None) }
 {
     Ended {
         status,
@@ -148,6 +149,7 @@ fn status_of_start(fault: StartFault) -> Status
     ensures keeper_fault { result ≡ Status.KeeperFault → fault ≡ StartFault.KeeperFault }
     ensures damaged { result ≡ Status.Damaged → (row : ℕ) × (fault ≡ StartFault.Damaged row) }
     ensures memory { result ≡ Status.NoMemory → fault ≡ StartFault.NoMemory }
+    ensures told { (row : ℕ) → fault ≡ StartFault.Damaged row → result ≡ Status.Damaged }
 {
     match fault {
         StartFault::KeeperFault => Status::KeeperFault,
@@ -158,7 +160,8 @@ fn status_of_start(fault: StartFault) -> Status
 
 /// The row that a start found damaged.
 fn damaged_row_of(fault: StartFault) -> Option<u64>
-    ensures { (row : ℕ) → fault ≡ StartFault.Damaged row → result ≡ Some row }
+    ensures damaged { (row : ℕ) → fault ≡ StartFault.Damaged row → result ≡ Some row }
+    ensures whole { ((row : ℕ) → fault ≡ StartFault.Damaged row → ⊥) → result ≡ None }
 {
     match fault {
         StartFault::Damaged { row } => Some(row),
