@@ -11,7 +11,7 @@ const SAID: &str =
     r#"{"metadata":{"name":"x","resourceVersion":"7"},"kind":"ConfigMap","data":1,"apiVersion":"v1"}"#;
 
 /// What reading it gives.
-fn read(alloc: Global) -> Result<Read, JsonFault>
+pub fn read(alloc: Global) -> Result<Read, JsonFault>
     ensures { IfOk result (λ r. IsLegal r.object) }
 {
     let ns = Text::of(alloc, "a")?;

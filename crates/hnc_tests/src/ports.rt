@@ -1,8 +1,10 @@
 // Adapters over std's streams, and a keeper in memory.
 ghost use Rattle.std.specs.Prelude.{◌≤◌, IfOk};
+ghost use Rattle.hx_ports.specs.Keeping.{IsPut};
 
-use hx_object::List;
-use hx_ports::{Batch, Keeper, MemKeeper, Meta, Row, Sink, Source, StdSink, StdSource};
+use crate::bodies::read;
+use hx_object::{List, NoMemory, Shared, Text};
+use hx_ports::{Batch, Keeper, MemKeeper, Meta, PutRow, Row, Sink, Source, StdSink, StdSource};
 use std::alloc::{AllocError, Global};
 use std::hash::RandomState;
 use std::io;
@@ -99,6 +101,23 @@ fn row(alloc: Global, key: &str) -> Result<Row, AllocError> {
     })
 }
 
+// The row of an object that a body says.
+fn put(alloc: Global, key: &str) -> Result<PutRow, NoMemory>
+    ensures { IfOk result IsPut }
+{
+    let key = Text::of(alloc, key)?;
+    let Ok(said) = read(alloc) else {
+        return Err(NoMemory);
+    };
+    if said.object.version > 5 {
+        return Err(NoMemory);
+    }
+    Ok(PutRow {
+        key: key.into_bytes(),
+        object: Shared::new(alloc, said.object)?,
+    })
+}
+
 // A keeper of the rows b and d, of version 4, with e put and b cut.
 fn changed(alloc: Global, keys: RandomState) -> Result<MemKeeper, Fail> {
     let meta = Meta {
@@ -111,7 +130,7 @@ fn changed(alloc: Global, keys: RandomState) -> Result<MemKeeper, Fail> {
     keeper.attach("")?;
     let batch = Batch {
         version: 5,
-        puts: List::of(Vec::from_array(alloc, [row(alloc, "e")?])?),
+        puts: List::of(Vec::from_array(alloc, [put(alloc, "e")?])?),
         cuts: List::of(Vec::from_array(alloc, [text(alloc, "b")?])?),
     };
     keeper.commit(batch)?;

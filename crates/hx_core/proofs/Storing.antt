@@ -18,7 +18,7 @@ use Rattle.hx_object.specs.Texts.{bytes_cmp}
 use Rattle.hx_object.specs.declared.object.Id.{Id}
 use Rattle.hx_object.specs.declared.object.Object.{Object}
 use Rattle.hx_object.specs.Json.{object_text}
-use Rattle.hx_ports.specs.Keeping.{Kept, Rows, Lands, with_batch, with_puts, with_cuts, keys_of, IsRow, IsBatch, MayFollow, greatest_version}
+use Rattle.hx_ports.specs.Keeping.{Kept, Rows, Lands, with_batch, with_puts, with_cuts, keys_of, IsPut, IsBatch, MayFollow, greatest_version}
 use Rattle.hx_ports.specs.declared.keeper.Batch.{Batch}
 use Rattle.hx_model.specs.State.{State, Objects, object_at, put, cut, after_writes, state_after, same_id}
 use Rattle.hx_model.specs.Texts.{rows_of_objects, key_text}
@@ -32,7 +32,7 @@ use Rattle.hx_model.proofs.Storing.{All-found, All-put, All-cut, HasNoSlash, IsK
 use Rattle.hx_model.proofs.Writes.{key_apart}
 use Rattle.hx_core.specs.Committing.{IsPrepared}
 use Rattle.hx_core.specs.Refinement.{kept_of}
-use Rattle.hx_core.specs.Rows.{rows_put, keys_cut, batch_of, IsRowOfTexts, IsOfTexts}
+use Rattle.hx_core.specs.Rows.{rows_put, keys_cut, batch_of, HasTextKey, HasTextKeys}
 
 -- ---- legal objects
 
@@ -87,12 +87,12 @@ batch_distinct ws keyed distinct =
 
 -- ---- batches
 
--- the rows have keys and bodies of text, and the next version
-rows_right : (s : State) (ws : List Write) → s.last + 1 ≤ greatest_version → AllByRecursion (MayWrite s) ws → AllByRecursion IsRowOfTexts (rows_put ws) → AllByRecursion IsRow (rows_put ws)
-rows_right s [] fits may texts = tt
-rows_right s (Put x ∷ ws) fits may texts =
-    (record { key = texts.0.key; body = texts.0.body; version = subst (λ v. v ≤ greatest_version) (sym may.0.next) fits }, rows_right s ws fits may.1 texts.1)
-rows_right s (Cut id ∷ ws) fits may texts = rows_right s ws fits may.1 texts
+-- the rows have keys of text, and legal objects of the next version
+rows_right : (s : State) (ws : List Write) → s.last + 1 ≤ greatest_version → AllByRecursion (MayWrite s) ws → AllByRecursion HasTextKey (rows_put ws) → AllByRecursion IsPut (rows_put ws)
+rows_right s [] fits may keys = tt
+rows_right s (Put x ∷ ws) fits may keys =
+    (record { key = keys.0; legal = may.0.served.legal; version = subst (λ v. v ≤ greatest_version) (sym may.0.next) fits }, rows_right s ws fits may.1 keys.1)
+rows_right s (Cut id ∷ ws) fits may keys = rows_right s ws fits may.1 keys
 
 -- the version of the writes fits
 pub next_fits : (s : State) (ws : List Write) → MayWriteAll s ws → ws ≢ [] → s.last + 1 ≤ greatest_version
@@ -100,13 +100,13 @@ next_fits s ws may some = let less : s.last < greatest_version = may.fits some i
 
 pub is_batch : (s : State) (ws : List Write) (batch : Batch) → IsValid s → IsPrepared s ws batch → IsBatch batch
 is_batch s ws batch valid ready =
-    let texts = subst IsOfTexts ready.is ready.texts in
+    let keys = subst HasTextKeys ready.is ready.keys in
     let fits = next_fits s ws ready.may ready.some in
     let right : IsBatch (batch_of ws (s.last + 1)) = record {
       distinct = batch_distinct ws (writes_keyed s ws valid ready.may.each) ready.may.distinct;
       version = fits;
-      puts = rows_right s ws fits ready.may.each texts.puts;
-      cuts = texts.cuts;
+      puts = rows_right s ws fits ready.may.each keys.puts;
+      cuts = keys.cuts;
     } in
     subst IsBatch (sym ready.is) right
 

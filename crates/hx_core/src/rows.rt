@@ -1,31 +1,27 @@
 // The rows of objects.
 ghost use Rattle.std.specs.Prelude.{◌≡◌, IfOk};
-ghost use Rattle.std.specs.List.{AllByRecursion};
-ghost use Rattle.hx_object.specs.Faults.{IsLegal};
 ghost use Rattle.hx_object.specs.Kinds.{number_of};
 ghost use Rattle.hx_model.specs.Texts.{key_text, two_digits};
-ghost use Rattle.hx_core.specs.Rows.{row_of, batch_of, IsLegalWrite, IsRowOfTexts, IsOfTexts};
+ghost use Rattle.hx_core.specs.Rows.{row_put, batch_of, HasTextKey, HasTextKeys};
 
-use hx_json::write_object;
-use hx_object::{Id, Kind, List, NoMemory, Object, Text};
-use hx_ports::{Batch, Row};
+use hx_object::{Id, Kind, List, NoMemory, Shared, Text};
+use hx_ports::{Batch, PutRow};
 use hx_store::Change;
 use std::alloc::Global;
 
 /// The schema of the rows.
 pub const SCHEMA: u64 = 2;
 
-/// The batch of writes that have this version. The text of each object is made here, and moves into the keeper.
+/// The batch of writes that have this version. The keeper gets the objects themselves, and writes their texts where it wants them.
 pub fn batch_of(alloc: Global, writes: &[Change], version: u64) -> Result<Batch, NoMemory>
-    requires { AllByRecursion IsLegalWrite writes.now }
     ensures batch { IfOk result (λ batch. batch ≡ batch_of writes.now version) }
-    ensures texts { IfOk result IsOfTexts }
+    ensures keys { IfOk result HasTextKeys }
 {
     let mut puts = Vec::new(alloc);
     let mut cuts = Vec::new(alloc);
     for change in writes {
         match change.object() {
-            Some(object) => puts.push(row_of(alloc, object.object())?)?,
+            Some(object) => puts.push(row_put(alloc, object)?)?,
             None => cuts.push(key_of(alloc, change.id())?.into_bytes())?,
         }
     }
@@ -36,24 +32,17 @@ pub fn batch_of(alloc: Global, writes: &[Change], version: u64) -> Result<Batch,
     })
 }
 
-/// The row of an object.
-fn row_of(alloc: Global, object: &Object) -> Result<Row, NoMemory>
-    requires { IsLegal object.now }
-    ensures row { IfOk result (λ row. row ≡ row_of object.now) }
-    ensures texts { IfOk result IsRowOfTexts }
+/// The row of an object that is put.
+fn row_put(alloc: Global, object: &Shared) -> Result<PutRow, NoMemory>
+    ensures put { IfOk result (λ put. put ≡ row_put object.now) }
+    ensures key { IfOk result HasTextKey }
 {
-    let key = key_of(alloc, &object.id)?;
-    match write_object(alloc, object) {
-        Ok(body) => Ok(Row {
-            key: key.into_bytes(),
-            version: object.version,
-            body: body.into_bytes(),
-        }),
-        Err(NoMemory) => {
-            drop(key);
-            Err(NoMemory)
-        }
-    }
+    let key = key_of(alloc, &object.object().id)?;
+    let object = object.share()?;
+    Ok(PutRow {
+        key: key.into_bytes(),
+        object,
+    })
 }
 
 /// The key of an object's row.

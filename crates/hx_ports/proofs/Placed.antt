@@ -188,6 +188,32 @@ lay_rows-step old new row before after rows is put so_far =
     ap (onto (entries_of new)) put ∙ sym (onto-push (entries_of new) (entry_of row) before)
     ∙ ap (λ es. onto es before) (sym (map-append entry_of new (row ∷ [])) ∙ ap entries_of (sym is)) ∙ so_far
 
+left_of : (a b : Bool) → (a && b) ≡ true → a ≡ true
+left_of true b h = refl
+left_of false b h = h
+
+right_of : (a b : Bool) → (a && b) ≡ true → b ≡ true
+right_of true b h = h
+right_of false b h = cc
+
+below-init : (q : List ℕ) (es : List Entry) (e : Entry) → below_all bytes_cmp q (es ++ e ∷ []) ≡ true → below_all bytes_cmp q es ≡ true
+below-init q [] e h = refl
+below-init q (f ∷ es) e h =
+    let first = left_of (is_lt (bytes_cmp q f.0)) (below_all bytes_cmp q (es ++ e ∷ [])) h in
+    let rest = below-init q es e (right_of (is_lt (bytes_cmp q f.0)) (below_all bytes_cmp q (es ++ e ∷ [])) h) in
+    λ i. first i && rest i
+
+sorted-init : (es : List Entry) (e : Entry) → is_sorted bytes_cmp (es ++ e ∷ []) ≡ true → is_sorted bytes_cmp es ≡ true
+sorted-init [] e h = refl
+sorted-init (f ∷ es) e h =
+    let first = below-init f.0 es e (left_of (below_all bytes_cmp f.0 (es ++ e ∷ [])) (is_sorted bytes_cmp (es ++ e ∷ [])) h) in
+    let rest = sorted-init es e (right_of (below_all bytes_cmp f.0 (es ++ e ∷ [])) (is_sorted bytes_cmp (es ++ e ∷ [])) h) in
+    λ i. first i && rest i
+
+-- rows without their last one still ascend
+pub lay_rows-ascends : (old new : List Row) (row : Row) → old ≡ new ++ row ∷ [] → is_sorted bytes_cmp (entries_of old) ≡ true → is_sorted bytes_cmp (entries_of new) ≡ true
+lay_rows-ascends old new row is up = sorted-init (entries_of new) (entry_of row) (ap (is_sorted bytes_cmp) (sym (ap entries_of is ∙ map-append entry_of new (row ∷ []))) ∙ up)
+
 -- rows over an empty map are their own map
 pub rows_over-empty : (rows : List Row) (held : HeldRows) → held.entries ≡ [] → rows_over rows (rows_in held) ≡ rows_of rows
 rows_over-empty rows held none = ap (λ es. onto (entries_of rows) (from_entries es)) none ∙ onto-empty (entries_of rows)

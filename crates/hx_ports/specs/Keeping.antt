@@ -12,7 +12,10 @@ use Rattle.std.specs.Ordering.{is_lt, eq_by_cmp}
 use Rattle.std.specs.declared.option.Option.{Option}
 use Rattle.std.specs.List.{AllByRecursion, IsDistinct}
 use Rattle.std.specs.FinMap as map
+use Rattle.hx_object.specs.Faults.{IsLegal}
+use Rattle.hx_object.specs.Json.{object_text}
 use Rattle.hx_object.specs.Texts.{bytes_cmp}
+use Rattle.hx_ports.specs.declared.keeper.PutRow.{PutRow}
 use Rattle.hx_ports.specs.declared.keeper.Row.{Row}
 use Rattle.hx_ports.specs.declared.keeper.Batch.{Batch}
 use Rattle.hx_ports.specs.declared.keeper.Meta.{Meta}
@@ -39,10 +42,10 @@ first_behind after rows = option_map row_of_entry (find_first (λ e. is_lt (byte
 abbrev pub row_after : List ℕ → Kept → Option Row
 row_after after kept = first_behind after kept.rows
 
--- the rows with those of a batch, the first one first
-abbrev pub with_puts : List Row → Rows → Rows
+-- the rows with those of a batch, the first one first: each has the version and the text of its object
+abbrev pub with_puts : List PutRow → Rows → Rows
 with_puts [] rows = rows
-with_puts (put ∷ puts) rows = with_puts puts (map.insert rows put.key (put.version, put.body))
+with_puts (put ∷ puts) rows = with_puts puts (map.insert rows put.key (put.object.version, object_text put.object))
 
 -- the rows without those of some keys
 abbrev pub with_cuts : List (List ℕ) → Rows → Rows
@@ -53,26 +56,26 @@ with_cuts (cut ∷ cuts) rows = with_cuts cuts (map.remove rows cut)
 abbrev pub with_batch : Batch → Kept → Kept
 with_batch batch kept = record { schema = kept.schema; version = batch.version; rows = with_cuts batch.cuts (with_puts batch.puts kept.rows) }
 
--- the keys of rows
-abbrev pub keys_of : List Row → List (List ℕ)
+-- the keys of rows that are put
+abbrev pub keys_of : List PutRow → List (List ℕ)
 keys_of [] = []
-keys_of (row ∷ rows) = row.key ∷ keys_of rows
+keys_of (put ∷ puts) = put.key ∷ keys_of puts
 
 -- the greatest version
 abbrev pub greatest_version : ℕ
 greatest_version = 2 ^ 63 - 1
 
--- a row whose key and body are texts, and whose version isn't too great
-pub record IsRow (row : Row) : Type 0 where
-  pub key : IsUtf8 row.key
-  pub body : IsUtf8 row.body
-  pub version : row.version ≤ greatest_version
+-- a row that is put has a text as its key, and a legal object whose version isn't too great
+pub record IsPut (put : PutRow) : Type 0 where
+  pub key : IsUtf8 put.key
+  pub legal : IsLegal put.object
+  pub version : put.object.version ≤ greatest_version
 
 -- a batch of such rows, no key of which stands twice
 pub record IsBatch (batch : Batch) : Type 0 where
   pub distinct : IsDistinct (eq_by_cmp bytes_cmp) (keys_of batch.puts ++ batch.cuts)
   pub version : batch.version ≤ greatest_version
-  pub puts : AllByRecursion IsRow batch.puts
+  pub puts : AllByRecursion IsPut batch.puts
   pub cuts : AllByRecursion IsUtf8 batch.cuts
 
 -- a batch may be put to a keeper that holds this: its version is the next one, and what it cuts is there

@@ -6,8 +6,9 @@ ghost use Rattle.hx_object.specs.Texts.{bytes_cmp};
 ghost use Rattle.hx_ports.specs.Keeping.{first_behind, row_of_entry};
 ghost use Rattle.hx_ports.specs.Rows.{entry_of, entries_of, is_told, lies_behind, rows_over, rows_in};
 
+use crate::held_row::HeldRow;
 use crate::keeper::{Meta, Row, copy_row};
-use crate::row_map::{RowMap, copy_rows, held_row_behind, put_row, sort_rows};
+use crate::row_map::{RowMap, copy_rows, held_row_behind, lay_row, sort_rows};
 use hx_object::{List, NoMemory};
 use std::alloc::Global;
 
@@ -87,15 +88,19 @@ fn order_rows(given: &mut Vec<Row>, held: &mut RowMap) -> Result<(), NoMemory>
     sort_rows(held)
 }
 
-/// Puts the rows of a list into the map, the last one first, so that of those with one key the first stays. Memory is asked for before the first one is put.
+/// Puts the rows of a list into the map, the last one first, so that of those with one key the first stays. Where memory is wanting the others stay in the list.
 pub(crate) fn lay_rows(given: &mut Vec<Row>, held: &mut RowMap) -> Result<(), NoMemory>
     ensures laid { OnOk result (given.new.items ≡ []) }
     ensures same { rows_over given.new.items (rows_in held.new) ≡ rows_over given.old.items (rows_in held.old) }
     ensures ascends { is_sorted bytes_cmp (entries_of given.old.items) ≡ true → is_sorted bytes_cmp (entries_of given.new.items) ≡ true }
 {
     held.reserve(given.len())?;
-    while let Some(row) = given.pop() {
-        put_row(held, row);
+    while !given.is_empty() {
+        let place = HeldRow::place(*held.allocator())?;
+        let Some(row) = given.pop() else {
+            return Ok(());
+        };
+        lay_row(held, row, place);
     }
     Ok(())
 }

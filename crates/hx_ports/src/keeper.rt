@@ -1,10 +1,14 @@
 // Keepers of rows.
 ghost use Rattle.std.specs.Prelude.{◌≡◌, true, false, OnOk, OnErr, IsErrOf, IfSome, IfOk, IsUtf8, None, Some, ◌⊎◌};
+ghost use Rattle.hx_object.specs.Faults.{IsLegal};
+ghost use Rattle.hx_object.specs.Json.{object_text};
 ghost use Rattle.hx_ports.specs.Causes.{KeeperCause};
 ghost use Rattle.hx_ports.specs.Keeping.{meta_of, row_after, IsBatch, MayFollow, Lands};
 ghost use Rattle.hx_ports.specs.Views.{KeeperView, HoldsOn};
 
-use hx_object::{List, NoMemory};
+use hx_json::write_object;
+use hx_object::{List, NoMemory, Shared, Text};
+use std::alloc::Global;
 
 /// Why a keeper refused a call.
 #[derive(Clone, Copy, Debug, PartialEq, Eq)]
@@ -51,11 +55,28 @@ pub struct Meta {
     pub rows: u64,
 }
 
+/// A row that is put: its key, and the object whose version and text it has. Keepers that want the text write it.
+#[derive(Drop)]
+pub struct PutRow {
+    pub key: List<u8>,
+    pub object: Shared,
+}
+
+impl PutRow {
+    /// The text of the object.
+    pub fn body(&self, alloc: Global) -> Result<Text, NoMemory>
+        requires { IsLegal self.now.object }
+        ensures { IfOk result (λ body. body ≡ object_text self.now.object) }
+    {
+        write_object(alloc, self.object.object())
+    }
+}
+
 /// One write: rows that are put in place of those with their keys, and keys whose rows are cut.
 #[derive(Drop)]
 pub struct Batch {
     pub version: u64,
-    pub puts: List<Row>,
+    pub puts: List<PutRow>,
     pub cuts: List<List<u8>>,
 }
 

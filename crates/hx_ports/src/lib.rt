@@ -6,6 +6,7 @@
 #![tactic(auto)]
 
 mod given_rows;
+mod held_row;
 mod keeper;
 mod mem;
 mod row_key;
@@ -15,7 +16,7 @@ mod stream;
 mod sure;
 mod sure_keeper;
 
-pub use keeper::{Batch, KeepFault, Keeper, Meta, Row};
+pub use keeper::{Batch, KeepFault, Keeper, Meta, PutRow, Row};
 pub use mem::{FailCommit, MemKeeper, MemSink, MemSource};
 pub use std_stream::{StdSink, StdSource};
 pub use stream::{ReadFault, Sink, Source, WriteFault};

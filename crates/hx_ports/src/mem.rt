@@ -3,9 +3,10 @@ ghost use Rattle.std.specs.Prelude.{◌≡◌, ◌<◌, ◌≤◌, ◌⊎◌, fa
 ghost use Rattle.std.specs.Io.{ReadsAtMost};
 ghost use Rattle.std.specs.Io.KnownBytes.{ReadConsumes, WriteAppends};
 ghost use Rattle.std.specs.FinMap as map;
+ghost use Rattle.std.specs.List.{AllByRecursion};
 ghost use Rattle.hx_ports.specs.Calls.{is_planned, after_call, next_number, landing, FailsByPlan, CommitsByPlan};
 ghost use Rattle.hx_ports.specs.Causes.{Rose, HasCause, KeeperCause, WritesAtMost, StallCause};
-ghost use Rattle.hx_ports.specs.Keeping.{meta_of, row_after, Lands};
+ghost use Rattle.hx_ports.specs.Keeping.{meta_of, row_after, IsPut, Lands};
 ghost use Rattle.hx_ports.specs.Views.{HoldsOn};
 ghost use Rattle.hx_ports.specs.Rows.{told, kept_of, entries_of};
 
@@ -331,6 +332,7 @@ impl Keeper for MemKeeper {
     }
 
     fn commit(&mut self, batch: Batch) -> Result<(), KeepFault>
+        requires { AllByRecursion IsPut batch.puts }
         ensures ok { OnOk result (Lands batch (⟦<MemKeeper as Keeper>⟧.shown self.old).kept (⟦<MemKeeper as Keeper>⟧.shown self.new).kept × ((⟦<MemKeeper as Keeper>⟧.shown self.old).broken ≡ false) × ((⟦<MemKeeper as Keeper>⟧.shown self.new).broken ≡ false)) }
         ensures refused { IsErrOf result KeepFault.NoMemory → ((⟦<MemKeeper as Keeper>⟧.shown self.new).kept ≡ (⟦<MemKeeper as Keeper>⟧.shown self.old).kept) × ((⟦<MemKeeper as Keeper>⟧.shown self.old).broken ≡ false) × ((⟦<MemKeeper as Keeper>⟧.shown self.new).broken ≡ false) }
         ensures breaks { IsErrOf result KeepFault.Fault → (⟦<MemKeeper as Keeper>⟧.shown self.new).broken ≡ true }

@@ -2,8 +2,9 @@
 ghost use Rattle.std.specs.Prelude.{◌≡◌, true, false, Some, None, if◌then◌else◌, OnOk, OnErr, IsErrOf, IfOk, IfSome, string_bytes};
 ghost use Rattle.std.specs.FinMap as map;
 ghost use Rattle.std.specs.FinMap.{is_sorted};
+ghost use Rattle.std.specs.List.{AllByRecursion};
 ghost use Rattle.hx_object.specs.Texts.{bytes_cmp};
-ghost use Rattle.hx_ports.specs.Keeping.{meta_of, row_after, with_batch, Lands};
+ghost use Rattle.hx_ports.specs.Keeping.{meta_of, row_after, with_batch, IsPut, Lands};
 ghost use Rattle.hx_ports.specs.Rows.{told, kept_of, entries_of};
 
 use crate::given_rows::{count_rows, is_told, lay_rows, ordered_copies, row_behind};
@@ -118,6 +119,7 @@ impl Keeper for SureKeeper {
     }
 
     fn commit(&mut self, batch: Batch) -> Result<(), KeepFault>
+        requires { AllByRecursion IsPut batch.puts }
         ensures lands { OnOk result (Lands batch (⟦<SureKeeper as Keeper>⟧.shown self.old).kept (⟦<SureKeeper as Keeper>⟧.shown self.new).kept) }
         ensures held { OnOk result (held_by self.new ≡ with_batch batch (held_by self.old)) }
         ensures meta { OnOk result ((given_meta self.new ≡ record (given_meta self.old) { version = batch.version }) × (tells_rows self.new ≡ tells_rows self.old)) }

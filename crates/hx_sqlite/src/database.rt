@@ -3,10 +3,12 @@ ghost use Rattle.std.specs.Prelude.{◌≡◌, ◌↔◌, false, ℤ, IsOk, IfOk
 ghost use Rattle.sqlite_value.specs.declared.value.Value.TheVariants.{Int, Text as Words};
 ghost use Rattle.sqlite_value.specs.Order.{column as column_of};
 ghost use Rattle.std.specs.Int.{w64, cast_unsigned};
+ghost use Rattle.std.specs.List.{AllByRecursion};
+ghost use Rattle.hx_ports.specs.Keeping.{IsPut};
 
 use crate::fault::{Refusal, SqlFault};
-use hx_object::List;
-use hx_ports::{Batch, Meta, Row};
+use hx_object::{List, Text};
+use hx_ports::{Batch, Meta, PutRow, Row};
 use sqlite::types::ValueRef;
 use sqlite::{Alter, Connection, Error, Statement, Transaction};
 use std::alloc::Global;
@@ -131,11 +133,14 @@ impl<S: Alter + Drop> Database<S> {
     }
 }
 
-/// What is asked of a database, whatever its store.
+/// What is asked of a database, whatever its store: `may` says what has to hold of it, and `tells` what holds of the answer.
 pub trait Ask<T> {
+    ghost may: { Self → Type 0 };
+
     ghost tells: { T → Type 0 };
 
     fn of<S: Alter>(self, database: &mut Database<S>) -> Result<T, Refusal>
+        requires { may self }
         ensures { IfOk result tells };
 }
 
@@ -144,6 +149,8 @@ pub trait Ask<T> {
 pub struct AskMeta;
 
 impl Ask<Meta> for AskMeta {
+    ghost may = { λ _. ⊤ };
+
     ghost tells = { λ _. ⊤ };
 
     fn of<S: Alter>(self, database: &mut Database<S>) -> Result<Meta, Refusal> {
@@ -160,6 +167,8 @@ pub struct AskRow<'a> {
 }
 
 impl Ask<Option<Row>> for AskRow<'_> {
+    ghost may = { λ _. ⊤ };
+
     ghost tells = { λ row. IfSome row (λ r. IsUtf8 r.key × IsUtf8 r.body) };
 
     fn of<S: Alter>(self, database: &mut Database<S>) -> Result<Option<Row>, Refusal> {
@@ -175,15 +184,18 @@ impl Ask<Option<Row>> for AskRow<'_> {
 /// To write the batch in one transaction, which is rolled back where it fails.
 #[derive(Clone, Copy)]
 pub struct AskCommit<'a> {
+    pub alloc: Global,
     pub batch: &'a Batch,
 }
 
 impl Ask<()> for AskCommit<'_> {
+    ghost may = { λ ask. AllByRecursion IsPut ask.batch.now.puts };
+
     ghost tells = { λ _. ⊤ };
 
     fn of<S: Alter>(self, database: &mut Database<S>) -> Result<(), Refusal> {
         let mut transaction = database.connection.transaction();
-        write_batch(&mut transaction, &database.writes, self.batch)?;
+        write_batch(&mut transaction, &database.writes, self.alloc, self.batch)?;
         transaction.commit()?;
         Ok(())
     }
@@ -373,11 +385,13 @@ fn number_at(row: &sqlite::Row, column: usize) -> Result<u64, Refusal>
 fn write_batch<S: Alter>(
     transaction: &mut Transaction<'_, S>,
     writes: &Writes,
+    alloc: Global,
     batch: &Batch,
 ) -> Result<(), Refusal>
+    requires { AllByRecursion IsPut batch.now.puts }
     ensures { transaction.new.conn.ghost_name ≡ transaction.old.conn.ghost_name }
 {
-    put_rows(transaction, writes, batch.puts.as_slice())?;
+    put_rows(transaction, writes, alloc, batch.puts.as_slice())?;
     cut_rows(transaction, writes, batch.cuts.as_slice())?;
     end(transaction, writes, batch.version)
 }
@@ -385,28 +399,32 @@ fn write_batch<S: Alter>(
 fn put_rows<S: Alter>(
     transaction: &mut Transaction<'_, S>,
     writes: &Writes,
-    rows: &[Row],
+    alloc: Global,
+    puts: &[PutRow],
 ) -> Result<(), Refusal>
+    requires { AllByRecursion IsPut puts.now }
     ensures { transaction.new.conn.ghost_name ≡ transaction.old.conn.ghost_name }
 {
-    for row in rows {
-        put_row(transaction, writes, row)?;
+    for put in puts {
+        let body = put.body(alloc)?;
+        put_row(transaction, writes, put, &body)?;
     }
     Ok(())
 }
 
 /// Replaces the row that has the key, and adds one where there is none. An upsert takes more time for both.
-fn put_row<S: Alter>(
+fn put_row<'a, S: Alter>(
     transaction: &mut Transaction<'_, S>,
     writes: &Writes,
-    row: &Row,
+    put: &'a PutRow,
+    body: &'a Text,
 ) -> Result<(), Refusal>
     ensures { transaction.new.conn.ghost_name ≡ transaction.old.conn.ghost_name }
 {
     let values = [
-        ValueRef::Text(row.key.as_slice()),
-        ValueRef::Int(row.version.cast_signed()),
-        ValueRef::Text(row.body.as_slice()),
+        ValueRef::Text(put.key.as_slice()),
+        ValueRef::Int(put.object.object().version.cast_signed()),
+        ValueRef::Text(body.as_bytes()),
     ];
     if transaction.execute_prepared(&writes.puts.replace, &values)? == 1 {
         return Ok(());

@@ -3,6 +3,7 @@ ghost use Rattle.std.specs.Prelude.{◌≡◌};
 ghost use Rattle.hx_sqlite.specs.Refusals.{fault_of, refusal_of, TellsOfOpening};
 ghost use Rattle.hx_sqlite.specs.declared.fault.Refusal.TheVariants as given;
 
+use hx_object::NoMemory;
 use sqlite::{Error, ErrorCode};
 use sqlite_std_file::OpenError;
 use std::alloc::AllocError;
@@ -95,6 +96,14 @@ impl From<AllocError> for Refusal {
     ghost from_gives = { λ _ refusal. refusal ≡ given.NoMemory };
 
     fn from(_: AllocError) -> Refusal {
+        Refusal::NoMemory
+    }
+}
+
+impl From<NoMemory> for Refusal {
+    ghost from_gives = { λ _ refusal. refusal ≡ given.NoMemory };
+
+    fn from(_: NoMemory) -> Refusal {
         Refusal::NoMemory
     }
 }

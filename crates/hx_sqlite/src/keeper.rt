@@ -1,6 +1,8 @@
 // A keeper of rows in an SQLite database.
 ghost use Rattle.std.specs.Prelude.{◌≡◌, ◌≤◌, true, false, None, Some, OnOk, OnErr, IfOk, IfSome, IsErrOf, IsSome, IsUtf8};
+ghost use Rattle.std.specs.List.{AllByRecursion};
 ghost use Rattle.hx_ports.specs.Causes.{KeeperCause, Rose};
+ghost use Rattle.hx_ports.specs.Keeping.{IsPut};
 ghost use Rattle.hx_ports.specs.Views.{HoldsOn};
 
 use crate::fault::{Refusal, SqlFault};
@@ -151,6 +153,7 @@ impl Keeper for SqlKeeper {
     }
 
     fn commit(&mut self, batch: Batch) -> Result<(), KeepFault>
+        requires { AllByRecursion IsPut batch.puts }
         ensures ok { ¬ IsErrOf result KeepFault.Fault → ((⟦<SqlKeeper as Keeper>⟧.shown self.old).broken ≡ false) × ((⟦<SqlKeeper as Keeper>⟧.shown self.new).broken ≡ false) }
         ensures breaks { IsErrOf result KeepFault.Fault → (⟦<SqlKeeper as Keeper>⟧.shown self.new).broken ≡ true }
         ensures place { (⟦<SqlKeeper as Keeper>⟧.shown self.new).place ≡ (⟦<SqlKeeper as Keeper>⟧.shown self.old).place }
@@ -163,7 +166,7 @@ impl Keeper for SqlKeeper {
         if self.broken {
             return Err(self.count_fault());
         }
-        let landed = place::commit_at(&mut self.place, &batch);
+        let landed = place::commit_at(&mut self.place, self.rt.alloc(), &batch);
         let answer = self.answer(landed);
         self.broken = answer == Err(KeepFault::Fault);
         answer

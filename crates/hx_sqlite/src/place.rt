@@ -1,5 +1,7 @@
 // Where the rows are: in a file, or in memory.
 ghost use Rattle.std.specs.Prelude.{◌≡◌, false, None, Err, IfOk, IfSome, IsUtf8, string_bytes};
+ghost use Rattle.std.specs.List.{AllByRecursion};
+ghost use Rattle.hx_ports.specs.Keeping.{IsPut};
 ghost use Rattle.hx_sqlite.specs.Paths.{path_in};
 
 use crate::database::{Ask, AskCommit, AskMeta, AskRow, Database};
@@ -45,6 +47,7 @@ impl Drop for Rows {
 // Each function over a store proves again what the store can do, so that all is asked in this one.
 impl Rows {
     fn answer<T, A: Ask<T>>(&mut self, ask: A) -> Result<T, Refusal>
+        requires { A.may ask }
         ensures { IfOk result A.tells }
     {
         match self {
@@ -135,12 +138,13 @@ pub fn load_at(
 }
 
 /// Writes the batch as a whole, or rolls it back.
-pub fn commit_at(place: &mut Option<Place>, batch: &Batch) -> Result<(), Refusal>
+pub fn commit_at(place: &mut Option<Place>, alloc: Global, batch: &Batch) -> Result<(), Refusal>
+    requires { AllByRecursion IsPut batch.now.puts }
     ensures nowhere { path_in place.old ≡ None → result ≡ Err (Refusal.Fault SqlFault.Unattached) }
     ensures path { path_in place.new ≡ path_in place.old }
 {
     match place {
-        Some(place) => place.rows.answer(AskCommit { batch }),
+        Some(place) => place.rows.answer(AskCommit { alloc, batch }),
         None => Err(Refusal::Fault(SqlFault::Unattached)),
     }
 }

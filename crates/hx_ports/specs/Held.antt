@@ -1,0 +1,18 @@
+-- What the memory holds of a row.
+--     seen          the version and the body
+--     IsWritable    an object that was put has a text
+use Rattle.std.specs.Prelude.{ℕ, List}
+use Rattle.hx_object.specs.Faults.{IsLegal}
+use Rattle.hx_object.specs.Json.{object_text}
+use Rattle.hx_ports.specs.declared.held_row.Form.{Form}
+use Rattle.hx_ports.specs.declared.held_row.Form.TheVariants.{Given, Put}
+
+-- the version and the body
+abbrev pub seen : Form → ℕ × List ℕ
+seen (Given place) = place.value
+seen (Put x) = (x.version, object_text x)
+
+-- an object that was put has a text
+abbrev pub IsWritable : Form → Type 0
+IsWritable (Given place) = Unit {0}
+IsWritable (Put x) = IsLegal x
