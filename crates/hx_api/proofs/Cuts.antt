@@ -1,8 +1,7 @@
 -- Paths whose parts are cut off one after another.
-use Rattle.std.proofs.Common.{◌≡◌, ℕ, suc, ◌+◌, ◌<◌, List, [], ◌∷◌, length, Option, Some, None, Bool, true, false, ◌&&◌, cond, not, codes, refl, arith}
-use Rattle.std.specs.Prelude.{bytes_eq, MatchOption}
-use Rattle.std.specs.Borrow.{Bor}
-use Rattle.std.specs.List.{after_first, before_first, onto_first, position_or_len}
+use Rattle.std.proofs.Common.{◌≡◌, ◌∙◌, ℕ, suc, ◌+◌, ◌-◌, ◌<◌, List, [], ◌∷◌, length, take, drop, Option, Some, None, Bool, true, false, ◌&&◌, cond, not, codes, refl, ap, arith}
+use Rattle.std.specs.Prelude.{bytes_eq}
+use Rattle.std.specs.List.{onto_first, position_or_len, slice_range}
 use Rattle.std.proofs.lemmas.List.Splits.{slice_split_first}
 use Rattle.hx_model.specs.First.{so}
 use Rattle.hx_api.specs.Paths.{feed_resource, is_blank, is_namespaces, is_slash, parts_of, resource_of_parts, resource_under, root_resource}
@@ -16,7 +15,7 @@ abbrev feed : ResourcePath (List ℕ)
 feed = Events
 
 -- a path without a slash is one part
-uncut : (path : List ℕ) → position_or_len is_slash path ≡ length path → parts_of path ≡ path ∷ []
+pub uncut : (path : List ℕ) → position_or_len is_slash path ≡ length path → parts_of path ≡ path ∷ []
 uncut [] none = refl
 uncut (byte ∷ path) none = by (is_slash byte) none (uncut path)
   where
@@ -25,13 +24,11 @@ uncut (byte ∷ path) none = by (is_slash byte) none (uncut path)
     by true e ih = absurd (omega arith)
     by false e ih = rw (ih (omega arith)) refl
 
--- what `split_once` tells, as parts
-pub cut_by : (path : List ℕ) (r : Option (Bor (List ℕ) × Bor (List ℕ)))
-    → MatchOption r (position_or_len is_slash path ≡ length path)
-    (λ x. (x.0.now ≡ before_first is_slash path) × (x.1.now ≡ after_first is_slash path) × (position_or_len is_slash path < length path))
-    → MatchOption r (parts_of path ≡ path ∷ []) (λ x. parts_of path ≡ x.0.now ∷ parts_of x.1.now)
-cut_by path None h = uncut path h
-cut_by path (Some x) h = rw (h.0, h.1) (slice_split_first is_slash path 0 h.2)
+-- a path with one is cut at the first
+pub cut_at : (path : List ℕ) (k : ℕ) → position_or_len is_slash path ≡ k → k < length path → parts_of path ≡ slice_range path 0 k ∷ parts_of (drop (k + 1) path)
+cut_at path k at less =
+    let none : k ≡ k - 0 = omega arith in
+    slice_split_first is_slash path 0 (omega (arith, at, less)) ∙ (λ i. take (at i) path ∷ parts_of (drop (at i + 1) path)) ∙ ap (λ n. take n path ∷ parts_of (drop (k + 1) path)) none
 
 -- there is always a part
 pub some_parts : (path : List ℕ) → 0 < length (parts_of path)

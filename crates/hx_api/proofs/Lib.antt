@@ -1,3 +1,4 @@
+pub mod Bytes
 pub mod Segments
 pub mod Reading
 pub mod Scopes

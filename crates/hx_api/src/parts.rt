@@ -5,12 +5,14 @@ ghost use Rattle.hx_api.specs.Inside.{as_sent, parts_of_version};
 
 use crate::resource_path::ResourcePath;
 use crate::served::{Version, cluster_object, collection, collection_in, object_in};
+use memchr::memchr;
 
 /// The first part of a path, and the path behind its slash. `None` where the path is one part.
 fn cut_part(path: &str) -> Option<(&str, &str)>
     ensures { MatchOption result (parts_of path.now ≡ path.now ∷ []) (λ cut. parts_of path.now ≡ cut.0.now ∷ parts_of cut.1.now) }
 {
-    path.split_once('/')
+    let slash = memchr(b'/', path.as_bytes())?;
+    Some((&path[..slash], &path[slash + 1..]))
 }
 
 /// What a path names, its segments as they were sent.

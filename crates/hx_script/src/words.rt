@@ -8,20 +8,6 @@ ghost use Rattle.hx_script.specs.Words.{first_space, word_of, rest_of, is_short_
 
 use memchr::memchr;
 
-/// The first word.
-pub fn word_of(text: &str) -> &str
-    ensures { result.now ≡ word_of text.now }
-{
-    cut(text).0
-}
-
-/// What follows the first word and its space, where there is a space.
-pub fn rest_of(text: &str) -> Option<&str>
-    ensures { option_copied result ≡ rest_of text.now }
-{
-    cut(text).1
-}
-
 /// The first word, and what follows it and its space, where there is a space.
 #[tactic(auto, unfolding(crate::specs::Words::word_of, crate::specs::Words::rest_of))]
 pub fn cut(text: &str) -> (&str, Option<&str>)

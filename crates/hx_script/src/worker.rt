@@ -6,7 +6,7 @@ ghost use Rattle.hx_script.specs.Words.{rest_of};
 ghost use Rattle.hx_script.specs.Workers.{copied_kind, copy_in, copy_named, key_after, key_named, name_after, namespace_key, namespace_named, place_key, place_named, settle_order, take_order, turn_order, worker_named, worker_order};
 
 use crate::order::Order;
-use crate::words::{number_in, rest_of, word_of};
+use crate::words::{cut, number_in};
 use hx_model::Key;
 use hx_object::{Kind, NoMemory, Text, is_dns_label};
 use std::alloc::Global;
@@ -91,8 +91,8 @@ pub fn worker_order(alloc: Global, line: &str) -> Result<Option<Order>, LostTake
     ensures served { IfOk result (λ order. IfSome order IsServedOrder) }
     ensures lost { IfErr result (λ lost. (key : NamedBy) × (worker_order line.now ≡ Some (Order.Take lost.worker (Some key)))) }
 {
-    let word = word_of(line);
-    let Some(rest) = rest_of(line) else {
+    let (word, rest) = cut(line);
+    let Some(rest) = rest else {
         return Ok(if word == "check" {
             Some(Order::Check)
         } else {
@@ -112,13 +112,14 @@ fn take_order(alloc: Global, text: &str) -> Result<Option<Order>, LostTake>
     ensures served { IfOk result (λ order. IfSome order IsServedOrder) }
     ensures lost { IfErr result (λ lost. (key : NamedBy) × (take_order text.now ≡ Some (Order.Take lost.worker (Some key)))) }
 {
-    let Some(worker) = worker_named(word_of(text)) else {
+    let (word, rest) = cut(text);
+    let Some(worker) = worker_named(word) else {
         return Ok(None);
     };
-    let Some(text) = rest_of(text) else {
+    let Some(rest) = rest else {
         return Ok(Some(Order::Take { worker, key: None }));
     };
-    let Some(named) = key_named(text) else {
+    let Some(named) = key_named(rest) else {
         return Ok(None);
     };
     match named.to_key(alloc) {
@@ -172,8 +173,8 @@ fn worker_named(text: &str) -> Option<u32>
 fn key_named(text: &str) -> Option<NamedKey<'_>>
     ensures { option_map key_by result ≡ key_named text.now }
 {
-    let rest = rest_of(text)?;
-    key_after(word_of(text), rest)
+    let (word, rest) = cut(text);
+    key_after(word, rest?)
 }
 
 /// A key, by its first word and what follows it.
@@ -241,11 +242,11 @@ fn namespace_named(text: &str) -> Option<&str>
 fn place_named(kind: Kind, text: &str) -> Option<(&str, &str)>
     ensures { (make : List ℕ → List ℕ → NamedBy) → option_map (λ place. make place.0.now place.1.now) result ≡ place_named kind make text.now }
 {
-    let ns = word_of(text);
+    let (ns, rest) = cut(text);
     if !is_dns_label(ns.as_bytes()) {
         return None;
     }
-    let name = name_after(kind, rest_of(text))?;
+    let name = name_after(kind, rest)?;
     Some((ns, name))
 }
 
@@ -253,13 +254,13 @@ fn place_named(kind: Kind, text: &str) -> Option<(&str, &str)>
 fn copy_named(text: &str) -> Option<NamedKey<'_>>
     ensures { option_map key_by result ≡ copy_named text.now }
 {
-    let ns = word_of(text);
+    let (ns, rest) = cut(text);
     if !is_dns_label(ns.as_bytes()) {
         return None;
     }
-    let rest = rest_of(text)?;
-    let kind = copied_kind(word_of(rest))?;
-    let name = name_after(kind, rest_of(rest))?;
+    let (plural, rest) = cut(rest?);
+    let kind = copied_kind(plural)?;
+    let name = name_after(kind, rest)?;
     Some(NamedKey::Copy { ns, kind, name })
 }
 
