@@ -1,5 +1,5 @@
 // Requests as asks.
-ghost use Rattle.std.specs.Prelude.{◌≡◌, ◌⊎◌, Ok, Err, None, Some, true, IfOk, IfErr, OnOk};
+ghost use Rattle.std.specs.Prelude.{◌≡◌, ◌⊎◌, Ok, Err, None, Some, true, IfOk, IfErr, OnOk, codes};
 ghost use Rattle.hx_model.specs.Serving.{IsServedAsk};
 ghost use Rattle.hx_api.specs.Asks.{ask_of, form_refusal, namespace, is_feed, is_served, resource_for, ask_at, selector_for, selector_in};
 ghost use Rattle.hx_api.specs.Inside.{FitsScope};
@@ -12,7 +12,7 @@ use crate::query::{Query, cut};
 use crate::resource_path::{ResourcePath, allows, decoded};
 use hx_json::BodyReader;
 use hx_model::{Ask, Refusal};
-use hx_object::{Id, Text};
+use hx_object::{Id, NoMemory, Text};
 use hx_select::{SelectFault, Selector};
 use std::alloc::Global;
 use std::marker::Model;
@@ -151,9 +151,17 @@ fn selector_in(alloc: Global, text: &str) -> Result<Selector, Refusal>
     match Selector::read(alloc, text) {
         Ok(selector) => Ok(selector),
         Err(SelectFault::NoMemory) => Err(Refusal::NoMemory),
-        Err(_) => Err(Refusal::BadQuery {
-            name: Text::of(alloc, "labelSelector")?,
-        }),
+        Err(_) => Err(bad_selector(alloc)),
+    }
+}
+
+/// The refusal of a text that isn't a selector, or for want of memory.
+fn bad_selector(alloc: Global) -> Refusal
+    ensures { (result ≡ Refusal.NoMemory) ⊎ (result ≡ Refusal.BadQuery (codes "labelSelector")) }
+{
+    match Text::of(alloc, "labelSelector") {
+        Ok(name) => Refusal::BadQuery { name },
+        Err(NoMemory) => Refusal::NoMemory,
     }
 }
 

@@ -1,5 +1,6 @@
 // What paths name, and the methods that are taken there.
 ghost use Rattle.std.specs.Prelude.{◌≡◌, IfOk, option_copied};
+ghost use Rattle.std.specs.Cow.{cow_str_bytes};
 ghost use Rattle.hx_api.specs.Paths.{allows, decoded_resource, namespace_text, segment_text};
 ghost use Rattle.hx_api.specs.Inside.{as_sent};
 
@@ -7,6 +8,7 @@ use crate::Method;
 use hx_object::{Kind, NoMemory, Text};
 use percent_encoding::{DecodeError, percent_decode};
 use std::alloc::Global;
+use std::borrow::CowStr;
 
 /// What a path names. A segment is a `&str` as it was sent, and a `Text` once it is decoded.
 #[derive(Drop)]
@@ -38,9 +40,19 @@ fn segment_text(alloc: Global, segment: &str) -> Result<Option<Text>, NoMemory>
     ensures { IfOk result (λ text. text ≡ segment_text segment.now) }
 {
     match percent_decode(segment.as_bytes()).decode_utf8(alloc) {
-        Ok(text) => Ok(Some(Text::of_string(text.into_owned(alloc)?))),
+        Ok(text) => Ok(Some(text_in(alloc, text)?)),
         Err(DecodeError::Utf8(_)) => Ok(None),
         Err(DecodeError::OutOfMemory) => Err(NoMemory),
+    }
+}
+
+/// The text of what was decoded, which is borrowed where nothing is escaped.
+fn text_in(alloc: Global, decoded: CowStr<'_, Global>) -> Result<Text, NoMemory>
+    ensures { IfOk result (λ text. text ≡ cow_str_bytes decoded.entry) }
+{
+    match decoded {
+        CowStr::Borrowed(text) => Text::of(alloc, text),
+        CowStr::Owned(text) => Ok(Text::of_string(text)),
     }
 }
 
