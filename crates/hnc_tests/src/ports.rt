@@ -113,7 +113,7 @@ fn put(alloc: Global, key: &str) -> Result<PutRow, NoMemory>
         return Err(NoMemory);
     }
     Ok(PutRow {
-        key: key.into_bytes(),
+        key: key.into_bytes(alloc)?,
         object: Shared::new(alloc, said.object)?,
     })
 }

@@ -49,7 +49,7 @@ fn texts_and_lists(rt: HostRuntime) -> Result<(), Fail> {
     let text = Text::of(alloc, "ab")?;
     let same = Text::of_string(String::from_str(alloc, "ab")?);
     assert!(rt; text == same && text.cmp(&same) == Ordering::Equal);
-    let bytes = text.into_bytes();
+    let bytes = text.into_bytes(alloc)?;
     let more = List::of(Vec::from_array(alloc, [97, 98, 0])?);
     assert!(rt; bytes != more && bytes < more && bytes.cmp(&more) == Ordering::Less);
     assert!(rt; bytes.clone()? == bytes);

@@ -1,10 +1,10 @@
 // The rows of objects.
-ghost use Rattle.std.specs.Prelude.{◌≡◌, IfOk};
+ghost use Rattle.std.specs.Prelude.{◌≡◌, IfOk, IsUtf8};
 ghost use Rattle.hx_object.specs.Kinds.{number_of};
 ghost use Rattle.hx_model.specs.Texts.{key_text, two_digits};
 ghost use Rattle.hx_core.specs.Rows.{row_put, batch_of, HasTextKey, HasTextKeys};
 
-use hx_object::{Id, Kind, List, NoMemory, Shared, Text};
+use hx_object::{Id, Kind, List, NoMemory, Shared};
 use hx_ports::{Batch, PutRow};
 use hx_store::Change;
 use std::alloc::Global;
@@ -22,7 +22,7 @@ pub fn batch_of(alloc: Global, writes: &[Change], version: u64) -> Result<Batch,
     for change in writes {
         match change.object() {
             Some(object) => puts.push(row_put(alloc, object)?)?,
-            None => cuts.push(key_of(alloc, change.id())?.into_bytes())?,
+            None => cuts.push(key_of(alloc, change.id())?)?,
         }
     }
     Ok(Batch {
@@ -37,18 +37,17 @@ fn row_put(alloc: Global, object: &Shared) -> Result<PutRow, NoMemory>
     ensures put { IfOk result (λ put. put ≡ row_put object.now) }
     ensures key { IfOk result HasTextKey }
 {
-    let key = key_of(alloc, &object.object().id)?;
-    let object = object.share()?;
     Ok(PutRow {
-        key: key.into_bytes(),
-        object,
+        key: key_of(alloc, &object.object().id)?,
+        object: object.share()?,
     })
 }
 
 /// The key of an object's row.
 #[tactic(auto, unfolding(hx_model::specs::Texts::key_text))]
-fn key_of(alloc: Global, id: &Id) -> Result<Text, NoMemory>
-    ensures { IfOk result (λ key. key ≡ key_text id.now) }
+fn key_of(alloc: Global, id: &Id) -> Result<List<u8>, NoMemory>
+    ensures key { IfOk result (λ key. key ≡ key_text id.now) }
+    ensures text { IfOk result IsUtf8 }
 {
     let ns = id.ns.as_str();
     let name = id.name.as_str();
@@ -59,7 +58,9 @@ fn key_of(alloc: Global, id: &Id) -> Result<Text, NoMemory>
     key.push_str(ns)?;
     key.push_str("/")?;
     key.push_str(name)?;
-    Ok(Text::of_string(key))
+    // A string is UTF-8, which a look at it tells.
+    let _ = key.as_str();
+    Ok(List::of(key.into_bytes()))
 }
 
 /// The number of a kind in two digits.

@@ -1,74 +1,108 @@
 // Text that contracts see as its bytes.
 ghost use Rattle.std.specs.Prelude.{◌≡◌, ℕ, nat_eq, IfOk, refl, Some, IsUtf8, string_bytes};
-ghost use Rattle.std.specs.Cmp.Lexicographic.{pointwise, slice_cmp, nat_list_eq_equiv, nat_list_cmp_total, texts_ties, texts_po};
+ghost use Rattle.std.specs.Cmp.Lexicographic.{bytes_decides, pointwise, slice_cmp, nat_list_eq_equiv, nat_list_cmp_total, texts_ties, texts_po};
 ghost use Rattle.std.specs.Ordering.{nat_cmp};
 ghost use Rattle.std.specs.Cmp as laws_of;
 ghost use Rattle.std.specs.Cmp.Rules.{hashing};
 ghost use Rattle.std.specs.Hash as fed;
-ghost use Rattle.std.proofs.Common.{rules};
+ghost use Rattle.std.specs.Str.{bytes_eq};
+ghost use Rattle.std.proofs.Common.{ap, rules};
 
 use crate::{List, NoMemory};
+use arrayvec::ArrayString;
+use indexmap::Equivalent;
 use std::alloc::{AllocError, Global};
 use std::cmp::Ordering;
 use std::hash::{Hash, Hasher};
 use std::marker::Model;
 
+/// The most bytes of a text that lies in place.
+const SHORT: usize = 16;
+
 /// Text, which contracts see as its bytes.
+///
+/// A short one lies in place, as most names do, so that it takes no memory of its own and reading it reads no other.
 pub struct Text {
-    text: String,
+    form: Form,
+}
+
+#[derive(Drop)]
+enum Form {
+    Short(ArrayString<SHORT>),
+    Long(String),
 }
 
 impl Drop for Text {
     fn drop(self) {
-        let Text { text: _ } = self;
+        let Text { form: _ } = self;
     }
 }
 
 impl Model for Text {
     ghost use Rattle.std.specs.Prelude.{List, ℕ};
-    ghost use Rattle.std.specs.String.{string_bytes};
+    ghost use Rattle.hx_object.specs.Texts.{bytes_in};
 
     ghost Value = { List ℕ };
 
-    ghost view = { λ t. string_bytes t.text };
+    ghost view = { λ t. bytes_in t.form };
 }
 
 impl Text {
     pub fn of(alloc: Global, text: &str) -> Result<Text, NoMemory>
         ensures { IfOk result (λ t. t ≡ text.now) }
     {
+        if let Ok(short) = ArrayString::from(text) {
+            return Ok(Text {
+                form: Form::Short(short),
+            });
+        }
         Ok(Text {
-            text: String::from_str(alloc, text)?,
+            form: Form::Long(String::from_str(alloc, text)?),
         })
     }
 
+    /// The text of a string, whose memory a short one gives back.
     pub fn of_string(text: String) -> Text
         ensures { result ≡ string_bytes text }
     {
-        Text { text }
+        match ArrayString::from(text.as_str()) {
+            Ok(short) => Text {
+                form: Form::Short(short),
+            },
+            Err(_) => Text {
+                form: Form::Long(text),
+            },
+        }
     }
 
-    /// The bytes, which are UTF-8.
-    pub fn into_bytes(self) -> List<u8>
-        ensures value { result ≡ self }
-        ensures utf8 { IsUtf8 result }
+    /// The bytes, which are UTF-8. Those of a short text take memory.
+    pub fn into_bytes(self, alloc: Global) -> Result<List<u8>, NoMemory>
+        ensures value { IfOk result (λ bytes. bytes ≡ self) }
+        ensures utf8 { IfOk result IsUtf8 }
     {
-        let Text { text } = self;
+        let Text { form } = self;
+        let text = match form {
+            Form::Short(text) => String::from_str(alloc, text.as_str())?,
+            Form::Long(text) => text,
+        };
         let _ = text.as_str();
-        List::of(text.into_bytes())
+        Ok(List::of(text.into_bytes()))
     }
 
     pub fn as_bytes(&self) -> &[u8]
         ensures { result.now ≡ self.now }
     {
-        self.text.as_bytes()
+        self.as_str().as_bytes()
     }
 
     pub fn as_str(&self) -> &str
         ensures value { result.now ≡ self.now }
         ensures utf8 { IsUtf8 self.now }
     {
-        self.text.as_str()
+        match &self.form {
+            Form::Short(text) => text.as_str(),
+            Form::Long(text) => text.as_str(),
+        }
     }
 }
 
@@ -77,7 +111,10 @@ impl Clone for Text {
 
     fn clone(&self) -> Result<Text, AllocError> {
         Ok(Text {
-            text: self.text.clone()?,
+            form: match &self.form {
+                Form::Short(text) => Form::Short(*text),
+                Form::Long(text) => Form::Long(text.clone()?),
+            },
         })
     }
 }
@@ -127,5 +164,18 @@ impl Hash for Text {
 
     fn hash<H: Hasher>(&self, state: &mut H) {
         self.as_str().hash(state);
+    }
+}
+
+/// Maps whose keys are texts are looked up by `&str`.
+impl Equivalent<Text> for &str {
+    ghost equivalent = { λ q t. bytes_eq q.now t };
+
+    ghost respects_hash = { λ q t same. ap fed.str ((bytes_decides q.now t).0 same) };
+
+    ghost respects_eq = { λ q x y. nat_list_eq_equiv.congr q.now x y };
+
+    fn equivalent(&self, text: &Text) -> bool {
+        *self == text.as_str()
     }
 }

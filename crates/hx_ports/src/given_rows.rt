@@ -7,7 +7,7 @@ ghost use Rattle.hx_ports.specs.Keeping.{first_behind, row_of_entry};
 ghost use Rattle.hx_ports.specs.Rows.{entry_of, entries_of, is_told, lies_behind, rows_over, rows_in};
 
 use crate::held_row::HeldRow;
-use crate::keeper::{Meta, Row, copy_row};
+use crate::keeper::{Meta, Row};
 use crate::row_map::{RowMap, copy_rows, held_row_behind, lay_row, sort_rows};
 use hx_object::{List, NoMemory};
 use std::alloc::Global;
@@ -111,9 +111,19 @@ fn given_row_behind(given: &[Row], after: &[u8]) -> Result<Option<Row>, NoMemory
     ensures { IfOk result (λ row. row ≡ option_map row_of_entry (find_first (lies_behind after.now) (entries_of given.now))) }
 {
     match given.get(place_behind(given, after)) {
-        Some(row) => Ok(Some(copy_row(&row.key, row.version, &row.body)?)),
+        Some(row) => Ok(Some(copy_row(row)?)),
         None => Ok(None),
     }
+}
+
+fn copy_row(row: &Row) -> Result<Row, NoMemory>
+    ensures { IfOk result (λ copy. copy ≡ row.now) }
+{
+    Ok(Row {
+        key: row.key.clone()?,
+        version: row.version,
+        body: row.body.clone()?,
+    })
 }
 
 /// Where the first of rows that ascend lies whose key is greater, or their number.

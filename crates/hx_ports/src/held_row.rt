@@ -3,7 +3,8 @@ ghost use Rattle.std.specs.Prelude.{◌≡◌, IfOk};
 ghost use Rattle.hx_object.specs.Faults.{IsLegal};
 ghost use Rattle.hx_object.specs.Json.{object_text};
 
-use crate::keeper::{Row, copy_row};
+use crate::keeper::Row;
+use crate::row_key::RowKey;
 use hx_json::write_object;
 use hx_object::{List, NoMemory, Shared};
 use std::alloc::Global;
@@ -67,26 +68,30 @@ impl HeldRow {
     }
 
     /// A copy of the row, with its key. The text of an object is written for it.
-    pub(crate) fn row(&self, alloc: Global, key: &List<u8>) -> Result<Row, NoMemory>
+    pub(crate) fn row(&self, alloc: Global, key: &RowKey) -> Result<Row, NoMemory>
         ensures { IfOk result (λ row. row ≡ record { key = key.now; version = self.now.0; body = self.now.1 }) }
     {
         match &self.form {
-            Form::Given(place) => copy_row(key, place.0, &place.1),
+            Form::Given(place) => Ok(Row {
+                key: key.to_bytes(alloc)?,
+                version: place.0,
+                body: place.1.clone()?,
+            }),
             Form::Put(object) => row_of(alloc, key, object),
         }
     }
 }
 
 /// The row of an object.
-fn row_of(alloc: Global, key: &List<u8>, object: &Shared) -> Result<Row, NoMemory>
+fn row_of(alloc: Global, key: &RowKey, object: &Shared) -> Result<Row, NoMemory>
     requires { IsLegal object.now }
     ensures { IfOk result (λ row. row ≡ record { key = key.now; version = object.now.version; body = object_text object.now }) }
 {
     let object = object.object();
     let body = write_object(alloc, object)?;
     Ok(Row {
-        key: key.clone()?,
+        key: key.to_bytes(alloc)?,
         version: object.version,
-        body: body.into_bytes(),
+        body: body.into_bytes(alloc)?,
     })
 }

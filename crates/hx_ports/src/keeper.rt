@@ -36,17 +36,6 @@ pub struct Row {
     pub body: List<u8>,
 }
 
-/// A copy of a row.
-pub(crate) fn copy_row(key: &List<u8>, version: u64, body: &List<u8>) -> Result<Row, NoMemory>
-    ensures { IfOk result (λ row. row ≡ record { key = key.now; version = version; body = body.now }) }
-{
-    Ok(Row {
-        key: key.clone()?,
-        version,
-        body: body.clone()?,
-    })
-}
-
 /// What a keeper says of itself: the schema of its rows, its last version and the number of its rows.
 #[derive(Clone, Copy)]
 pub struct Meta {

@@ -1,52 +1,77 @@
 // The key of a row.
-ghost use Rattle.std.specs.Prelude.{◌≡◌, [], ◌∷◌, nat_eq, refl, Some};
+ghost use Rattle.std.specs.Prelude.{◌≡◌, [], ◌∷◌, nat_eq, refl, IfOk, Some};
 ghost use Rattle.std.specs.Cmp as laws_of;
 ghost use Rattle.std.specs.Cmp.Lexicographic.{pointwise, slice_cmp, nat_list_eq_equiv, nat_list_cmp_total, texts_ties, texts_po};
 ghost use Rattle.std.specs.Cmp.Rules.{hashing};
 ghost use Rattle.std.specs.Ordering.{nat_cmp};
 ghost use Rattle.std.proofs.Common.{rules};
 
-use hx_object::List;
+use arrayvec::ArrayVec;
+use hx_object::{List, NoMemory};
+use std::alloc::Global;
 use std::cmp::Ordering;
 use std::hash::{Hash, Hasher};
 use std::marker::Model;
 
-/// The key of a row, which contracts see as its bytes.
+/// The most bytes of a key that lies in place.
+const SHORT: usize = 16;
+
+/// The key of a row, which contracts see as its bytes. A short one lies in place.
 pub(crate) struct RowKey {
-    bytes: List<u8>,
+    form: Form,
+}
+
+#[derive(Drop)]
+enum Form {
+    Short(ArrayVec<u8, SHORT>),
+    Long(List<u8>),
 }
 
 impl Drop for RowKey {
     fn drop(self) {
-        let RowKey { bytes: _ } = self;
+        let RowKey { form: _ } = self;
     }
 }
 
 impl Model for RowKey {
     ghost use Rattle.std.specs.Prelude.{List, ℕ};
+    ghost use Rattle.hx_ports.specs.Held.{key_bytes};
 
     ghost Value = { List ℕ };
 
-    ghost view = { λ k. k.bytes };
+    ghost view = { λ k. key_bytes k.form };
 }
 
 impl RowKey {
+    /// A key of these bytes, whose memory a short one gives back.
     pub(crate) fn of(bytes: List<u8>) -> RowKey
         ensures { result ≡ bytes }
     {
-        RowKey { bytes }
-    }
-
-    pub(crate) fn bytes(&self) -> &List<u8>
-        ensures { result.now ≡ self.now }
-    {
-        &self.bytes
+        let mut short = ArrayVec::new();
+        match short.try_extend_from_slice(bytes.as_slice()) {
+            Ok(()) => RowKey {
+                form: Form::Short(short),
+            },
+            Err(_) => RowKey {
+                form: Form::Long(bytes),
+            },
+        }
     }
 
     pub(crate) fn as_slice(&self) -> &[u8]
         ensures { result.now ≡ self.now }
     {
-        self.bytes.as_slice()
+        match &self.form {
+            Form::Short(bytes) => bytes.as_slice(),
+            Form::Long(bytes) => bytes.as_slice(),
+        }
+    }
+
+    /// A copy of the bytes.
+    pub(crate) fn to_bytes(&self, alloc: Global) -> Result<List<u8>, NoMemory>
+        ensures { IfOk result (λ bytes. bytes ≡ self.now) }
+    {
+        Ok(List::of(Vec::from_slice(alloc, self.as_slice())?))
     }
 }
 

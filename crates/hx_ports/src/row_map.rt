@@ -37,7 +37,7 @@ pub(crate) fn copy_rows(alloc: Global, held: &RowMap) -> Result<Vec<Row>, NoMemo
 {
     let mut rows = Vec::new(alloc);
     for (key, row) in held.iter() {
-        rows.push(row.row(alloc, key.bytes())?)?;
+        rows.push(row.row(alloc, key)?)?;
     }
     Ok(rows)
 }
@@ -47,7 +47,7 @@ pub(crate) fn held_row_behind(held: &RowMap, after: &[u8]) -> Result<Option<Row>
     ensures { IfOk result (λ row. row ≡ first_behind after.now (rows_in held.now)) }
 {
     match least_behind(held, after) {
-        Some((key, row)) => Ok(Some(row.row(*held.allocator(), key.bytes())?)),
+        Some((key, row)) => Ok(Some(row.row(*held.allocator(), key)?)),
         None => Ok(None),
     }
 }

@@ -1,11 +1,10 @@
 -- The objects of places have identities that differ.
 use Rattle.std.proofs.Common.{◌≡◌, ℕ, false, Option, Some, None, List, [], ◌∷◌, ◌++◌, refl, ap, ◌∙◌}
-use Rattle.std.specs.Prelude.{String, option_and_then}
+use Rattle.std.specs.Prelude.{option_and_then}
 use Rattle.std.specs.Option.{option_or}
 use Rattle.std.specs.List.{AllByRecursion, IsDistinct, flat_map}
 use Rattle.std.specs.Map.{keys_of, values_of}
 use Rattle.std.specs.Str.{bytes_eq}
-use Rattle.std.specs.String.{string_bytes, string_eq}
 use Rattle.std.proofs.lemmas.List.Folds.{find-append}
 use Rattle.std.proofs.lemmas.Map.Keys.{IsDistinct-head, IsDistinct-tail}
 use Rattle.std.proofs.lemmas.Slice.Eq.{bytes_eq-Decides}
@@ -36,23 +35,23 @@ all_append : (Q : Object → Type 0) (xs ys : List Object) → AllByRecursion Q 
 all_append Q [] ys left right = right
 all_append Q (x ∷ xs) ys left right = (left.0, all_append Q xs ys left.1 right)
 
-module _ {Y V : Type 0} (f : V → List Object) where
-  all_flat : (Q : Object → Type 0) (es : List (String Y × V)) → AllByRecursion (λ e. AllByRecursion Q (f e.1)) es → AllByRecursion Q (flat_map f (values_of es))
+module _ {V : Type 0} (f : V → List Object) where
+  all_flat : (Q : Object → Type 0) (es : List (List ℕ × V)) → AllByRecursion (λ e. AllByRecursion Q (f e.1)) es → AllByRecursion Q (flat_map f (values_of es))
   all_flat Q [] all = tt
   all_flat Q (e ∷ es) all = all_append Q (f e.1) (flat_map f (values_of es)) all.0 (all_flat Q es all.1)
 
   -- where the objects of each entry are apart, and have its key
-  pub flat_apart : (key : Id → List ℕ) (es : List (String Y × V)) → IsDistinct string_eq (keys_of es) → AllByRecursion (λ e. AreApart (f e.1)) es → AllByRecursion (λ e. AllByRecursion (λ x. key x.id ≡ string_bytes e.0) (f e.1)) es
-      → ((q : Id) → AllByRecursion (λ e. bytes_eq (key q) (string_bytes e.0) ≡ false → object_at (f e.1) q ≡ None) es) → AreApart (flat_map f (values_of es))
+  pub flat_apart : (key : Id → List ℕ) (es : List (List ℕ × V)) → IsDistinct bytes_eq (keys_of es) → AllByRecursion (λ e. AreApart (f e.1)) es → AllByRecursion (λ e. AllByRecursion (λ x. key x.id ≡ e.0) (f e.1)) es
+      → ((q : Id) → AllByRecursion (λ e. bytes_eq (key q) e.0 ≡ false → object_at (f e.1) q ≡ None) es) → AreApart (flat_map f (values_of es))
   flat_apart key [] distinct inner own others = tt
   flat_apart key (e ∷ es) distinct inner own others =
-      both_apart (f e.1) (flat_map f (values_of es)) inner.0 (flat_apart key es (IsDistinct-tail string_eq e.0 (keys_of es) distinct) inner.1 own.1 (λ q. (others q).1))
-      (all_map (λ x. key x.id ≡ string_bytes e.0) (λ x. object_at (flat_map f (values_of es)) x.id ≡ None) absent (f e.1) own.0)
+      both_apart (f e.1) (flat_map f (values_of es)) inner.0 (flat_apart key es (IsDistinct-tail bytes_eq e.0 (keys_of es) distinct) inner.1 own.1 (λ q. (others q).1))
+      (all_map (λ x. key x.id ≡ e.0) (λ x. object_at (flat_map f (values_of es)) x.id ≡ None) absent (f e.1) own.0)
     where
-      absent : (x : Object) → key x.id ≡ string_bytes e.0 → object_at (flat_map f (values_of es)) x.id ≡ None
+      absent : (x : Object) → key x.id ≡ e.0 → object_at (flat_map f (values_of es)) x.id ≡ None
       absent x same =
-          level f x.id (key x.id) es (IsDistinct-tail string_eq e.0 (keys_of es) distinct) (others x.id).1
-          ∙ ap (option_and_then (λ v. object_at (f v) x.id)) (none_among e.0 (key x.id) es ((bytes_eq-Decides (key x.id) (string_bytes e.0)).1 same) (IsDistinct-head string_eq e.0 (keys_of es) distinct))
+          level f x.id (key x.id) es (IsDistinct-tail bytes_eq e.0 (keys_of es) distinct) (others x.id).1
+          ∙ ap (option_and_then (λ v. object_at (f v) x.id)) (none_among e.0 (key x.id) es ((bytes_eq-Decides (key x.id) e.0).1 same) (IsDistinct-head bytes_eq e.0 (keys_of es) distinct))
 
 module _ (kind : Kind) (ns : List ℕ) (board : Board) (distinct : AreDistinct board) (own : (m : List ℕ) (x : Object) → found (place_in board m) ≡ Some x → x.id ≡ id_of kind ns m) where
   named : (m : List ℕ) (v : Option Object) → place_in board m ≡ Some v → AllByRecursion (λ x. x.id.name ≡ m) (of_place v)

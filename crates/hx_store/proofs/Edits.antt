@@ -1,15 +1,12 @@
 -- How places change: one is edited, and every other stays.
 use Rattle.std.proofs.Common.{◌≡◌, Bool, true, false, cond, ◌&&◌, Option, Some, None, List, [], ◌∷◌, ℕ, refl, sym, ap, subst, ◌∙◌, true≢false}
-use Rattle.std.specs.Prelude.{String, is_some, IsSome, option_and_then, Result, Ok, Err, MatchResult, IfSome}
+use Rattle.std.specs.Prelude.{is_some, IsSome, option_and_then, Result, Ok, Err, MatchResult, IfSome}
 use Rattle.std.specs.HashMap.{WritesThrough}
 use Rattle.std.specs.Map.{keys_of, lookup}
 use Rattle.std.specs.List.{IsDistinct}
 use Rattle.std.specs.Str.{bytes_eq}
-use Rattle.std.specs.String.{string_bytes, string_eq}
 use Rattle.std.proofs.lemmas.Map.Keys.{IsDistinct-cons}
-use Rattle.std.proofs.lemmas.Map.Text.{hash_map_updates_text}
 use Rattle.std.proofs.lemmas.Slice.Eq.{bytes_eq-Decides}
-use Rattle.std.proofs.Common.{Global}
 use Rattle.hx_object.specs.declared.object.Object.{Object}
 use Rattle.hx_store.specs.Places.{entries_of, place_alone, EditsShelf, Place, EditsBoard, EditsShelves, IsShelf, IsBoard, IsFull, IsNewShelf, IsNewBoard, AreShelves, AreShelvesBut, made, filled, unchanged, place_in, place_of, board_in}
 use Rattle.hx_store.specs.declared.board.Board.{Board}
@@ -74,16 +71,16 @@ grown_edits old new held place name before after q = after q ∙ ap (λ p. cond 
 -- where the boards are the same
 pub same_shelves : (old new : Shelves) → new.shelves.entries ≡ old.shelves.entries → AreShelves old → AreShelves new
 same_shelves old new same =
-    subst (λ es. IsDistinct string_eq (keys_of es) × ((ns : List ℕ) (board : Board) → lookup (λ k. bytes_eq ns (string_bytes k)) es ≡ Some board → IsBoard board × IsFull board)) (sym same)
+    subst (λ es. IsDistinct bytes_eq (keys_of es) × ((ns : List ℕ) (board : Board) → lookup (bytes_eq ns) es ≡ Some board → IsBoard board × IsFull board)) (sym same)
 
 -- ---- shelves of no place, and of one
 
 pub empty_shelf : (shelf : Shelf) → shelf.places.entries ≡ [] → shelf.descends ≡ false → IsShelf shelf
 unfolding IsDistinct
-empty_shelf shelf none not = (subst (λ es. IsDistinct string_eq (keys_of es)) (sym none) tt, λ is. absurd (true≢false (sym is ∙ not)))
+empty_shelf shelf none not = (subst (λ es. IsDistinct bytes_eq (keys_of es)) (sym none) tt, λ is. absurd (true≢false (sym is ∙ not)))
 
 pub new_shelf : (old new : Shelf) (name : List ℕ) → old.places.entries ≡ [] → EditsShelf made old new name → IsNewShelf name new
-new_shelf old new name none edits q = edits q ∙ ap (λ es. let p = lookup (λ k. bytes_eq q (string_bytes k)) es in cond (bytes_eq name q) (made p) p) none
+new_shelf old new name none edits q = edits q ∙ ap (λ es. let p = lookup (bytes_eq q) es in cond (bytes_eq name q) (made p) p) none
 
 -- ---- boards of no place, and of one
 
@@ -91,8 +88,8 @@ pub empty_board : IsBoard Empty
 unfolding IsDistinct
 empty_board = (tt, tt)
 
-pub one_board : (name : String Global) (place : Option Object) → IsBoard (One name place)
-one_board name place = (IsDistinct-cons string_eq name [] tt empty_board.0, tt)
+pub one_board : (name : List ℕ) (place : Option Object) → IsBoard (One name place)
+one_board name place = (IsDistinct-cons bytes_eq name [] tt empty_board.0, tt)
 
 -- ---- places that stay
 
@@ -106,7 +103,7 @@ filled_keeps o (Some _) some = refl
 
 -- a board that has the place of a name isn't without places
 pub full_from : (board : Board) (name : List ℕ) → IsSome (place_in board name) → IsFull board
-full_from board name some empty = true≢false (sym some ∙ ap (λ es. is_some (lookup (λ k. bytes_eq name (string_bytes k)) es)) empty)
+full_from board name some empty = true≢false (sym some ∙ ap (λ es. is_some (lookup (bytes_eq name) es)) empty)
 
 -- a board stays with places, where the edit takes none away
 pub full_edits : (g : Place → Place) (old new : Board) (name : List ℕ) → EditsBoard g old new name → ((p : Place) → IsSome p → IsSome (g p)) → IsFull old → IsFull new
@@ -119,10 +116,10 @@ full_edits g old new name edits leaves full = by (entries_of old) refl
         either true = leaves (place_in old q) some
         either false = some
 
-    by : (es : List (String Global × Option Object)) → entries_of old ≡ es → IsFull new
+    by : (es : List (List ℕ × Option Object)) → entries_of old ≡ es → IsFull new
     by [] e = absurd (full e)
-    by (e ∷ es) is = full_from new (string_bytes e.0) (stays (string_bytes e.0) (ap (λ fs. is_some (lookup (λ k. bytes_eq (string_bytes e.0) (string_bytes k)) fs)) is
-        ∙ ap (λ b. is_some (cond b (Some e.1) (lookup (λ k. bytes_eq (string_bytes e.0) (string_bytes k)) es))) ((bytes_eq-Decides (string_bytes e.0) (string_bytes e.0)).1 refl)))
+    by (e ∷ es) is = full_from new e.0 (stays e.0 (ap (λ fs. is_some (lookup (bytes_eq e.0) fs)) is
+        ∙ ap (λ b. is_some (cond b (Some e.1) (lookup (bytes_eq e.0) es))) ((bytes_eq-Decides e.0 e.0).1 refl)))
 
 module _ (old new : Shelves) (ns : List ℕ) where
   -- a board that has a new place
@@ -142,11 +139,11 @@ module _ (old new : Shelves) (ns : List ℕ) where
       by : (b : Bool) → bytes_eq ns n ≡ b → option_and_then (λ s. place_in s m) (cond b None (board_in old n)) ≡ place_of old n m
       by true e =
           let found : board_in old n ≡ Some board = ap (board_in old) (sym ((bytes_eq-Decides ns n).0 e)) ∙ there in
-          sym (ap (option_and_then (λ s. place_in s m)) found ∙ ap (lookup (λ k. bytes_eq m (string_bytes k))) empty)
+          sym (ap (option_and_then (λ s. place_in s m)) found ∙ ap (lookup (bytes_eq m)) empty)
       by false e = refl
 
   -- what is kept true, where one board is set or taken away
-  pub are_shelves : (w : Option Board) → ((q : List ℕ) → board_in new q ≡ cond (bytes_eq ns q) w (board_in old q)) → IsDistinct string_eq (keys_of new.shelves.entries) → IfSome w (λ s. IsBoard s × IsFull s) → AreShelvesBut ns old → AreShelves new
+  pub are_shelves : (w : Option Board) → ((q : List ℕ) → board_in new q ≡ cond (bytes_eq ns q) w (board_in old q)) → IsDistinct bytes_eq (keys_of new.shelves.entries) → IfSome w (λ s. IsBoard s × IsFull s) → AreShelvesBut ns old → AreShelves new
   are_shelves w is distinct sound was = (distinct, λ n board there. by n board w (bytes_eq ns n) refl sound (sym (is n) ∙ there))
     where
       by : (n : List ℕ) (board : Board) (o : Option Board) (b : Bool) → bytes_eq ns n ≡ b → IfSome o (λ s. IsBoard s × IsFull s) → cond b o (board_in old n) ≡ Some board → IsBoard board × IsFull board
@@ -155,7 +152,7 @@ module _ (old new : Shelves) (ns : List ℕ) where
       by n board o false other _ e = ((was.1 n board e).0, (was.1 n board e).1 other)
 
   -- where the board is set, and may be without places
-  pub are_but : (w : Board) → ((q : List ℕ) → board_in new q ≡ cond (bytes_eq ns q) (Some w) (board_in old q)) → IsDistinct string_eq (keys_of new.shelves.entries) → IsBoard w → AreShelves old → AreShelvesBut ns new
+  pub are_but : (w : Board) → ((q : List ℕ) → board_in new q ≡ cond (bytes_eq ns q) (Some w) (board_in old q)) → IsDistinct bytes_eq (keys_of new.shelves.entries) → IsBoard w → AreShelves old → AreShelvesBut ns new
   are_but w is distinct sound was = (distinct, λ n board there. by n board (bytes_eq ns n) refl (sym (is n) ∙ there))
     where
       by : (n : List ℕ) (board : Board) (b : Bool) → bytes_eq ns n ≡ b → cond b (Some w) (board_in old n) ≡ Some board → IsBoard board × (bytes_eq ns n ≡ false → IsFull board)
@@ -163,18 +160,18 @@ module _ (old new : Shelves) (ns : List ℕ) where
       by n board false _ e = ((was.1 n board e).0, λ _. (was.1 n board e).1)
 
   -- where a board is written
-  pub looks : (was board : Board) → board_in old ns ≡ Some was → WritesThrough string_eq (λ k. bytes_eq ns (string_bytes k)) old.shelves board new.shelves → (q : List ℕ) → board_in new q ≡ cond (bytes_eq ns q) (Some board) (board_in old q)
-  looks was board there writes = hash_map_updates_text ns old.shelves new.shelves (Some board) (writes.3 (ap is_some there))
+  pub looks : (was board : Board) → board_in old ns ≡ Some was → WritesThrough bytes_eq (bytes_eq ns) old.shelves board new.shelves → (q : List ℕ) → board_in new q ≡ cond (bytes_eq ns q) (Some board) (board_in old q)
+  looks was board there writes = (writes.3 (ap is_some there)).0
 
-  pub written_edits : (g : Place → Place) (name : List ℕ) (was board : Board) → board_in old ns ≡ Some was → WritesThrough string_eq (λ k. bytes_eq ns (string_bytes k)) old.shelves board new.shelves → EditsBoard g was board name → EditsShelves g old new ns name
+  pub written_edits : (g : Place → Place) (name : List ℕ) (was board : Board) → board_in old ns ≡ Some was → WritesThrough bytes_eq (bytes_eq ns) old.shelves board new.shelves → EditsBoard g was board name → EditsShelves g old new ns name
   written_edits g name was board there writes edits = lift_edits g old new ns name was board there (looks was board there writes) edits
 
-  pub written_full : (was board : Board) → board_in old ns ≡ Some was → WritesThrough string_eq (λ k. bytes_eq ns (string_bytes k)) old.shelves board new.shelves → (IsBoard was → IsBoard board) → (IsFull was → IsFull board) → AreShelves old → AreShelves new
+  pub written_full : (was board : Board) → board_in old ns ≡ Some was → WritesThrough bytes_eq (bytes_eq ns) old.shelves board new.shelves → (IsBoard was → IsBoard board) → (IsFull was → IsFull board) → AreShelves old → AreShelves new
   written_full was board there writes keeps full sound =
       let before = sound.1 ns was there in
       are_shelves (Some board) (looks was board there writes) writes.4 (keeps before.0, full before.1) (all_but old ns sound)
 
-  pub written_but : (was board : Board) → board_in old ns ≡ Some was → WritesThrough string_eq (λ k. bytes_eq ns (string_bytes k)) old.shelves board new.shelves → (IsBoard was → IsBoard board) → AreShelves old → AreShelvesBut ns new
+  pub written_but : (was board : Board) → board_in old ns ≡ Some was → WritesThrough bytes_eq (bytes_eq ns) old.shelves board new.shelves → (IsBoard was → IsBoard board) → AreShelves old → AreShelvesBut ns new
   written_but was board there writes keeps sound = are_but board (looks was board there writes) writes.4 (keeps (sound.1 ns was there).0) sound
 
 pub either_way : {X Y : Type 0} {P Q R S : Type 0} (r : Result X Y) → MatchResult r (λ _. P) (λ _. Q) → (P → R) → (Q → S) → MatchResult r (λ _. R) (λ _. S)

@@ -1,11 +1,10 @@
 -- What is found among the objects of places: each in the place of its identity.
 use Rattle.std.proofs.Common.{◌≡◌, ◌<◌, ◌+◌, ◌-◌, ◌==◌, ℕ, zero, suc, Bool, true, false, cond, ◌&&◌, Option, Some, None, List, [], ◌∷◌, refl, sym, ap, subst, ◌∙◌, true≢false, eqb-true, eq-eqb, arith}
-use Rattle.std.specs.Prelude.{String, is_some, option_and_then, slice_get}
+use Rattle.std.specs.Prelude.{is_some, option_and_then, slice_get}
 use Rattle.std.specs.Option.{option_or}
 use Rattle.std.specs.List.{AllByRecursion, IsDistinct, flat_map}
 use Rattle.std.specs.Map.{keys_of, values_of, lookup}
 use Rattle.std.specs.Str.{bytes_eq}
-use Rattle.std.specs.String.{string_bytes, string_eq}
 use Rattle.std.proofs.lemmas.Bool.{false_from_ne_true}
 use Rattle.std.proofs.lemmas.Option.{slice_get_within}
 use Rattle.std.proofs.lemmas.List.Folds.{find-append}
@@ -33,39 +32,39 @@ or_none : {X : Type 0} (o : Option X) → option_or o None ≡ o
 or_none None = refl
 or_none (Some x) = refl
 
-module _ {Y V : Type 0} where
+module _ {V : Type 0} where
   -- no later key is that of the first
-  pub none_among : (k : String Y) (n : List ℕ) (es : List (String Y × V)) → bytes_eq n (string_bytes k) ≡ true → AllByRecursion (λ y. string_eq k y ≡ false) (keys_of es) → lookup (λ y. bytes_eq n (string_bytes y)) es ≡ None
+  pub none_among : (k : List ℕ) (n : List ℕ) (es : List (List ℕ × V)) → bytes_eq n k ≡ true → AllByRecursion (λ y. bytes_eq k y ≡ false) (keys_of es) → lookup (bytes_eq n) es ≡ None
   none_among k n [] same apart = refl
   none_among k n (e ∷ es) same apart =
-      let other : bytes_eq n (string_bytes e.0) ≡ false = subst (λ m. bytes_eq m (string_bytes e.0) ≡ false) (sym ((bytes_eq-Decides n (string_bytes k)).0 same)) apart.0 in
-      ap (λ b. cond b (Some e.1) (lookup (λ y. bytes_eq n (string_bytes y)) es)) other ∙ none_among k n es same apart.1
+      let other : bytes_eq n e.0 ≡ false = subst (λ m. bytes_eq m e.0 ≡ false) (sym ((bytes_eq-Decides n k).0 same)) apart.0 in
+      ap (λ b. cond b (Some e.1) (lookup (bytes_eq n) es)) other ∙ none_among k n es same apart.1
 
   -- what holds of all that look-ups find holds of each entry
-  pub each : (P : List ℕ → V → Type 0) (es : List (String Y × V)) → IsDistinct string_eq (keys_of es) → ((n : List ℕ) (v : V) → lookup (λ y. bytes_eq n (string_bytes y)) es ≡ Some v → P n v) → AllByRecursion (λ e. P (string_bytes e.0) e.1) es
+  pub each : (P : List ℕ → V → Type 0) (es : List (List ℕ × V)) → IsDistinct bytes_eq (keys_of es) → ((n : List ℕ) (v : V) → lookup (bytes_eq n) es ≡ Some v → P n v) → AllByRecursion (λ e. P e.0 e.1) es
   each P [] distinct holds = tt
   each P (e ∷ es) distinct holds = (
-    holds (string_bytes e.0) e.1 (ap (λ b. cond b (Some e.1) (lookup (λ y. bytes_eq (string_bytes e.0) (string_bytes y)) es)) (text_itself (string_bytes e.0))),
-    each P es (IsDistinct-tail string_eq e.0 (keys_of es) distinct) (λ n v later. holds n v (past n v (bytes_eq n (string_bytes e.0)) refl later)),
+    holds e.0 e.1 (ap (λ b. cond b (Some e.1) (lookup (bytes_eq e.0) es)) (text_itself e.0)),
+    each P es (IsDistinct-tail bytes_eq e.0 (keys_of es) distinct) (λ n v later. holds n v (past n v (bytes_eq n e.0) refl later)),
   )
     where
-      past : (n : List ℕ) (v : V) (b : Bool) → bytes_eq n (string_bytes e.0) ≡ b → lookup (λ y. bytes_eq n (string_bytes y)) es ≡ Some v → cond (bytes_eq n (string_bytes e.0)) (Some e.1) (lookup (λ y. bytes_eq n (string_bytes y)) es) ≡ Some v
-      past n v true same later = absurd (true≢false (ap is_some (sym later ∙ none_among e.0 n es same (IsDistinct-head string_eq e.0 (keys_of es) distinct))))
-      past n v false other later = ap (λ b. cond b (Some e.1) (lookup (λ y. bytes_eq n (string_bytes y)) es)) other ∙ later
+      past : (n : List ℕ) (v : V) (b : Bool) → bytes_eq n e.0 ≡ b → lookup (bytes_eq n) es ≡ Some v → cond (bytes_eq n e.0) (Some e.1) (lookup (bytes_eq n) es) ≡ Some v
+      past n v true same later = absurd (true≢false (ap is_some (sym later ∙ none_among e.0 n es same (IsDistinct-head bytes_eq e.0 (keys_of es) distinct))))
+      past n v false other later = ap (λ b. cond b (Some e.1) (lookup (bytes_eq n) es)) other ∙ later
 
 -- ---- where all objects of an entry have its key, what is found is found in one entry
 
-module _ {Y V : Type 0} (f : V → List Object) (q : Id) (n : List ℕ) where
-  pub level : (es : List (String Y × V)) → IsDistinct string_eq (keys_of es) → AllByRecursion (λ e. bytes_eq n (string_bytes e.0) ≡ false → object_at (f e.1) q ≡ None) es
-      → object_at (flat_map f (values_of es)) q ≡ option_and_then (λ v. object_at (f v) q) (lookup (λ y. bytes_eq n (string_bytes y)) es)
+module _ {V : Type 0} (f : V → List Object) (q : Id) (n : List ℕ) where
+  pub level : (es : List (List ℕ × V)) → IsDistinct bytes_eq (keys_of es) → AllByRecursion (λ e. bytes_eq n e.0 ≡ false → object_at (f e.1) q ≡ None) es
+      → object_at (flat_map f (values_of es)) q ≡ option_and_then (λ v. object_at (f v) q) (lookup (bytes_eq n) es)
   level [] distinct apart = refl
   level (e ∷ es) distinct apart =
       find-append (λ x. same_id q x.id) (f e.1) (flat_map f (values_of es))
-      ∙ by (level es (IsDistinct-tail string_eq e.0 (keys_of es) distinct) apart.1) (bytes_eq n (string_bytes e.0)) refl
+      ∙ by (level es (IsDistinct-tail bytes_eq e.0 (keys_of es) distinct) apart.1) (bytes_eq n e.0) refl
     where
-      by : object_at (flat_map f (values_of es)) q ≡ option_and_then (λ v. object_at (f v) q) (lookup (λ y. bytes_eq n (string_bytes y)) es)
-          → (b : Bool) → bytes_eq n (string_bytes e.0) ≡ b → option_or (object_at (f e.1) q) (object_at (flat_map f (values_of es)) q) ≡ option_and_then (λ v. object_at (f v) q) (cond b (Some e.1) (lookup (λ y. bytes_eq n (string_bytes y)) es))
-      by rest true same = ap (option_or (object_at (f e.1) q)) (rest ∙ ap (option_and_then (λ v. object_at (f v) q)) (none_among e.0 n es same (IsDistinct-head string_eq e.0 (keys_of es) distinct))) ∙ or_none (object_at (f e.1) q)
+      by : object_at (flat_map f (values_of es)) q ≡ option_and_then (λ v. object_at (f v) q) (lookup (bytes_eq n) es)
+          → (b : Bool) → bytes_eq n e.0 ≡ b → option_or (object_at (f e.1) q) (object_at (flat_map f (values_of es)) q) ≡ option_and_then (λ v. object_at (f v) q) (cond b (Some e.1) (lookup (bytes_eq n) es))
+      by rest true same = ap (option_or (object_at (f e.1) q)) (rest ∙ ap (option_and_then (λ v. object_at (f v) q)) (none_among e.0 n es same (IsDistinct-head bytes_eq e.0 (keys_of es) distinct))) ∙ or_none (object_at (f e.1) q)
       by rest false other = ap (λ o. option_or o (object_at (flat_map f (values_of es)) q)) (apart.0 other) ∙ rest
 
 -- ---- the objects of one kind and namespace

@@ -4,7 +4,6 @@ use Rattle.std.specs.Prelude.{is_some, option_and_then, slice_get}
 use Rattle.std.specs.Option.{option_map_or}
 use Rattle.std.specs.List.{AllByRecursion}
 use Rattle.std.specs.List.Sorted.{IsPermutation, IsSortedByKey}
-use Rattle.std.specs.Cmp.{both_ways}
 use Rattle.std.specs.Str.{bytes_eq}
 use Rattle.std.proofs.lemmas.Bool.{and_parts}
 use Rattle.std.proofs.lemmas.List.Elements.{filter_agree}
@@ -20,7 +19,7 @@ use Rattle.hx_model.specs.State.{same_id, object_at}
 use Rattle.hx_model.specs.Limits.{is_copy}
 use Rattle.hx_model.proofs.Objects.{ascends-objects_from, same_kind}
 use Rattle.hx_store.specs.Places.{entries_of, Place, AreDistinct, IsSound, found, kind_at, place_in, place_of, place_at, board_in, of_place, objects_in, objects_under, objects_listed, all_objects, objects_at}
-use Rattle.hx_store.specs.Sources.{is_source, is_source_of, is_anchor_of, is_indexed, is_indexed_of, indexed_in}
+use Rattle.hx_store.specs.Sources.{is_source, is_source_of, is_indexed, is_indexed_of, indexed_in}
 use Rattle.hx_store.specs.ByName.{IsIndex, turned_places, turned}
 use Rattle.hx_store.specs.declared.board.Board.{Board}
 use Rattle.hx_store.specs.declared.shelves.Shelves.{Shelves}

@@ -8,7 +8,6 @@ use Rattle.std.specs.Cmp.{both_ways, tied_itself}
 use Rattle.std.specs.List.{IsDistinct, flat_map}
 use Rattle.std.specs.Map.{keys_of, values_of, lookup}
 use Rattle.std.specs.Str.{bytes_eq}
-use Rattle.std.specs.String.{string_bytes, string_eq}
 use Rattle.hx_object.specs.Kinds.{number_of}
 use Rattle.hx_object.specs.declared.object.Id.{Id}
 use Rattle.hx_object.specs.declared.object.Object.{Object}
@@ -197,11 +196,11 @@ fill_edits old new w o id is_o is_id edits = subst (λ i. EditsPlaces (filled (o
 module _ (places : Places) (long : length places.kinds ≡ 14) (empty : (i : ℕ) (shelves : Shelves) → slice_get places.kinds i ≡ Some shelves → shelves.shelves.entries ≡ []) where
   empty_shelves : (shelves : Shelves) → shelves.shelves.entries ≡ [] → AreShelves shelves
   unfolding IsDistinct
-  empty_shelves shelves e = (subst (λ es. IsDistinct string_eq (keys_of es)) (sym e) tt, λ ns board there. absurd (true≢false (sym (ap is_some (sym (ap (lookup (λ k. bytes_eq ns (string_bytes k))) e) ∙ there)))))
+  empty_shelves shelves e = (subst (λ es. IsDistinct bytes_eq (keys_of es)) (sym e) tt, λ ns board there. absurd (true≢false (sym (ap is_some (sym (ap (lookup (bytes_eq ns)) e) ∙ there)))))
 
   empty_place : (id : Id) (o : Option Shelves) → kind_at places id.kind ≡ o → option_and_then (λ s. place_of s id.ns id.name) o ≡ None
   empty_place id None e = refl
-  empty_place id (Some s) e = ap (λ es. option_and_then (λ board. place_in board id.name) (lookup (λ k. bytes_eq id.ns (string_bytes k)) es)) (empty (number_of id.kind - 1) s e)
+  empty_place id (Some s) e = ap (λ es. option_and_then (λ board. place_in board id.name) (lookup (bytes_eq id.ns) es)) (empty (number_of id.kind - 1) s e)
 
   pub none_placed : (id : Id) → place_at places id ≡ None
   none_placed id = empty_place id (kind_at places id.kind) refl

@@ -9,14 +9,12 @@
 --     objects_in, objects_of     the objects of one kind and namespace;  of one kind
 --     objects_at places          all objects, in the order of their identities
 --     IsReady places staged      what a store keeps true: each object is in its place, each staged write has its place, and no place is empty but those
-use Rattle.std.specs.Prelude.{String, ◌≡◌, ◌≢◌, ℕ, ◌-◌, Bool, true, false, ◌&&◌, cond, List, [], ◌∷◌, Option, Some, None, IsSome, option_and_then, length}
+use Rattle.std.specs.Prelude.{◌≡◌, ◌≢◌, ℕ, ◌-◌, Bool, true, false, ◌&&◌, cond, List, [], ◌∷◌, Option, Some, None, IsSome, option_and_then, length}
 use Rattle.std.specs.List.{IsDistinct, flat_map, list_any, slice_get}
 use Rattle.std.specs.Map.{keys_of, lookup, values_of}
-use Rattle.std.specs.HashMap.{get_by_text}
+use Rattle.std.specs.HashMap.{get}
 use Rattle.std.specs.Option.{option_map_or}
 use Rattle.std.specs.Str.{bytes_eq}
-use Rattle.std.specs.declared.alloc.Global.{Global}
-use Rattle.std.specs.String.{string_bytes, string_eq}
 use Rattle.hx_object.specs.Kinds.{number_of}
 use Rattle.hx_object.specs.declared.kind.Kind.{Kind}
 use Rattle.hx_object.specs.declared.object.Id.{Id}
@@ -42,17 +40,17 @@ found place = option_and_then (λ o. o) place
 
 -- the place of a name on a shelf
 abbrev pub place_on : Shelf → List ℕ → Place
-place_on shelf name = get_by_text shelf.places name
+place_on shelf name = get bytes_eq shelf.places name
 
 -- the places of a board, with their names
-abbrev pub entries_of : Board → List (String Global × Option Object)
+abbrev pub entries_of : Board → List (List ℕ × Option Object)
 entries_of Empty = []
 entries_of (One name place) = (name, place) ∷ []
 entries_of (Many shelf) = shelf.value.places.entries
 
 -- the place of a name on a board
 abbrev pub place_in : Board → List ℕ → Place
-place_in board name = lookup (λ k. bytes_eq name (string_bytes k)) (entries_of board)
+place_in board name = lookup (bytes_eq name) (entries_of board)
 
 -- the place of a name, where there is but one
 abbrev pub place_alone : List ℕ → Option Object → List ℕ → Place
@@ -60,7 +58,7 @@ place_alone held place name = cond (bytes_eq name held) (Some place) None
 
 -- the board of a namespace
 abbrev pub board_in : Shelves → List ℕ → Option Board
-board_in shelves ns = get_by_text shelves.shelves ns
+board_in shelves ns = get bytes_eq shelves.shelves ns
 
 -- the place of a namespace and a name
 abbrev pub place_of : Shelves → List ℕ → List ℕ → Place
@@ -123,11 +121,11 @@ AreInOrder (Many shelf) = IsInOrder shelf.value
 
 -- no two places of a board have one name
 abbrev pub AreDistinct : Board → Type 0
-AreDistinct board = IsDistinct string_eq (keys_of (entries_of board))
+AreDistinct board = IsDistinct bytes_eq (keys_of (entries_of board))
 
 -- so it is, and the names descend if that is said: on a shelf, and on a board
 abbrev pub IsShelf : Shelf → Type 0
-IsShelf shelf = IsDistinct string_eq (keys_of shelf.places.entries) × IsInOrder shelf
+IsShelf shelf = IsDistinct bytes_eq (keys_of shelf.places.entries) × IsInOrder shelf
 
 abbrev pub IsBoard : Board → Type 0
 IsBoard board = AreDistinct board × AreInOrder board
@@ -138,11 +136,11 @@ IsFull board = entries_of board ≢ []
 
 -- no two boards have one namespace, no two places of a board one name, and no board is without places
 abbrev pub AreShelves : Shelves → Type 0
-AreShelves shelves = IsDistinct string_eq (keys_of shelves.shelves.entries) × ((ns : List ℕ) (board : Board) → board_in shelves ns ≡ Some board → IsBoard board × IsFull board)
+AreShelves shelves = IsDistinct bytes_eq (keys_of shelves.shelves.entries) × ((ns : List ℕ) (board : Board) → board_in shelves ns ≡ Some board → IsBoard board × IsFull board)
 
 -- so it is, but that the board of one namespace may be without places
 abbrev pub AreShelvesBut : List ℕ → Shelves → Type 0
-AreShelvesBut but shelves = IsDistinct string_eq (keys_of shelves.shelves.entries) × ((ns : List ℕ) (board : Board) → board_in shelves ns ≡ Some board → IsBoard board × (bytes_eq but ns ≡ false → IsFull board))
+AreShelvesBut but shelves = IsDistinct bytes_eq (keys_of shelves.shelves.entries) × ((ns : List ℕ) (board : Board) → board_in shelves ns ≡ Some board → IsBoard board × (bytes_eq but ns ≡ false → IsFull board))
 
 -- so it is for each of the kinds
 abbrev pub ArePlaces : Places → Type 0

@@ -5,7 +5,7 @@ ghost use Rattle.hx_store.specs.Least.{IsLeast};
 ghost use Rattle.hx_store.specs.Places.{IsBoard, IsShelf, place_in, place_on, place_alone, entries_of, found, EditsBoard, made, filled, swept, unchanged, objects_in, IsNewBoard};
 
 use crate::shelf::{Shelf, list_place};
-use hx_object::{NoMemory, Shared};
+use hx_object::{NoMemory, Shared, Text};
 use std::alloc::Global;
 use std::hash::RandomState;
 
@@ -16,7 +16,7 @@ pub(crate) enum Board {
     /// No places.
     Empty,
     /// The place of one name.
-    One { name: String, place: Option<Shared> },
+    One { name: Text, place: Option<Shared> },
     /// A shelf of places.
     Many(Box<Shelf>),
 }
@@ -41,7 +41,7 @@ impl Board {
         ensures places { IfOk result (IsNewBoard name.now) }
     {
         Ok(Board::One {
-            name: String::from_str(alloc, name)?,
+            name: Text::of(alloc, name)?,
             place: None,
         })
     }

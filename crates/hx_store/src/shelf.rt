@@ -1,17 +1,16 @@
 // The objects of one kind in one namespace.
 ghost use Rattle.std.specs.Prelude.{◌≡◌, ◌++◌, ◌↔◌, ℕ, List, cond, Some, None, IfSome, IfOk, OnOk, IsTrue, [], MatchResult, option_copied};
-ghost use Rattle.std.specs.HashMap.{get_by_text};
+ghost use Rattle.std.specs.HashMap.{get};
 ghost use Rattle.std.specs.List.{IsDistinct};
 ghost use Rattle.std.specs.Map.{keys_of};
 ghost use Rattle.std.specs.Map.Iter.{deref_pair};
 ghost use Rattle.std.specs.Str.{bytes_eq};
-ghost use Rattle.std.specs.String.{string_eq};
 ghost use Rattle.std.specs.Option.{option_map};
 ghost use Rattle.hx_store.specs.Least.{Descends, IsLeast, lesser, least_entry};
 ghost use Rattle.hx_store.specs.Places.{IsShelf, place_on, found, EditsShelf, made, filled, swept, unchanged, of_place, objects_on, IsNewShelf};
 
 use crate::map::{TextMap, empty_map};
-use hx_object::{NoMemory, Shared};
+use hx_object::{NoMemory, Shared, Text};
 use std::alloc::Global;
 use std::hash::RandomState;
 
@@ -65,7 +64,7 @@ impl Shelf {
         if self.places.contains_key(name) {
             return Ok(());
         }
-        let key = String::from_str(*self.places.allocator(), name)?;
+        let key = Text::of(*self.places.allocator(), name)?;
         self.descends = false;
         let _none = self.places.insert(key, None)?;
         Ok(())
@@ -160,7 +159,7 @@ impl Shelf {
     }
 
     /// The object of the least name, with the name. It looks at every place.
-    fn walk(&self) -> Option<(&String, &Shared)>
+    fn walk(&self) -> Option<(&Text, &Shared)>
         ensures { option_map deref_pair result ≡ least_entry None self.now.places.entries }
     {
         let mut least = None;
@@ -183,9 +182,9 @@ pub(crate) fn list_place(place: &Option<Shared>, listed: &mut Vec<Shared>) -> Re
 
 /// Sorts places by their names, in descending order.
 fn sort(places: &mut TextMap<Option<Shared>>) -> Result<(), NoMemory>
-    ensures distinct { IsDistinct string_eq (keys_of places.new.entries) }
+    ensures distinct { IsDistinct bytes_eq (keys_of places.new.entries) }
     ensures descends { OnOk result (Descends (keys_of places.new.entries)) }
-    ensures places { (q : List ℕ) → get_by_text places.new q ≡ get_by_text places.old q }
+    ensures places { (q : List ℕ) → get bytes_eq places.new q ≡ get bytes_eq places.old q }
 {
     places.sort_unstable_keys()?;
     places.reverse();
@@ -194,10 +193,10 @@ fn sort(places: &mut TextMap<Option<Shared>>) -> Result<(), NoMemory>
 
 /// The one of the lesser name: of an object that was found before, and what a place holds.
 fn lesser<'a>(
-    best: Option<(&'a String, &'a Shared)>,
-    name: &'a String,
+    best: Option<(&'a Text, &'a Shared)>,
+    name: &'a Text,
     place: &'a Option<Shared>,
-) -> Option<(&'a String, &'a Shared)>
+) -> Option<(&'a Text, &'a Shared)>
     ensures { option_map deref_pair result ≡ lesser (option_map deref_pair best.entry) (name.now, place.now) }
 {
     let Some(object) = place else {

@@ -6,7 +6,7 @@ ghost use Rattle.hx_store.specs.Places.{AreShelves, AreShelvesBut, board_in, pla
 
 use crate::board::Board;
 use crate::map::{TextMap, empty_map};
-use hx_object::{NoMemory, Shared};
+use hx_object::{NoMemory, Shared, Text};
 use std::alloc::Global;
 use std::hash::RandomState;
 
@@ -69,7 +69,7 @@ impl Shelves {
     {
         let alloc = *self.shelves.allocator();
         let board = Board::new(alloc, name)?;
-        let _none = self.shelves.insert(String::from_str(alloc, ns)?, board)?;
+        let _none = self.shelves.insert(Text::of(alloc, ns)?, board)?;
         Ok(())
     }
 

@@ -11,8 +11,8 @@ pub loop-change-preserved : goal.loop-change-preserved
 loop-change-preserved c = elim c.match-object.branch [
   | in-Some+in_ok-row_put-in-Some+in_ok-push-in-Some w ↦ rw (w.puts-is, w.cuts-is) (batched_put c.args.writes.now c.loop-change.change-index c.loop-change.puts.items w.push.new.self.items c.loop-change.cuts.items c.change-item.result w.in-Some.object.now w.in_ok-row_put-in-Some.field-0 c.loop-change.invariant c.loop-change-test.true c.change-item.is
       w.in-Some.ensures w.in_ok-row_put-in-Some.ensures.put w.in_ok-row_put-in-Some.ensures.key w.in_ok-push-in-Some.ensures.items)
-  | in-None+in_ok-key_of-in-None+in_ok-push-in-None w ↦ rw (w.puts-is, w.cuts-is) (batched_cut c.args.writes.now c.loop-change.change-index c.loop-change.puts.items c.loop-change.cuts.items w.push-in-None.new.self.items c.change-item.result w.into_bytes.result c.loop-change.invariant c.loop-change-test.true c.change-item.is
-      w.in-None.ensures (w.into_bytes.ensures.value ∙ w.in_ok-key_of-in-None.ensures ∙ ap key_text w.id.ensures) w.into_bytes.ensures.utf8 w.in_ok-push-in-None.ensures.items)
+  | in-None+in_ok-key_of-in-None+in_ok-push-in-None w ↦ rw (w.puts-is, w.cuts-is) (batched_cut c.args.writes.now c.loop-change.change-index c.loop-change.puts.items c.loop-change.cuts.items w.push-in-None.new.self.items c.change-item.result w.in_ok-key_of-in-None.field-0 c.loop-change.invariant c.loop-change-test.true c.change-item.is
+      w.in-None.ensures (w.in_ok-key_of-in-None.ensures.key ∙ ap key_text w.id.ensures) w.in_ok-key_of-in-None.ensures.text w.in_ok-push-in-None.ensures.items)
 ]
 
 pub returns-clause-batch : goal.returns-clause-batch

@@ -3,4 +3,4 @@ use Rattle.hx_store.proofs.Edits.{one_board}
 use Rattle.hx_store.proofs.board.Board.new.Goals as goal
 
 pub returns-clause-board : goal.returns-clause-board
-returns-clause-board c = one_board c.in_ok-from_str.field-0 None
+returns-clause-board c = one_board c.in_ok-of.field-0 None

@@ -1,7 +1,6 @@
 use Rattle.std.proofs.Common.{◌≡◌, Some, sym, ap, ◌∙◌}
 use Rattle.std.specs.Prelude.{is_some}
 use Rattle.std.specs.Option.{option_copied_mut}
-use Rattle.std.proofs.lemmas.Map.Text.{hash_map_updates_text}
 use Rattle.hx_store.specs.Places.{place_on, filled}
 use Rattle.hx_store.proofs.Edits.{set_edits}
 use Rattle.hx_store.proofs.shelf.Shelf.fill.Goals as goal
@@ -12,4 +11,4 @@ returns-in-Some-clause-places c =
     let was : place_on old c.args.name.now ≡ Some c.in-Some.place.now = sym c.get_mut.ensures.value ∙ ap option_copied_mut c.in-Some.is in
     let updates = (c.get_mut.follows.holds c.args.object).3 (ap is_some was) in
     set_edits (filled c.args.object) (place_on old) (place_on (record { places = c.get_mut.follows.lender c.args.object; descends = old.descends })) c.args.name.now (Some c.args.object)
-    (hash_map_updates_text c.args.name.now old.places (c.get_mut.follows.lender c.args.object) (Some c.args.object) updates) (ap (filled c.args.object) (sym was))
+    updates.0 (ap (filled c.args.object) (sym was))

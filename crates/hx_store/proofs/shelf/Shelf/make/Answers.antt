@@ -1,7 +1,5 @@
 use Rattle.std.proofs.Common.{◌≡◌, List, ℕ, Some, None, false, cond, sym, ap, ◌∙◌}
 use Rattle.std.specs.Str.{bytes_eq}
-use Rattle.std.specs.String.{string_bytes}
-use Rattle.std.proofs.lemmas.Map.Text.{hash_map_updates_text}
 use Rattle.hx_store.specs.Places.{place_on, made}
 use Rattle.hx_store.proofs.Edits.{none_from, set_edits}
 use Rattle.hx_store.proofs.shelf.Shelf.make.Goals as goal
@@ -9,9 +7,7 @@ use Rattle.hx_store.proofs.shelf.Shelf.make.Goals as goal
 pub returns-clause-places : goal.returns-clause-places
 returns-clause-places c =
     let old = c.args.self.now in
-    let key = c.in_ok-key.key in
     let absent : place_on old c.args.name.now ≡ None = none_from (place_on old c.args.name.now) (sym c.contains_key.ensures ∙ c.if-contains_key.false) in
-    let updates = hash_map_updates_text (string_bytes key) old.places c.insert.new.self (Some None) c.in_ok-_none.ensures.updates in
     let at : (q : List ℕ) → place_on (record { places = c.insert.new.self; descends = false }) q ≡ cond (bytes_eq c.args.name.now q) (Some None) (place_on old q)
-    = λ q. updates q ∙ ap (λ n. cond (bytes_eq n q) (Some None) (place_on old q)) c.in_ok-key.ensures.ok in
+    = λ q. c.in_ok-_none.ensures.updates.0 q ∙ ap (λ n. cond (bytes_eq n q) (Some None) (place_on old q)) c.in_ok-key.ensures in
     set_edits made (place_on old) (place_on (record { places = c.insert.new.self; descends = false })) c.args.name.now (Some None) at (ap made (sym absent))

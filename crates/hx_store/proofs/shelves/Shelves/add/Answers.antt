@@ -1,16 +1,13 @@
 use Rattle.std.proofs.Common.{◌≡◌, List, ℕ, Some, cond, ap, ◌∙◌}
 use Rattle.std.specs.Str.{bytes_eq}
-use Rattle.std.specs.String.{string_bytes}
-use Rattle.std.proofs.lemmas.Map.Text.{hash_map_updates_text}
 use Rattle.hx_store.specs.Places.{board_in}
 use Rattle.hx_store.proofs.Edits.{all_but, new_edits, new_full, are_shelves, same_shelves}
 use Rattle.hx_store.proofs.shelves.Shelves.add.Goals as goal
 
 looks : (c : goal.Joined-none) → (q : List ℕ) → board_in (record { shelves = c.insert.new.self }) q ≡ cond (bytes_eq c.args.ns.now q) (Some c.in_ok-board.board) (board_in c.args.self.now q)
 looks c q =
-    let key = c.in_ok-from_str.field-0 in
-    hash_map_updates_text (string_bytes key) c.args.self.now.shelves c.insert.new.self (Some c.in_ok-board.board) c.in_ok-_none.ensures.updates q
-    ∙ ap (λ n. cond (bytes_eq n q) (Some c.in_ok-board.board) (board_in c.args.self.now q)) c.in_ok-from_str.ensures.ok
+    c.in_ok-_none.ensures.updates.0 q
+    ∙ ap (λ n. cond (bytes_eq n q) (Some c.in_ok-board.board) (board_in c.args.self.now q)) c.in_ok-of.ensures
 
 pub returns-clause-shelves : goal.returns-clause-shelves
 returns-clause-shelves c sound = are_shelves c.args.self.now (record { shelves = c.insert.new.self }) c.args.ns.now (Some c.in_ok-board.board) (looks c) c.insert.ensures.unique

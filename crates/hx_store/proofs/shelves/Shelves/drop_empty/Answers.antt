@@ -1,13 +1,12 @@
 use Rattle.std.proofs.Common.{◌≡◌, List, ℕ, Some, None, cond, sym, ap, subst, ◌∙◌, true≢false}
 use Rattle.std.specs.Str.{bytes_eq}
 use Rattle.std.specs.Option.{option_copied}
-use Rattle.std.proofs.lemmas.Map.Text.{hash_map_updates_text}
 use Rattle.hx_store.specs.Places.{board_in, IsFull}
 use Rattle.hx_store.proofs.Edits.{drop_edits, are_shelves, none_but}
 use Rattle.hx_store.proofs.shelves.Shelves.drop_empty.Goals as goal
 
 looks : (c : goal.Joined-board) → (q : List ℕ) → board_in (record { shelves = c.swap_remove-board.new.self }) q ≡ cond (bytes_eq c.args.ns.now q) None (board_in c.args.self.now q)
-looks c = hash_map_updates_text c.args.ns.now c.args.self.now.shelves c.swap_remove-board.new.self None c.swap_remove-board.ensures.updates
+looks c = c.swap_remove-board.ensures.updates.0
 
 pub returns-then-is_empty-clause-shelves : goal.returns-then-is_empty-clause-shelves
 returns-then-is_empty-clause-shelves c = are_shelves c.args.self.now (record { shelves = c.swap_remove-board.new.self }) c.args.ns.now None (looks c) c.swap_remove-board.ensures.unique tt
