@@ -8,9 +8,9 @@ use Rattle.std.specs.Str.{bytes_eq}
 use Rattle.std.proofs.lemmas.Map.Keys.{IsDistinct-cons}
 use Rattle.std.proofs.lemmas.Slice.Eq.{bytes_eq-Decides}
 use Rattle.hx_object.specs.declared.object.Object.{Object}
-use Rattle.hx_store.specs.Places.{entries_of, place_alone, EditsShelf, Place, EditsBoard, EditsShelves, IsShelf, IsBoard, IsFull, IsNewShelf, IsNewBoard, AreShelves, AreShelvesBut, made, filled, unchanged, place_in, place_of, board_in}
+use Rattle.hx_store.specs.Places.{entries_of, Place, EditsBoard, EditsShelves, IsShelf, IsBoard, IsFull, IsNewBoard, AreShelves, AreShelvesBut, made, filled, unchanged, place_in, place_of, board_in}
 use Rattle.hx_store.specs.declared.board.Board.{Board}
-use Rattle.hx_store.specs.declared.board.Board.TheVariants.{Empty, One}
+use Rattle.hx_store.specs.declared.board.Board.TheVariants.{Empty, Held, One}
 use Rattle.hx_store.specs.declared.shelf.Shelf.{Shelf}
 use Rattle.hx_store.specs.declared.shelves.Shelves.{Shelves}
 
@@ -63,24 +63,16 @@ module _ (g : Place → Place) (old new : Shelves) (ns name : List ℕ) where
 pub all_but : (shelves : Shelves) (ns : List ℕ) → AreShelves shelves → AreShelvesBut ns shelves
 all_but shelves ns sound = (sound.0, λ n board there. ((sound.1 n board there).0, λ _. (sound.1 n board there).1))
 
--- a board of one place that becomes a shelf with one more place
-pub grown_edits : (old new : Board) (held : List ℕ) (place : Option Object) (name : List ℕ) → ((q : List ℕ) → place_in old q ≡ place_alone held place q)
-    → ((q : List ℕ) → place_in new q ≡ cond (bytes_eq name q) (made (place_alone held place q)) (place_alone held place q)) → EditsBoard made old new name
-grown_edits old new held place name before after q = after q ∙ ap (λ p. cond (bytes_eq name q) (made p) p) (sym (before q))
-
 -- where the boards are the same
 pub same_shelves : (old new : Shelves) → new.shelves.entries ≡ old.shelves.entries → AreShelves old → AreShelves new
 same_shelves old new same =
     subst (λ es. IsDistinct bytes_eq (keys_of es) × ((ns : List ℕ) (board : Board) → lookup (bytes_eq ns) es ≡ Some board → IsBoard board × IsFull board)) (sym same)
 
--- ---- shelves of no place, and of one
+-- ---- shelves of no place
 
 pub empty_shelf : (shelf : Shelf) → shelf.places.entries ≡ [] → shelf.descends ≡ false → IsShelf shelf
 unfolding IsDistinct
 empty_shelf shelf none not = (subst (λ es. IsDistinct bytes_eq (keys_of es)) (sym none) tt, λ is. absurd (true≢false (sym is ∙ not)))
-
-pub new_shelf : (old new : Shelf) (name : List ℕ) → old.places.entries ≡ [] → EditsShelf made old new name → IsNewShelf name new
-new_shelf old new name none edits q = edits q ∙ ap (λ es. let p = lookup (bytes_eq q) es in cond (bytes_eq name q) (made p) p) none
 
 -- ---- boards of no place, and of one
 
@@ -88,8 +80,14 @@ pub empty_board : IsBoard Empty
 unfolding IsDistinct
 empty_board = (tt, tt)
 
-pub one_board : (name : List ℕ) (place : Option Object) → IsBoard (One name place)
-one_board name place = (IsDistinct-cons bytes_eq name [] tt empty_board.0, tt)
+pub one_name : (name : List ℕ) → IsDistinct bytes_eq (name ∷ [])
+one_name name = IsDistinct-cons bytes_eq name [] tt empty_board.0
+
+pub held_board : (name : List ℕ) → IsBoard (Held name)
+held_board name = (one_name name, tt)
+
+pub one_board : (name : List ℕ) (object : Object) → IsBoard (One name object)
+one_board name object = (one_name name, tt)
 
 -- ---- places that stay
 
@@ -130,16 +128,6 @@ module _ (old new : Shelves) (ns : List ℕ) where
       by true e =
           let gone : board_in old n ≡ None = ap (board_in old) (sym ((bytes_eq-Decides ns n).0 e)) ∙ none in
           one m ∙ ap (λ o. let p = option_and_then (λ s. place_in s m) o in cond (bytes_eq name m) (made p) p) (sym gone)
-      by false e = refl
-
-  -- a board without places that is taken away
-  pub drop_edits : (board : Board) → board_in old ns ≡ Some board → entries_of board ≡ [] → ((q : List ℕ) → board_in new q ≡ cond (bytes_eq ns q) None (board_in old q)) → (n m : List ℕ) → place_of new n m ≡ place_of old n m
-  drop_edits board there empty is n m = ap (option_and_then (λ s. place_in s m)) (is n) ∙ by (bytes_eq ns n) refl
-    where
-      by : (b : Bool) → bytes_eq ns n ≡ b → option_and_then (λ s. place_in s m) (cond b None (board_in old n)) ≡ place_of old n m
-      by true e =
-          let found : board_in old n ≡ Some board = ap (board_in old) (sym ((bytes_eq-Decides ns n).0 e)) ∙ there in
-          sym (ap (option_and_then (λ s. place_in s m)) found ∙ ap (lookup (bytes_eq m)) empty)
       by false e = refl
 
   -- what is kept true, where one board is set or taken away
@@ -186,14 +174,6 @@ make_full old new name (Err _) edits full = full_edits unchanged old new name ed
 -- a new board has its place
 pub new_full : (name : List ℕ) (board : Board) → IsNewBoard name board → IsFull board
 new_full name board new = full_from board name (ap is_some (new name) ∙ ap (λ b. is_some (cond {A = Place} b (Some None) None)) ((bytes_eq-Decides name name).1 refl))
-
--- where the one board isn't without places either
-pub none_but : (shelves : Shelves) (ns : List ℕ) → ((board : Board) → board_in shelves ns ≡ Some board → IsFull board) → AreShelvesBut ns shelves → AreShelves shelves
-none_but shelves ns full sound = (sound.0, λ n board there. ((sound.1 n board there).0, by n board there (bytes_eq ns n) refl))
-  where
-    by : (n : List ℕ) (board : Board) → board_in shelves n ≡ Some board → (b : Bool) → bytes_eq ns n ≡ b → IsFull board
-    by n board there true same = full board (ap (board_in shelves) ((bytes_eq-Decides ns n).0 same) ∙ there)
-    by n board there false other = (sound.1 n board there).1 other
 
 -- ---- places that stay
 

@@ -28,7 +28,7 @@ use Rattle.hx_store.specs.declared.places.Places.{Places}
 pub text_itself : (n : List ℕ) → bytes_eq n n ≡ true
 text_itself n = (bytes_eq-Decides n n).1 refl
 
-or_none : {X : Type 0} (o : Option X) → option_or o None ≡ o
+pub or_none : {X : Type 0} (o : Option X) → option_or o None ≡ o
 or_none None = refl
 or_none (Some x) = refl
 

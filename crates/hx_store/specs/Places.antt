@@ -1,11 +1,11 @@
 -- Where a store keeps its objects: by kind, then by namespace, then by name. A place holds an object, or is empty.
---     entries_of board           the places of one kind and namespace, with their names: none, one, or those of a shelf
---     place_in board name        the place of a name, among those;  place_on shelf name, on a shelf
+--     entries_of board           the places of one kind and namespace, with their names: none, one, those of a rack, or those of a shelf
+--     place_in board name        the place of a name, among those;  place_along rack name, along a rack;  place_on shelf name, on a shelf
 --     place_of shelves ns name   the place of a namespace and a name, among the objects of one kind
 --     place_at places id         the place of an identity
 --     found place                the object in a place, where there is one
 --     EditsBoard g old new name  the place of one name changes by g, and every other stays
---     made, filled, swept        how a place changes: it is there;  it holds this;  it is gone if it is empty
+--     made, added, filled, swept how a place changes: it is there;  it is there, and holds this if it is new;  it holds this;  it is gone if it is empty
 --     objects_in, objects_of     the objects of one kind and namespace;  of one kind
 --     objects_at places          all objects, in the order of their identities
 --     IsReady places staged      what a store keeps true: each object is in its place, each staged write has its place, and no place is empty but those
@@ -25,7 +25,8 @@ use Rattle.hx_model.specs.declared.key.Write.TheVariants.{Put, Cut}
 use Rattle.hx_store.specs.Changes.{id_of}
 use Rattle.hx_store.specs.Least.{Descends}
 use Rattle.hx_store.specs.declared.board.Board.{Board}
-use Rattle.hx_store.specs.declared.board.Board.TheVariants.{Empty, One, Many}
+use Rattle.hx_store.specs.declared.board.Board.TheVariants.{Empty, Held, One, Few, Many}
+use Rattle.hx_store.specs.declared.rack.Rack.{Rack}
 use Rattle.hx_store.specs.declared.shelf.Shelf.{Shelf}
 use Rattle.hx_store.specs.declared.shelves.Shelves.{Shelves}
 use Rattle.hx_store.specs.declared.places.Places.{Places}
@@ -42,10 +43,16 @@ found place = option_and_then (λ o. o) place
 abbrev pub place_on : Shelf → List ℕ → Place
 place_on shelf name = get bytes_eq shelf.places name
 
+-- the place of a name along a rack
+abbrev pub place_along : Rack → List ℕ → Place
+place_along rack name = lookup (bytes_eq name) rack.places.items
+
 -- the places of a board, with their names
 abbrev pub entries_of : Board → List (List ℕ × Option Object)
 entries_of Empty = []
-entries_of (One name place) = (name, place) ∷ []
+entries_of (Held name) = (name, None) ∷ []
+entries_of (One name object) = (name, Some object) ∷ []
+entries_of (Few rack) = rack.places.items
 entries_of (Many shelf) = shelf.value.places.entries
 
 -- the place of a name on a board
@@ -74,10 +81,14 @@ place_at places id = option_and_then (λ shelves. place_of shelves id.ns id.name
 
 -- ---- how a place changes
 
+-- it is there, and holds this if it is new
+abbrev pub added : Option Object → Place → Place
+added o None = Some o
+added o (Some held) = Some held
+
 -- it is there, and empty if it is new
 abbrev pub made : Place → Place
-made None = Some None
-made (Some o) = Some o
+made place = added None place
 
 -- it holds this, if it is there
 abbrev pub filled : Option Object → Place → Place
@@ -93,7 +104,10 @@ swept _ = None
 abbrev pub unchanged : Place → Place
 unchanged place = place
 
--- the place of the name changes so, and every other stays: on a shelf, and on a board
+-- the place of the name changes so, and every other stays: along a rack, on a shelf, and on a board
+abbrev pub EditsRack : (Place → Place) → Rack → Rack → List ℕ → Type 0
+EditsRack g old new name = (q : List ℕ) → place_along new q ≡ cond (bytes_eq name q) (g (place_along old q)) (place_along old q)
+
 abbrev pub EditsShelf : (Place → Place) → Shelf → Shelf → List ℕ → Type 0
 EditsShelf g old new name = (q : List ℕ) → place_on new q ≡ cond (bytes_eq name q) (g (place_on old q)) (place_on old q)
 
@@ -116,12 +130,18 @@ IsInOrder shelf = shelf.descends ≡ true → Descends (keys_of shelf.places.ent
 
 abbrev pub AreInOrder : Board → Type 0
 AreInOrder Empty = Unit {0}
-AreInOrder (One name place) = Unit {0}
+AreInOrder (Held name) = Unit {0}
+AreInOrder (One name object) = Unit {0}
+AreInOrder (Few rack) = Unit {0}
 AreInOrder (Many shelf) = IsInOrder shelf.value
 
 -- no two places of a board have one name
 abbrev pub AreDistinct : Board → Type 0
 AreDistinct board = IsDistinct bytes_eq (keys_of (entries_of board))
+
+-- no two places of a rack have one name
+abbrev pub IsRack : Rack → Type 0
+IsRack rack = IsDistinct bytes_eq (keys_of rack.places.items)
 
 -- so it is, and the names descend if that is said: on a shelf, and on a board
 abbrev pub IsShelf : Shelf → Type 0
@@ -194,10 +214,7 @@ pub record IsReady (places : Places) (staged : List Write) : Type 0 where
   pub there : HasPlaces places staged
   pub awaited : AreAwaited places staged
 
--- the one place has the name, and is empty: on a shelf, and on a board
-abbrev pub IsNewShelf : List ℕ → Shelf → Type 0
-IsNewShelf name shelf = (q : List ℕ) → place_on shelf q ≡ cond (bytes_eq name q) (Some None) None
-
+-- the one place has the name, and is empty
 abbrev pub IsNewBoard : List ℕ → Board → Type 0
 IsNewBoard name board = (q : List ℕ) → place_in board q ≡ cond (bytes_eq name q) (Some None) None
 
@@ -208,7 +225,10 @@ abbrev pub of_place : Option Object → List Object
 of_place None = []
 of_place (Some x) = x ∷ []
 
--- the objects of one kind and namespace: on a shelf, and on a board
+-- the objects of one kind and namespace: along a rack, on a shelf, and on a board
+abbrev pub objects_along : Rack → List Object
+objects_along rack = flat_map of_place (values_of rack.places.items)
+
 abbrev pub objects_on : Shelf → List Object
 objects_on shelf = flat_map of_place (values_of shelf.places.entries)
 

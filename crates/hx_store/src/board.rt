@@ -1,22 +1,28 @@
-// The objects of one kind in one namespace: one by itself, or a shelf of them.
-ghost use Rattle.std.specs.Prelude.{◌≡◌, ◌++◌, ◌↔◌, ℕ, List, cond, IfOk, OnOk, IsTrue, [], MatchResult, option_copied};
+// The objects of one kind in one namespace: one by itself, a few in a rack, or more on a shelf.
+ghost use Rattle.std.specs.Prelude.{◌≡◌, ◌++◌, ◌∷◌, ◌↔◌, ℕ, List, cond, IfOk, OnOk, IsTrue, [], MatchResult, option_copied};
 ghost use Rattle.std.specs.Str.{bytes_eq};
 ghost use Rattle.hx_store.specs.Least.{IsLeast};
-ghost use Rattle.hx_store.specs.Places.{IsBoard, IsShelf, place_in, place_on, place_alone, entries_of, found, EditsBoard, made, filled, swept, unchanged, objects_in, IsNewBoard};
+ghost use Rattle.hx_store.specs.Places.{IsBoard, IsShelf, place_in, place_along, place_on, entries_of, found, EditsBoard, made, filled, swept, unchanged, objects_in, IsNewBoard};
 
-use crate::shelf::{Shelf, list_place};
+use crate::rack::Rack;
+use crate::shelf::Shelf;
 use hx_object::{NoMemory, Shared, Text};
 use std::alloc::Global;
 use std::hash::RandomState;
+use std::mem;
 
 /// The objects of one kind in one namespace, by their names.
 ///
-/// Most boards have one place, which needs no map. A shelf takes them when a second name gets a place.
+/// Most boards have one place, which needs no memory of its own. A rack takes the places when a second name gets one, and a shelf when the rack is full. They stay there when names go.
 pub(crate) enum Board {
     /// No places.
     Empty,
-    /// The place of one name.
-    One { name: Text, place: Option<Shared> },
+    /// The place of one name, which is empty.
+    Held { name: Text },
+    /// The object of one name.
+    One { name: Text, object: Shared },
+    /// A rack of places.
+    Few(Rack),
     /// A shelf of places.
     Many(Box<Shelf>),
 }
@@ -25,10 +31,12 @@ impl Drop for Board {
     fn drop(self) {
         match self {
             Board::Empty => {}
-            Board::One { name, place } => {
+            Board::Held { name } => drop(name),
+            Board::One { name, object } => {
                 drop(name);
-                drop(place);
+                drop(object);
             }
+            Board::Few(rack) => drop(rack),
             Board::Many(shelf) => drop(shelf),
         }
     }
@@ -40,9 +48,8 @@ impl Board {
         ensures board { IfOk result IsBoard }
         ensures places { IfOk result (IsNewBoard name.now) }
     {
-        Ok(Board::One {
+        Ok(Board::Held {
             name: Text::of(alloc, name)?,
-            place: None,
         })
     }
 
@@ -52,12 +59,14 @@ impl Board {
     {
         match self {
             Board::Empty => None,
-            Board::One { name: held, place } => {
+            Board::Held { .. } => None,
+            Board::One { name: held, object } => {
                 if name == held.as_str() {
-                    return place.as_ref();
+                    return Some(object);
                 }
                 None
             }
+            Board::Few(rack) => rack.find(name),
             Board::Many(shelf) => shelf.as_ref().find(name),
         }
     }
@@ -77,11 +86,26 @@ impl Board {
                 *self = Board::new(alloc, name)?;
                 Ok(())
             }
-            Board::One { name: held, place } => {
+            Board::Held { name: held } => {
                 if name == held.as_str() {
                     return Ok(());
                 }
-                *self = Board::Many(grown(alloc, keys, held.as_str(), place, name)?);
+                *self = Board::Few(Rack::of(alloc, held.as_str(), None, name)?);
+                Ok(())
+            }
+            Board::One { name: held, object } => {
+                if name == held.as_str() {
+                    return Ok(());
+                }
+                let place = Some(object.share()?);
+                *self = Board::Few(Rack::of(alloc, held.as_str(), place, name)?);
+                Ok(())
+            }
+            Board::Few(rack) => {
+                if rack.takes(name) {
+                    return rack.make(alloc, name);
+                }
+                *self = Board::Many(grown(alloc, keys, rack, name)?);
                 Ok(())
             }
             Board::Many(shelf) => shelf.as_mut().make(name),
@@ -89,19 +113,27 @@ impl Board {
     }
 
     /// Puts an object, or none, in the place of a name, where there is one.
-    pub(crate) fn fill(&mut self, name: &str, object: Option<Shared>)
+    pub(crate) fn fill(&mut self, alloc: Global, name: &str, object: Option<Shared>)
         ensures board { IsBoard self.old → IsBoard self.new }
         ensures places { EditsBoard (filled object) self.old self.new name.now }
     {
         match self {
             Board::Empty => drop(object),
-            Board::One { name: held, place } => {
+            Board::Held { name: held } => {
                 if name == held.as_str() {
-                    *place = object;
+                    *self = alone(taken(alloc, held), object);
                 } else {
                     drop(object);
                 }
             }
+            Board::One { name: held, .. } => {
+                if name == held.as_str() {
+                    *self = alone(taken(alloc, held), object);
+                } else {
+                    drop(object);
+                }
+            }
+            Board::Few(rack) => rack.fill(name, object),
             Board::Many(shelf) => shelf.as_mut().fill(name, object),
         }
     }
@@ -113,11 +145,13 @@ impl Board {
     {
         match self {
             Board::Empty => {}
-            Board::One { name: held, place } => {
-                if place.is_none() && name == held.as_str() {
+            Board::Held { name: held } => {
+                if name == held.as_str() {
                     *self = Board::Empty;
                 }
             }
+            Board::One { .. } => {}
+            Board::Few(rack) => rack.sweep(name),
             Board::Many(shelf) => shelf.as_mut().sweep(name),
         }
     }
@@ -128,7 +162,9 @@ impl Board {
     {
         match self {
             Board::Empty => true,
+            Board::Held { .. } => false,
             Board::One { .. } => false,
+            Board::Few(rack) => rack.is_empty(),
             Board::Many(shelf) => shelf.as_ref().is_empty(),
         }
     }
@@ -139,12 +175,17 @@ impl Board {
     {
         match self {
             Board::Empty => Ok(()),
-            Board::One { place, .. } => list_place(place, listed),
+            Board::Held { .. } => Ok(()),
+            Board::One { object, .. } => {
+                listed.push(object.share()?)?;
+                Ok(())
+            }
+            Board::Few(rack) => rack.list(listed),
             Board::Many(shelf) => shelf.as_ref().list(listed),
         }
     }
 
-    /// Puts the names in descending order where there are several. Where there is no memory for it, they stay as they are.
+    /// Puts the names in descending order where there are many. Where there is no memory for it, they stay as they are.
     pub(crate) fn sort(&mut self)
         ensures board { IsBoard self.old → IsBoard self.new }
         ensures places { (q : List ℕ) → place_in self.new q ≡ place_in self.old q }
@@ -160,43 +201,38 @@ impl Board {
     {
         match self {
             Board::Empty => None,
-            Board::One { place, .. } => place.as_ref(),
+            Board::Held { .. } => None,
+            Board::One { object, .. } => Some(object),
+            Board::Few(rack) => rack.least(),
             Board::Many(shelf) => shelf.as_ref().least(),
         }
     }
 }
 
-/// A shelf with one place, and an empty one of another name.
-fn grown(
-    alloc: Global,
-    keys: RandomState,
-    held: &str,
-    place: &Option<Shared>,
-    name: &str,
-) -> Result<Box<Shelf>, NoMemory>
-    ensures shelf { IfOk result (λ shelf. IsShelf shelf.value) }
-    ensures places { IfOk result (λ shelf. (q : List ℕ) → place_on shelf.value q ≡ cond (bytes_eq name.now q) (made (place_alone held.now place.now q)) (place_alone held.now place.now q)) }
+/// A board with one place.
+fn alone(name: Text, place: Option<Shared>) -> Board
+    ensures board { IsBoard result }
+    ensures places { entries_of result ≡ (name, place) ∷ [] }
 {
-    let mut shelf = shelf_of(alloc, keys, held, place)?;
-    shelf.make(name)?;
-    Ok(Box::new(alloc, shelf)?)
+    match place {
+        Some(object) => Board::One { name, object },
+        None => Board::Held { name },
+    }
 }
 
-/// A shelf with one place.
-fn shelf_of(
-    alloc: Global,
-    keys: RandomState,
-    name: &str,
-    place: &Option<Shared>,
-) -> Result<Shelf, NoMemory>
-    ensures shelf { IfOk result IsShelf }
-    ensures places { IfOk result (λ shelf. (q : List ℕ) → place_on shelf q ≡ place_alone name.now place.now q) }
+/// A name that is taken out of its board. An empty text, which needs no memory, stands there until the board is replaced.
+fn taken(alloc: Global, name: &mut Text) -> Text
+    ensures { result ≡ name.old }
 {
-    let object = match place {
-        Some(object) => Some(object.share()?),
-        None => None,
-    };
-    let mut shelf = Shelf::new(alloc, keys, name)?;
-    shelf.fill(name, object);
-    Ok(shelf)
+    mem::replace(name, Text::of_string(String::new(alloc)))
+}
+
+/// A shelf with the places of a rack, and an empty one of another name.
+fn grown(alloc: Global, keys: RandomState, rack: &Rack, name: &str) -> Result<Box<Shelf>, NoMemory>
+    ensures shelf { IfOk result (λ shelf. IsShelf shelf.value) }
+    ensures places { IfOk result (λ shelf. (q : List ℕ) → place_on shelf.value q ≡ cond (bytes_eq name.now q) (made (place_along rack.now q)) (place_along rack.now q)) }
+{
+    let mut shelf = rack.to_shelf(alloc, keys)?;
+    shelf.make(name)?;
+    Ok(Box::new(alloc, shelf)?)
 }

@@ -9,6 +9,7 @@ mod by_name;
 mod change;
 mod map;
 mod places;
+mod rack;
 mod shelf;
 mod shelves;
 mod store;

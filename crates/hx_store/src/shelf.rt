@@ -1,5 +1,5 @@
 // The objects of one kind in one namespace.
-ghost use Rattle.std.specs.Prelude.{◌≡◌, ◌++◌, ◌↔◌, ℕ, List, cond, Some, None, IfSome, IfOk, OnOk, IsTrue, [], MatchResult, option_copied};
+ghost use Rattle.std.specs.Prelude.{◌≡◌, ◌++◌, ◌↔◌, ℕ, List, cond, Some, None, IfSome, OnOk, IsTrue, [], MatchResult, option_copied};
 ghost use Rattle.std.specs.HashMap.{get};
 ghost use Rattle.std.specs.List.{IsDistinct};
 ghost use Rattle.std.specs.Map.{keys_of};
@@ -7,14 +7,14 @@ ghost use Rattle.std.specs.Map.Iter.{deref_pair};
 ghost use Rattle.std.specs.Str.{bytes_eq};
 ghost use Rattle.std.specs.Option.{option_map};
 ghost use Rattle.hx_store.specs.Least.{Descends, IsLeast, lesser, least_entry};
-ghost use Rattle.hx_store.specs.Places.{IsShelf, place_on, found, EditsShelf, made, filled, swept, unchanged, of_place, objects_on, IsNewShelf};
+ghost use Rattle.hx_store.specs.Places.{IsShelf, place_on, found, EditsShelf, made, added, filled, swept, unchanged, of_place, objects_on};
 
 use crate::map::{TextMap, empty_map};
 use hx_object::{NoMemory, Shared, Text};
 use std::alloc::Global;
 use std::hash::RandomState;
 
-/// The objects of one kind in one namespace, by their names.
+/// The objects of one kind in one namespace, by their names, in a map.
 ///
 /// A place may be empty: it is made for an object that is going to be stored, so that storing it takes no memory.
 pub(crate) struct Shelf {
@@ -33,17 +33,15 @@ impl Drop for Shelf {
 }
 
 impl Shelf {
-    /// A shelf with one place, which is empty.
-    pub(crate) fn new(alloc: Global, keys: RandomState, name: &str) -> Result<Shelf, NoMemory>
-        ensures shelf { IfOk result IsShelf }
-        ensures places { IfOk result (IsNewShelf name.now) }
+    /// A shelf with no places.
+    pub(crate) fn new(alloc: Global, keys: RandomState) -> Shelf
+        ensures shelf { IsShelf result }
+        ensures places { result.places.entries ≡ [] }
     {
-        let mut shelf = Shelf {
+        Shelf {
             places: empty_map(alloc, keys),
             descends: false,
-        };
-        shelf.make(name)?;
-        Ok(shelf)
+        }
     }
 
     /// The object of a name.
@@ -61,12 +59,20 @@ impl Shelf {
         ensures shelf { IsShelf self.old → IsShelf self.new }
         ensures places { MatchResult result (λ _. EditsShelf made self.old self.new name.now) (λ _. EditsShelf unchanged self.old self.new name.now) }
     {
+        self.add(name, None)
+    }
+
+    /// Makes the place of a name, with an object or none in it, unless there is one.
+    pub(crate) fn add(&mut self, name: &str, place: Option<Shared>) -> Result<(), NoMemory>
+        ensures shelf { IsShelf self.old → IsShelf self.new }
+        ensures places { MatchResult result (λ _. EditsShelf (added place) self.old self.new name.now) (λ _. EditsShelf unchanged self.old self.new name.now) }
+    {
         if self.places.contains_key(name) {
             return Ok(());
         }
         let key = Text::of(*self.places.allocator(), name)?;
         self.descends = false;
-        let _none = self.places.insert(key, None)?;
+        let _none = self.places.insert(key, place)?;
         Ok(())
     }
 
@@ -192,7 +198,7 @@ fn sort(places: &mut TextMap<Option<Shared>>) -> Result<(), NoMemory>
 }
 
 /// The one of the lesser name: of an object that was found before, and what a place holds.
-fn lesser<'a>(
+pub(crate) fn lesser<'a>(
     best: Option<(&'a Text, &'a Shared)>,
     name: &'a Text,
     place: &'a Option<Shared>,

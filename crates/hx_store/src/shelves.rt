@@ -1,8 +1,8 @@
 // The objects of one kind.
-ghost use Rattle.std.specs.Prelude.{◌≡◌, ◌++◌, ℕ, List, [], None, OnOk, IsTrue, ◌↔◌, MatchResult, option_copied};
+ghost use Rattle.std.specs.Prelude.{◌≡◌, ◌++◌, ℕ, List, [], None, OnOk, MatchResult, option_copied};
 ghost use Rattle.std.specs.Option.{option_map_or};
 ghost use Rattle.hx_store.specs.Least.{IsLeast};
-ghost use Rattle.hx_store.specs.Places.{AreShelves, AreShelvesBut, board_in, place_of, found, EditsShelves, made, filled, swept, unchanged, objects_in, objects_of};
+ghost use Rattle.hx_store.specs.Places.{AreShelves, board_in, place_of, found, EditsShelves, made, filled, swept, unchanged, objects_in, objects_of};
 
 use crate::board::Board;
 use crate::map::{TextMap, empty_map};
@@ -78,8 +78,9 @@ impl Shelves {
         ensures shelves { AreShelves self.old → AreShelves self.new }
         ensures places { EditsShelves (filled object) self.old self.new ns.now name.now }
     {
+        let alloc = *self.shelves.allocator();
         match self.shelves.get_mut(ns) {
-            Some(board) => board.fill(name, object),
+            Some(board) => board.fill(alloc, name, object),
             None => drop(object),
         }
     }
@@ -89,21 +90,12 @@ impl Shelves {
         ensures shelves { AreShelves self.old → AreShelves self.new }
         ensures places { EditsShelves swept self.old self.new ns.now name.now }
     {
-        if let Some(board) = self.shelves.get_mut(ns) {
-            board.sweep(name);
-            self.drop_empty(ns);
-        }
-    }
-
-    /// Takes a board away where it has no places.
-    fn drop_empty(&mut self, ns: &str)
-        ensures shelves { AreShelvesBut ns.now self.old → AreShelves self.new }
-        ensures places { (n m : List ℕ) → place_of self.new n m ≡ place_of self.old n m }
-    {
-        if let Some(board) = self.shelves.get(ns) {
-            if board.is_empty() {
-                let _board = self.shelves.swap_remove(ns);
-            }
+        let Some(board) = self.shelves.get_mut(ns) else {
+            return;
+        };
+        board.sweep(name);
+        if board.is_empty() {
+            let _board = self.shelves.swap_remove(ns);
         }
     }
 

@@ -1,0 +1,185 @@
+// The objects of a few names of one kind in one namespace.
+ghost use Rattle.std.specs.Prelude.{◌≡◌, ◌++◌, ◌∷◌, ◌↔◌, ℕ, List, cond, IfOk, OnOk, IsTrue, [], MatchResult, None, option_copied, position};
+ghost use Rattle.std.specs.Map.Iter.{deref_pair};
+ghost use Rattle.std.specs.Option.{option_map};
+ghost use Rattle.std.specs.Str.{bytes_eq};
+ghost use Rattle.hx_store.specs.Least.{IsLeast, least_entry};
+ghost use Rattle.hx_store.specs.Places.{IsRack, IsShelf, place_along, place_alone, place_on, found, EditsRack, made, filled, swept, unchanged, objects_along};
+
+use crate::shelf::{Shelf, lesser, list_place};
+use hx_object::{NoMemory, Shared, Text};
+use std::alloc::Global;
+use std::hash::RandomState;
+
+/// The most names that a rack takes.
+const MOST: usize = 8;
+
+/// The objects of a few names of one kind in one namespace.
+///
+/// It is walked: no name is hashed, and the places take one piece of memory. A place may be empty, as on a shelf.
+pub(crate) struct Rack {
+    places: Vec<(Text, Option<Shared>)>,
+}
+
+impl Drop for Rack {
+    fn drop(self) {
+        let Rack { places: _ } = self;
+    }
+}
+
+impl Rack {
+    /// A rack with the place of one name, and an empty one of another.
+    pub(crate) fn of(
+        alloc: Global,
+        held: &str,
+        place: Option<Shared>,
+        name: &str,
+    ) -> Result<Rack, NoMemory>
+        ensures rack { IfOk result IsRack }
+        ensures places { IfOk result (λ rack. (q : List ℕ) → place_along rack q ≡ cond (bytes_eq name.now q) (made (place_alone held.now place q)) (place_alone held.now place q)) }
+    {
+        let mut rack = Rack::alone(alloc, held, place)?;
+        rack.make(alloc, name)?;
+        Ok(rack)
+    }
+
+    /// A rack with one place.
+    fn alone(alloc: Global, name: &str, place: Option<Shared>) -> Result<Rack, NoMemory>
+        ensures { IfOk result (λ rack. rack.places.items ≡ (name.now, place) ∷ []) }
+    {
+        let name = Text::of(alloc, name)?;
+        let mut places = Vec::new(alloc);
+        places.push((name, place))?;
+        Ok(Rack { places })
+    }
+
+    /// A shelf with the same places.
+    pub(crate) fn to_shelf(&self, alloc: Global, keys: RandomState) -> Result<Shelf, NoMemory>
+        ensures shelf { IfOk result IsShelf }
+        ensures places { IfOk result (λ shelf. (q : List ℕ) → place_on shelf q ≡ place_along self.now q) }
+    {
+        let mut shelf = Shelf::new(alloc, keys);
+        for (name, place) in self.places.iter() {
+            shelf.add(name.as_str(), share(place)?)?;
+        }
+        Ok(shelf)
+    }
+
+    /// Whether the place of a name is here, or there is room for it. It matters to time and memory alone.
+    pub(crate) fn takes(&self, name: &str) -> bool {
+        self.places.len() < MOST || self.place(name).is_some()
+    }
+
+    /// The place of a name.
+    fn place(&self, name: &str) -> Option<&Option<Shared>>
+        ensures { option_copied result ≡ place_along self.now name.now }
+    {
+        for (held, place) in self.places.iter() {
+            if name == held.as_str() {
+                return Some(place);
+            }
+        }
+        None
+    }
+
+    /// The object of a name.
+    pub(crate) fn find(&self, name: &str) -> Option<&Shared>
+        ensures { option_copied result ≡ found (place_along self.now name.now) }
+    {
+        match self.place(name) {
+            Some(place) => place.as_ref(),
+            None => None,
+        }
+    }
+
+    /// Makes a place for the object of a name, unless there is one.
+    pub(crate) fn make(&mut self, alloc: Global, name: &str) -> Result<(), NoMemory>
+        ensures rack { IsRack self.old → IsRack self.new }
+        ensures places { MatchResult result (λ _. EditsRack made self.old self.new name.now) (λ _. EditsRack unchanged self.old self.new name.now) }
+    {
+        if let Some(_place) = self.place(name) {
+            return Ok(());
+        }
+        let name = Text::of(alloc, name)?;
+        self.places.push((name, None))?;
+        Ok(())
+    }
+
+    /// Puts an object, or none, in the place of a name, where there is one.
+    pub(crate) fn fill(&mut self, name: &str, object: Option<Shared>)
+        ensures rack { IsRack self.old → IsRack self.new }
+        ensures places { EditsRack (filled object) self.old self.new name.now }
+    {
+        match self.index_of(name) {
+            Some(index) => self.places[index].1 = object,
+            None => drop(object),
+        }
+    }
+
+    /// Where the place of a name is.
+    fn index_of(&self, name: &str) -> Option<usize>
+        ensures { result ≡ position (λ place. bytes_eq name.now place.0) self.now.places.items }
+    {
+        self.places
+            .iter()
+            .position(|place| name == place.0.as_str())
+    }
+
+    /// Takes the place of a name away where it is empty.
+    pub(crate) fn sweep(&mut self, name: &str)
+        ensures rack { IsRack self.old → IsRack self.new }
+        ensures places { EditsRack swept self.old self.new name.now }
+    {
+        if let Some(None) = self.place(name) {
+            self.places.retain(|place| name != place.0.as_str());
+        }
+    }
+
+    /// Whether there are no places.
+    pub(crate) fn is_empty(&self) -> bool
+        ensures { IsTrue result ↔ (self.now.places.items ≡ []) }
+    {
+        self.places.is_empty()
+    }
+
+    /// Adds the objects to those that are listed.
+    pub(crate) fn list(&self, listed: &mut Vec<Shared>) -> Result<(), NoMemory>
+        ensures { OnOk result (listed.new.items ≡ listed.old.items ++ objects_along self.now) }
+    {
+        for (_, place) in self.places.iter() {
+            list_place(place, listed)?;
+        }
+        Ok(())
+    }
+
+    /// The object of the least name.
+    pub(crate) fn least(&self) -> Option<&Shared>
+        ensures { IsRack self.now → IsLeast (λ name. found (place_along self.now name)) (option_copied result) }
+    {
+        match self.walk() {
+            Some((_, object)) => Some(object),
+            None => None,
+        }
+    }
+
+    /// The object of the least name, with the name.
+    fn walk(&self) -> Option<(&Text, &Shared)>
+        ensures { option_map deref_pair result ≡ least_entry None self.now.places.items }
+    {
+        let mut least = None;
+        for (name, place) in self.places.iter() {
+            least = lesser(least, name, place);
+        }
+        least
+    }
+}
+
+/// What a place holds, with one more owner.
+fn share(place: &Option<Shared>) -> Result<Option<Shared>, NoMemory>
+    ensures { IfOk result (λ shared. shared ≡ place.now) }
+{
+    match place {
+        Some(object) => Ok(Some(object.share()?)),
+        None => Ok(None),
+    }
+}
