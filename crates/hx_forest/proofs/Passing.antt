@@ -1,7 +1,8 @@
 -- The names that a walk up passes.
 --     names_none                               a walk from nowhere
 --     names_chain                              as many steps as the chain is long pass the chain
-use Rattle.std.proofs.Common.{◌≡◌, ℕ, zero, suc, ◌+◌, ◌-◌, ◌<◌, false, cond, not, Option, Some, None, List, [], ◌∷◌, ◌++◌, length, is_some, refl, sym, ap, ◌∙◌, arith, length-append, append_assoc, append-nil}
+--     names_on, names_out, one_fewer           one step, from a place and from where there is none
+use Rattle.std.proofs.Common.{◌≡◌, ℕ, zero, suc, ◌+◌, ◌-◌, ◌<◌, cond, not, Option, Some, None, List, [], ◌∷◌, ◌++◌, length, is_some, refl, sym, ap, ◌∙◌, arith, length-append, append_assoc, append-nil}
 use Rattle.std.specs.Prelude.{option_and_then}
 use Rattle.std.proofs.lemmas.Bool.{and_parts}
 use Rattle.hx_model.specs.declared.node.Node.{Node}
@@ -9,6 +10,10 @@ use Rattle.hx_model.specs.Forest.{Forest, is_in, is_there, node_of, parent_of, c
 use Rattle.hx_model.proofs.Climbing.{Climbs, at_top, stopped, onward, chain-Climbs}
 use Rattle.hx_model.proofs.Walking.{longer}
 use Rattle.hx_forest.specs.Inside.{walk_names}
+use Rattle.hx_forest.specs.declared.places.Place.{Place}
+use Rattle.hx_forest.specs.declared.places.Nodes.{Nodes}
+use Rattle.hx_forest.specs.Ways.{forest_of, node_in, place_at, place_of}
+use Rattle.hx_forest.proofs.Ways.{node_there}
 
 pub names_none : (left : ℕ) (f : Forest) → walk_names left f None ≡ []
 names_none zero f = refl
@@ -29,3 +34,23 @@ climbs_names f built (Some n) all (onward goes rest) (suc k) long =
 -- as many steps as the chain is long pass the chain
 pub names_chain : (f : Forest) (n : List ℕ) → walk_names (length (chain_of f n)) f (Some n) ≡ chain_of f n
 names_chain f n = sym (climbs_names f [] (Some n) (chain_of f n) (chain-Climbs f n) (length (chain_of f n)) (omega arith))
+
+-- a step from a place passes its name, and goes on from the parent's
+pub names_on : (left : ℕ) (nodes : Nodes) (n : List ℕ) (place : Place) → 0 < left → place_of nodes n ≡ Some place
+    → walk_names left (forest_of nodes) (Some n) ≡ n ∷ walk_names (left - 1) (forest_of nodes) place.node.parent
+names_on zero nodes n place pos here = let no : ⊥ = omega arith in absurd no
+names_on (suc left) nodes n place pos here =
+    let found : node_of (forest_of nodes) n ≡ Some place.node = node_there nodes n ∙ ap node_in here in
+    let same : left ≡ suc left - 1 = omega arith in
+    (λ i. cond (is_some (found i)) (n ∷ walk_names left (forest_of nodes) (option_and_then (λ (node : Node). node.parent) (found i))) [])
+    ∙ ap (λ k. n ∷ walk_names k (forest_of nodes) place.node.parent) same
+
+-- where there is no place, nothing more is passed
+pub names_out : (left : ℕ) (nodes : Nodes) (next : Option (List ℕ)) → place_at nodes next ≡ None → walk_names left (forest_of nodes) next ≡ []
+names_out zero nodes next out = refl
+names_out (suc left) nodes None out = refl
+names_out (suc left) nodes (Some n) out = ap (λ b. cond b (n ∷ walk_names left (forest_of nodes) (parent_of (forest_of nodes) n)) []) (ap is_some (node_there nodes n ∙ ap node_in out))
+
+-- fewer are left then
+pub one_fewer : (all left : List (List ℕ)) (n : List ℕ) → all ≡ n ∷ left → length left < length all
+one_fewer all left n is = let more : length all ≡ suc (length left) = ap length is in omega (arith, more)

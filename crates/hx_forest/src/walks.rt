@@ -1,30 +1,36 @@
 // Walks up the parents.
-ghost use Rattle.std.specs.Prelude.{◌≡◌, ◌+◌, IfOk, Some, length};
+ghost use Rattle.std.specs.Prelude.{◌≡◌, ◌+◌, IfOk, IfSome, Some, length, option_copied};
 ghost use Rattle.std.specs.Iterator.{YieldsFirstRef, item_count};
 ghost use Rattle.hx_model.specs.Forest.{depth_of, in_chain, chain_of};
-ghost use Rattle.hx_model.specs.Walks.{walk_to, walk_ends};
-ghost use Rattle.hx_forest.specs.Ways.{forest_of, AllLeadUp};
+ghost use Rattle.hx_model.specs.Walks.{walk_to};
+ghost use Rattle.hx_forest.specs.Inside.{nodes_end};
+ghost use Rattle.hx_forest.specs.Ways.{forest_of, node_in, place_of, LeadsUp, AllLeadUp};
 
 use crate::forest::Forest;
-use crate::places::Nodes;
+use crate::places::{Nodes, Place};
 use hx_object::{NoMemory, Text};
 use std::marker::Model;
 
 /// The members of a chain: a namespace, its parent, the parent's parent and so on. It ends also where the parents go in a cycle.
 #[derive(Drop)]
 pub struct Ancestors<'a> {
-    forest: &'a Forest,
+    nodes: &'a Nodes,
     next: Option<&'a Text>,
+    /// The place of `next`, where it is there.
+    at: Option<&'a Place>,
     left: usize,
 }
 
 impl<'a> Model for Ancestors<'a> {
-    ghost use Rattle.std.specs.Prelude.{List, ℕ, option_copied};
+    ghost use Rattle.std.specs.Prelude.{◌≡◌, List, ℕ, option_copied};
     ghost use Rattle.hx_forest.specs.Inside.{walk_names};
+    ghost use Rattle.hx_forest.specs.Ways.{forest_of, place_at, AllLeadUp};
 
     ghost Value = { List (List ℕ) };
 
-    ghost view = { λ a. walk_names a.left a.forest.now.nodes (option_copied a.next) };
+    ghost view = { λ a. walk_names a.left (forest_of a.nodes.now) (option_copied a.next) };
+
+    ghost invariant = { λ a. AllLeadUp a.nodes.now × (option_copied a.at ≡ place_at a.nodes.now (option_copied a.next)) };
 }
 
 impl<'a> Iterator for Ancestors<'a> {
@@ -39,9 +45,10 @@ impl<'a> Iterator for Ancestors<'a> {
             return None;
         }
         let member = self.next?;
-        let node = self.forest.node(member)?;
+        let place = self.at?;
         self.left -= 1;
-        self.next = node.parent.as_ref();
+        self.next = place.node.parent.as_ref();
+        self.at = self.nodes.above(place);
         Some(member)
     }
 }
@@ -51,11 +58,7 @@ impl Forest {
     pub fn ancestors<'a>(&'a self, name: &'a Text) -> Ancestors<'a>
         ensures { result ≡ chain_of self.now.nodes name.now }
     {
-        Ancestors {
-            forest: self,
-            next: Some(name),
-            left: self.chain_len(name),
-        }
+        self.nodes.ancestors(name)
     }
 
     /// A namespace, its parent, the parent's parent and so on: up to a name that isn't there, or one that the chain has.
@@ -92,12 +95,35 @@ impl Forest {
 }
 
 impl Nodes {
+    /// The members of the chain of a namespace.
+    fn ancestors<'a>(&'a self, name: &'a Text) -> Ancestors<'a>
+        requires { AllLeadUp self.now }
+        ensures { result ≡ chain_of (forest_of self.now) name.now }
+    {
+        let at = self.place(name);
+        Ancestors {
+            nodes: self,
+            next: Some(name),
+            at,
+            left: self.chain_len_at(name, at),
+        }
+    }
+
     /// How many members the chain of a namespace has.
     pub(crate) fn chain_len(&self, name: &Text) -> usize
         requires { AllLeadUp self.now }
         ensures { result ≡ length (chain_of (forest_of self.now) name.now) }
     {
-        match self.walk_len(name) {
+        self.chain_len_at(name, self.place(name))
+    }
+
+    /// How many members the chain of a namespace has, whose place is `at` where it is there.
+    fn chain_len_at(&self, name: &Text, at: Option<&Place>) -> usize
+        requires ways { AllLeadUp self.now }
+        requires at { option_copied at ≡ place_of self.now name.now }
+        ensures { result ≡ length (chain_of (forest_of self.now) name.now) }
+    {
+        match self.walk_len(at) {
             Some(len) => len,
             None => self.len_to_ring(name),
         }
@@ -128,12 +154,13 @@ impl Nodes {
         passed
     }
 
-    /// How many namespaces the walk up passes until it ends. None where it goes in a cycle.
-    pub(crate) fn walk_len(&self, name: &Text) -> Option<usize>
-        requires { AllLeadUp self.now }
-        ensures { result ≡ walk_ends (length (forest_of self.now) + 1) (forest_of self.now) (Some name.now) }
+    /// How many namespaces the walk up from a place passes until it ends. None where it goes in a cycle.
+    fn walk_len<'a>(&'a self, first: Option<&'a Place>) -> Option<usize>
+        requires ways { AllLeadUp self.now }
+        requires up { IfSome first (λ p. LeadsUp (place_of self.now) p.now) }
+        ensures { result ≡ nodes_end (length (forest_of self.now) + 1) (forest_of self.now) (node_in (option_copied first.entry)) }
     {
-        let mut next = self.place(name);
+        let mut next = first;
         let mut passed = 0;
         let mut left = self.len() + 1;
         while left > 0 {

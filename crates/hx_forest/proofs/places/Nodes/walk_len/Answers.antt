@@ -1,21 +1,18 @@
-use Rattle.std.proofs.Common.{◌≡◌, ◌+◌, ◌-◌, ◌∙◌, Some, length, option_copied, sym, ap, arith}
-use Rattle.hx_model.specs.Forest.{node_of}
+use Rattle.std.proofs.Common.{◌≡◌, ◌+◌, ◌-◌, ◌∙◌, length, option_copied, sym, ap, arith}
 use Rattle.hx_forest.specs.Inside.{node_at, nodes_end}
 use Rattle.hx_forest.specs.Ways.{forest_of, node_in}
-use Rattle.hx_forest.proofs.Ways.{node_there, node_at_there, up_above}
-use Rattle.hx_forest.proofs.Stepping.{counted_on, counted_none, ends_on, ends_same}
+use Rattle.hx_forest.proofs.Ways.{node_at_there}
+use Rattle.hx_forest.proofs.Stepping.{counted_on, counted_none, ends_on}
 use Rattle.hx_forest.proofs.places.Nodes.walk_len.Goals as goal
 
 pub loop-left-init : goal.loop-left-init
 loop-left-init c =
-    let nodes = c.args.self.now in
-    let f = forest_of nodes in
-    let n = c.args.name.now in
-    let node : node_in (option_copied c.place-next.result) ≡ node_of f n = ap node_in c.place-next.ensures ∙ sym (node_there nodes n) in
+    let f = forest_of c.args.self.now in
+    let first = node_in (option_copied c.args.first) in
     record {
-      whole = (λ i. counted_on 0 (nodes_end (c.len-left.ensures.len i + 1) f (node i))) ∙ counted_none (nodes_end (length f + 1) f (node_of f n)) ∙ ends_same (length f + 1) f (Some n);
+      whole = ap (λ k. counted_on 0 (nodes_end (k + 1) f first)) c.len-left.ensures.len ∙ counted_none (nodes_end (length f + 1) f first);
       count = omega (arith, c.len-left.ensures.len);
-      up = up_above nodes (Some n) c.place-next.result c.place-next.ensures c.requires;
+      up = c.requires.up;
     }
 
 pub loop-left-preserved : goal.loop-left-preserved

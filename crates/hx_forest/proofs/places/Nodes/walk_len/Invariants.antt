@@ -1,6 +1,5 @@
-use Rattle.std.proofs.Common.{◌≡◌, ◌+◌, Some, length, option_copied}
+use Rattle.std.proofs.Common.{◌≡◌, ◌+◌, length, option_copied}
 use Rattle.std.specs.Prelude.{IfSome}
-use Rattle.hx_model.specs.Walks.{walk_ends}
 use Rattle.hx_forest.specs.Inside.{nodes_end}
 use Rattle.hx_forest.specs.Ways.{forest_of, node_in, place_of, LeadsUp}
 use Rattle.hx_forest.proofs.Stepping.{counted_on}
@@ -9,7 +8,7 @@ use Rattle.hx_forest.proofs.places.Nodes.walk_len.Given as goal
 -- what is passed and what is left of the walk make the whole one
 abbrev pub invariant-loop-left : goal.invariant-loop-left
 invariant-loop-left l = record {
-  whole : counted_on l.passed (nodes_end l.left (forest_of l.self) (node_in (option_copied l.next))) ≡ walk_ends (length (forest_of l.self) + 1) (forest_of l.self) (Some l.name);
+  whole : counted_on l.passed (nodes_end l.left (forest_of l.self) (node_in (option_copied l.next))) ≡ nodes_end (length (forest_of l.self) + 1) (forest_of l.self) (node_in (option_copied l.fn.first));
   count : l.passed + l.left ≡ length (forest_of l.self) + 1;
   up : IfSome l.next (λ p. LeadsUp (place_of l.self) p.now);
 }
