@@ -1,11 +1,12 @@
 -- Why a namespace is halted.
 --     nowhere                       a name without a namespace
+--     open_by, closed_by            whether one takes part, by its node
 --     halt_walked                   where the walk up ends
 --     endless                       where it doesn't
 --     ring_above                    where the walk up goes in a cycle, and it has no reason by itself
 --     apart_from                    a parent that isn't below a namespace
 use Rattle.std.proofs.Common.{◌≡◌, Bool, true, false, cond, not, ◌&&◌, ◌||◌, Option, Some, None, option_map, List, [], ◌∷◌, ℕ, zero, suc, ◌+◌, ◌<◌, length, is_some, refl, sym, ap, subst, ◌∙◌, inl, inr, arith, true≢false}
-use Rattle.std.specs.Prelude.{IfSome, option_and_then}
+use Rattle.std.specs.Prelude.{IfSome, is_none, option_and_then}
 use Rattle.std.specs.Option.{option_map_or}
 use Rattle.std.specs.List.{list_any}
 use Rattle.std.proofs.lemmas.Bool.{cases_Bool}
@@ -15,6 +16,7 @@ use Rattle.hx_model.specs.declared.node.Node.{Node}
 use Rattle.hx_model.specs.declared.node.Halt.{Halt}
 use Rattle.hx_model.specs.declared.node.Halt.TheVariants.{Ancestor, InCycle, ParentMissing, IllegalParent}
 use Rattle.hx_model.specs.Forest.{Forest, is_in, node_of, is_there, is_live, is_excluded, parent_of, chain_of, tail_of, comes_back, own_halt_of, in_chain, has_halted_ancestor, halt_of}
+use Rattle.hx_model.specs.TreeLabels.{is_open}
 use Rattle.hx_model.specs.Walks.{walk_halts, walk_ends}
 use Rattle.hx_model.proofs.Climbing.{few, above_chain, itself}
 use Rattle.hx_model.proofs.Parents.{up_to, up_to_all, chain_alone, chain_parent}
@@ -130,6 +132,19 @@ nowhere f n out = sym (ap (λ (o : Option Halt). or_else o (or_else (so (has_hal
   where
     own : own_halt_of f n ≡ None
     own = own_by f n (ends_apart f n 0 (missing out)) ∙ ap (halt_by f) (no_parent f n out)
+
+-- whether a namespace takes part, by its node
+pub open_by : (f : Forest) (n : List ℕ) (node : Node) → node_of f n ≡ Some node → (not node.terminating && not node.excluded) && is_none (halt_of f n) ≡ is_open f n
+open_by f n node found = by (not node.terminating) (not node.excluded)
+    ∙ (λ i. option_map_or (λ (m : Node). not m.terminating) (sym found i) false && (not (option_map_or (λ (m : Node). m.excluded) (sym found i) false) && is_none (halt_of f n)))
+  where
+    by : (a b : Bool) → (a && b) && is_none (halt_of f n) ≡ a && (b && is_none (halt_of f n))
+    by true b = refl
+    by false b = refl
+
+-- and without one
+pub closed_by : (f : Forest) (n : List ℕ) → node_of f n ≡ None → false ≡ is_open f n
+closed_by f n none = ap (λ (o : Option Node). option_map_or (λ m. not m.terminating) o false && (not (is_excluded f n) && is_none (halt_of f n))) (sym none)
 
 -- a walk by nodes that doesn't end
 pub endless : (f : Forest) (n : List ℕ) (node : Node) → node_of f n ≡ Some node → nodes_halt (length f) f (node_at f node.parent) ≡ None → is_some (walk_ends (length f + 1) f (Some n)) ≡ false

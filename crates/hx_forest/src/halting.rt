@@ -1,5 +1,5 @@
 // Why namespaces are halted.
-ghost use Rattle.std.specs.Prelude.{◌≡◌, ◌+◌, false, Some, [], ◌∷◌, is_some, length, option_copied, IfSome};
+ghost use Rattle.std.specs.Prelude.{◌≡◌, ◌+◌, false, Some, [], ◌∷◌, not, ◌&&◌, is_some, length, option_copied, IfSome};
 ghost use Rattle.hx_model.specs.Cases.{is_leaving};
 ghost use Rattle.hx_model.specs.First.{so, first};
 ghost use Rattle.hx_model.specs.Forest.{own_halt_of, halt_of, is_live};
@@ -48,7 +48,7 @@ impl Forest {
         ensures { result ≡ is_calm self.now.nodes name.now }
     {
         match self.node(name) {
-            Some(node) => !node.terminating && !node.excluded,
+            Some(node) => is_calm(node),
             None => false,
         }
     }
@@ -57,22 +57,39 @@ impl Forest {
     pub fn is_open(&self, name: &Text) -> bool
         ensures { result ≡ is_open self.now.nodes name.now }
     {
-        match self.node(name) {
-            Some(node) => !node.terminating && !node.excluded && self.halt(name).is_none(),
-            None => false,
-        }
+        self.nodes.is_open(name)
     }
 }
 
 impl Nodes {
-    /// Why a namespace is halted: the first reason that holds. A walk up that ends meets each member once.
-    pub(crate) fn halt(&self, name: &Text) -> Option<Halt>
+    /// Whether a namespace takes part.
+    fn is_open(&self, name: &Text) -> bool
+        requires { AllLeadUp self.now }
+        ensures { result ≡ is_open (forest_of self.now) name.now }
+    {
+        match self.place(name) {
+            Some(place) => is_calm(&place.node) && self.halt_from(name, place).is_none(),
+            None => false,
+        }
+    }
+
+    /// Why a namespace is halted: the first reason that holds.
+    fn halt(&self, name: &Text) -> Option<Halt>
         requires { AllLeadUp self.now }
         ensures { result ≡ halt_of (forest_of self.now) name.now }
     {
-        let Some(place) = self.place(name) else {
-            return None;
-        };
+        match self.place(name) {
+            Some(place) => self.halt_from(name, place),
+            None => None,
+        }
+    }
+
+    /// Why a namespace is halted that has this place. A walk up that ends meets each member once.
+    fn halt_from(&self, name: &Text, place: &Place) -> Option<Halt>
+        requires ways { AllLeadUp self.now }
+        requires place { place_of self.now name.now ≡ Some place.now }
+        ensures { result ≡ halt_of (forest_of self.now) name.now }
+    {
         let above = self.above(place);
         match self.has_halted(above) {
             Some(is_below) => halt_or_below(halt_by(&place.node, above), is_below),
@@ -128,6 +145,13 @@ impl Nodes {
             Some(node) => halt_under(node),
         }
     }
+}
+
+/// Whether a namespace isn't on its way out, and isn't excluded.
+fn is_calm(node: &Node) -> bool
+    ensures { result ≡ (not node.now.terminating && not node.now.excluded) }
+{
+    !node.terminating && !node.excluded
 }
 
 /// The reason that a namespace has by its parent, whose place is `above` where it is there.

@@ -19,4 +19,4 @@ returns-in-Some c =
     let n = c.args.name.now in
     let node : node_in (option_copied c.args.at) ≡ node_of f n = ap node_in c.requires.at ∙ sym (node_there c.args.self.now n) in
     sym (walk_ends_length (length f + 1) f n c.in-Some.len
-        (sym (ends_same (length f + 1) f (Some n)) ∙ ap (nodes_end (length f + 1) f) (sym node) ∙ sym c.walk_len.ensures ∙ c.in-Some.is))
+    (sym (ends_same (length f + 1) f (Some n)) ∙ ap (nodes_end (length f + 1) f) (sym node) ∙ sym c.walk_len.ensures ∙ c.in-Some.is))

@@ -1,39 +1,10 @@
-use Rattle.std.proofs.Common.{◌≡◌, ◌∙◌, [], ◌∷◌, Some, length, is_some, option_copied, sym, ap}
-use Rattle.hx_model.specs.First.{so, first}
-use Rattle.hx_model.specs.declared.node.Halt.TheVariants.{Ancestor}
-use Rattle.hx_model.specs.Forest.{node_of}
-use Rattle.hx_forest.specs.Inside.{halt_at, node_at, nodes_halt}
+use Rattle.std.proofs.Common.{is_some, option_copied, sym, ap, ◌∙◌}
 use Rattle.hx_forest.specs.Ways.{forest_of, node_in}
-use Rattle.hx_forest.proofs.Ways.{node_there, node_at_there}
-use Rattle.hx_forest.proofs.Reasons.{halt_walked, endless, nowhere}
+use Rattle.hx_forest.proofs.Ways.{node_there}
+use Rattle.hx_forest.proofs.Reasons.{nowhere}
 use Rattle.hx_forest.proofs.places.Nodes.halt.Goals as goal
 
-pub returns-in_default : goal.returns-in_default
-returns-in_default c =
+pub returns-in-None : goal.returns-in-None
+returns-in-None c =
     let n = c.args.name.now in
-    nowhere (forest_of c.args.self.now) n (ap is_some (node_there c.args.self.now n ∙ ap node_in (sym c.place.ensures ∙ ap option_copied c.in_default.is)))
-
-pub halt_by_ring-requires : goal.halt_by_ring-requires
-halt_by_ring-requires c =
-    let f = forest_of c.args.self.now in
-    let n = c.args.name.now in
-    let node = c.in-Some.place.now.node in
-    let found : node_of f n ≡ Some node = node_there c.args.self.now n ∙ ap node_in (sym c.place.ensures ∙ ap option_copied c.in-Some.is) in
-    let above : node_in (option_copied c.above-above.result) ≡ node_at f node.parent = ap node_in c.above-above.ensures.value ∙ sym (node_at_there c.args.self.now node.parent) in
-    record {
-      ways = c.requires;
-      ring = endless f n node found (ap (nodes_halt (length f) f) (sym above) ∙ sym c.has_halted.ensures ∙ c.in-None.is);
-    }
-
-pub returns-in-Some-has_halted : goal.returns-in-Some-has_halted
-returns-in-Some-has_halted c =
-    let f = forest_of c.args.self.now in
-    let n = c.args.name.now in
-    let node = c.in-Some.place.now.node in
-    let is_below = c.in-Some-has_halted.is_below in
-    let found : node_of f n ≡ Some node = node_there c.args.self.now n ∙ ap node_in (sym c.place.ensures ∙ ap option_copied c.in-Some.is) in
-    let above : node_in (option_copied c.above-above.result) ≡ node_at f node.parent = ap node_in c.above-above.ensures.value ∙ sym (node_at_there c.args.self.now node.parent) in
-    let walk : nodes_halt (length f) f (node_at f node.parent) ≡ Some is_below = ap (nodes_halt (length f) f) (sym above) ∙ sym c.has_halted.ensures ∙ c.in-Some-has_halted.is in
-    c.halt_or_below.ensures
-    ∙ ap (λ o. first (o ∷ so is_below Ancestor ∷ [])) (c.halt_by.ensures ∙ ap (halt_at node.parent) above)
-    ∙ halt_walked f n node is_below found walk
+    nowhere (forest_of c.args.self.now) n (ap is_some (node_there c.args.self.now n ∙ ap node_in (sym c.place.ensures ∙ ap option_copied c.in-None.is)))
