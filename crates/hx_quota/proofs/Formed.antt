@@ -3,28 +3,31 @@
 --     IsUnderway                       the sums along a chain are adjusted, but for those of names that are left
 --     begun, more_of, ended            it is so at first, after a step, and at the end
 --     shorter_left, may_step           less is left after a step;  the next sums may be adjusted
---     parent_is, index_chain, own_is   what is found by an index
+--     parent_is, index_chain, index_walks, all_named, name_found, own_is   what is found by an index
 --     may_add, added                   what a namespace has may be added, and then one more of the first places is in the sums
 --     cleared_end, cleared_none        where no place has sums
 --     all_added                        where all are in the sums, these are those of subtrees
 use Rattle.std.specs.Prelude.{is_some, option_and_then, slice_get, slice_index, sum_by, take, get_or, position, IfSome}
-use Rattle.std.proofs.Common.{◌≡◌, ℕ, zero, suc, ◌+◌, ◌-◌, ◌<◌, ◌≤◌, ◌^◌, Bool, true, false, cond, not, ◌&&◌, Option, Some, None, option_map, List, [], ◌∷◌, length, replicate, refl, sym, ap, ◌∙◌, subst, arith}
+use Rattle.std.proofs.Common.{◌≡◌, ℕ, zero, suc, ◌+◌, ◌-◌, ◌<◌, ◌≤◌, ◌^◌, Bool, true, false, cond, not, ◌&&◌, Option, Some, None, option_map, List, [], ◌∷◌, length, replicate, refl, sym, ap, ◌∙◌, subst, arith, true≢false}
 use Rattle.std.specs.List.{IsDistinct}
 use Rattle.std.specs.Map.{keys_of}
+use Rattle.std.specs.Option.{option_map_or}
 use Rattle.std.specs.Str.{bytes_eq}
 use Rattle.std.proofs.lemmas.List.{take_all}
 use Rattle.std.proofs.lemmas.List.Sums.{sum_by_more, sum_by_more_le}
 use Rattle.std.proofs.lemmas.Option.{none-some, same_Some, slice_get_within, slice_get-get_or, get_or_from_slice_get}
 use Rattle.hx_model.specs.Forest.{Forest, is_in, is_there, parent_of, chain_of, in_chain}
 use Rattle.hx_model.specs.Moves.{chain_from}
+use Rattle.hx_model.specs.Walks.{walk_has}
 use Rattle.hx_model.specs.declared.node.Node.{Node}
 use Rattle.hx_model.specs.declared.resource.Resource.{Resource}
+use Rattle.hx_model.proofs.Climbing.{is_same, same_itself}
 use Rattle.hx_model.proofs.Walking.{chain_missing}
 use Rattle.hx_quota.specs.declared.entry.Entry.{Entry}
 use Rattle.hx_quota.specs.declared.places.Place.{Place}
 use Rattle.hx_quota.specs.Counters.{Entries, node_for, new_entry, tree_of, own_of, part_of, place_of, AllFit}
 use Rattle.hx_quota.specs.Inside.{Places, entries_from, entries_in, ordered, place_at, adjusted, MayAdjust, IsAdjusted, IsSummed, AllEnd}
-use Rattle.hx_quota.specs.Anew.{all_ended, name_at, chain_at, chain_behind, with_sums, cleared, HasFirst}
+use Rattle.hx_quota.specs.Anew.{all_ended, name_at, chain_at, chain_behind, walk_from, with_sums, cleared, HasFirst}
 use Rattle.hx_quota.proofs.Adjusting.{is_done, here_left, next_distinct, next_inside, may_now, adjusted_one, may_by, was_there}
 use Rattle.hx_quota.proofs.Deltas.{in_place}
 use Rattle.hx_quota.proofs.Ending.{chain_on, distinct_from, in_places, all_from}
@@ -32,7 +35,7 @@ use Rattle.hx_quota.proofs.Fitting.{has_nothing, used_within}
 use Rattle.hx_quota.proofs.Indexed.{entry_index, found_index, entries_with, place_with, index_found, cleared_entries, cleared_first}
 use Rattle.hx_quota.proofs.Placed.{entry_in, entry_at, same_count}
 use Rattle.hx_quota.proofs.Sums.{Pair, sum-entries}
-use Rattle.hx_quota.proofs.Trees.{node_of-tree}
+use Rattle.hx_quota.proofs.Trees.{node_of-tree, has_ended, has_out}
 
 abbrev Rows : Type 0
 Rows = List Pair
@@ -173,15 +176,45 @@ key_index [] i = refl
 key_index (e ∷ places) zero = refl
 key_index (e ∷ places) (suc i) = key_index places i
 
+key_count : (xs : Places) → length (keys_of xs) ≡ length xs
+key_count [] = refl
+key_count (x ∷ xs) = ap (λ k. suc k) (key_count xs)
+
+index_name : (places : Places) (n : List ℕ) (i : ℕ) → Some i ≡ position (bytes_eq n) (keys_of places) → i < length places → name_at (entries_in places) i ≡ Some n
+index_name places n i is within = key_index places i ∙ index_found n (keys_of places) i (sym is) (let long = key_count places in omega (arith, within, long))
+
 pub index_chain : (places : Places) (n : List ℕ) (o : Option ℕ) → o ≡ position (bytes_eq n) (keys_of places) → is_some o ≡ is_some (place_at places n) → IfSome o (λ i. i < length places)
     → chain_at (entries_in places) o ≡ chain_of (tree_of (ordered places)) n
 index_chain places n None is found within = sym (chain_missing (tree_of (ordered places)) n (in_places places n ∙ sym found))
 index_chain places n (Some i) is found within =
-    ap (λ (x : Option (List ℕ)). chain_from (tree_of (ordered places)) x) (key_index places i ∙ index_found n (keys_of places) i (sym is) (let long = key_count places in let inside : i < length places = within in omega (arith, inside, long)))
+    ap (λ (x : Option (List ℕ)). chain_from (tree_of (ordered places)) x) (index_name places n i is within)
+
+pub index_walks : (places : Places) (n : List ℕ) (o : Option ℕ) → o ≡ position (bytes_eq n) (keys_of places) → is_some o ≡ is_some (place_at places n) → IfSome o (λ i. i < length places)
+    → (left : ℕ) (a : List ℕ) → walk_from left places o a ≡ walk_has left (tree_of (ordered places)) (Some n) a
+index_walks places n None is found within left a =
+    has_ended left (tree_of (ordered places)) None a refl ∙ sym (has_out left (tree_of (ordered places)) (Some n) n a refl (in_places places n ∙ sym found))
+index_walks places n (Some i) is found within left a = ap (λ (x : Option (List ℕ)). walk_has left (tree_of (ordered places)) x a) (index_name places n i is within)
+
+-- what has a name at an index is there
+named_there : (places : Places) (at : ℕ) (m : List ℕ) → name_at (entries_in places) at ≡ Some m → is_some (place_at places m) ≡ true
+named_there [] at m is = absurd (none-some m is)
+named_there (e ∷ places) zero m is = subst (λ (k : List ℕ). is_some (place_at (e ∷ places) k) ≡ true) (same_Some e.0 m is) (ap (λ b. is_some (cond b (Some e.1) (place_at places e.0))) (same_itself e.0))
+named_there (e ∷ places) (suc at) m is = elim (bytes_eq m e.0) as (λ b. is_some (cond b (Some e.1) (place_at places m)) ≡ true) [
+  | true ↦ refl
+  | false ↦ named_there places at m is
+]
+
+pub all_named : (places : Places) (at : ℕ) → IfSome (name_at (entries_in places) at) (λ m. is_there (tree_of (ordered places)) m ≡ true)
+all_named places at = by (name_at (entries_in places) at) refl
   where
-    key_count : (xs : Places) → length (keys_of xs) ≡ length xs
-    key_count [] = refl
-    key_count (x ∷ xs) = ap (λ k. suc k) (key_count xs)
+    by : (o : Option (List ℕ)) → name_at (entries_in places) at ≡ o → IfSome o (λ m. is_there (tree_of (ordered places)) m ≡ true)
+    by None is = tt
+    by (Some m) is = in_places places m ∙ named_there places at m is
+
+-- the name is that of an index
+pub name_found : (o : Option (List ℕ)) (n : List ℕ) → option_map_or (λ m. bytes_eq m n) o false ≡ true → o ≡ Some n
+name_found None n h = absurd (true≢false (sym h))
+name_found (Some m) n h = ap Some (is_same m n h)
 
 pub own_is : (places : Places) (at : ℕ) (m : List ℕ) (p : Place) → slice_get places at ≡ Some (m, p) → (n : List ℕ) (entry : Entry) → slice_get (entries_in places) at ≡ Some (n, entry) → p.entry.own ≡ entry.own
 own_is places at m p is n entry found =

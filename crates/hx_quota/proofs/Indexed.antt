@@ -2,6 +2,7 @@
 --     entry_index, found_index      the entry at an index is that of the place, which is found under its name
 --     entries_with, place_with      entries and places where one has other sums
 --     value_with, none_with         the same of a value that is written at its index
+--     sums_at_value, no_value       what is found there
 --     index_found                   the index of a name has that name
 --     cleared_to, clear_one, clear_all, cleared_first      places without sums, from the first one on
 use Rattle.std.specs.Prelude.{slice_get, slice_index, position, find, get_or}
@@ -73,6 +74,17 @@ pub none_with : (at : ℕ) (sums : List ℕ) (places : Places) → slice_get (va
 none_with at sums [] none = refl
 none_with zero sums (e ∷ places) none = absurd (none-some e.1 (sym none))
 none_with (suc at) sums (e ∷ places) none = ap (λ xs. e ∷ xs) (none_with at sums places none)
+
+-- the sums of a value that is found at its index
+pub sums_at_value : (at : ℕ) (places : Places) (p : Place) → slice_get (values_of places) at ≡ Some p → Some p.sums ≡ option_map (λ (e : Row). e.1.sums) (slice_get places at)
+sums_at_value at [] p is = absurd (none-some p is)
+sums_at_value zero (e ∷ places) p is = ap (λ (x : Place). Some x.sums) (sym (same_Some e.1 p is))
+sums_at_value (suc at) (e ∷ places) p is = sums_at_value at places p is
+
+pub no_value : (at : ℕ) (places : Places) → slice_get (values_of places) at ≡ None → slice_get places at ≡ None
+no_value at [] none = refl
+no_value zero (e ∷ places) none = absurd (none-some e.1 (sym none))
+no_value (suc at) (e ∷ places) none = no_value at places none
 
 -- ---- the index of a name
 

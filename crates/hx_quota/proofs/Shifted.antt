@@ -47,7 +47,7 @@ part_within g n entry es up there =
 pub between_entries : (old mid : Places) (n : List ℕ) (deltas : List Delta) (change : Change) → HasShifted old mid n deltas change → ordered mid ≡ with_shifted (n ∷ []) deltas (ordered old)
 between_entries old mid n deltas change has =
     let place = has.0 in
-    changed_places mid old n (shift_in deltas) place (record place { entry = record (place.entry) { own = change.give } }) has.1 (ap (λ (own : List ℕ). record (place.entry) { own = own }) has.3) has.4
+    changed_places mid old n (shift_in deltas) place (record place { entry = shift_in deltas place.entry }) has.1 refl has.3
 
 -- and the chains
 pub between_chains : (old mid : Places) (n : List ℕ) (deltas : List Delta) (change : Change) → HasShifted old mid n deltas change → tree_of (ordered mid) ≡ tree_of (ordered old)
@@ -61,13 +61,10 @@ module _ (old mid : Places) (n : List ℕ) (deltas : List Delta) (change : Chang
   place = has.0
 
   abbrev put : Place
-  put = record place { entry = record (place.entry) { own = change.give } }
-
-  entry_then : put.entry ≡ shift_in deltas place.entry
-  entry_then = ap (λ (own : List ℕ). record (place.entry) { own = own }) has.3
+  put = record place { entry = shift_in deltas place.entry }
 
   changed : ordered mid ≡ with_changed n (shift_in deltas) es
-  changed = changed_places mid old n (shift_in deltas) place put has.1 entry_then has.4
+  changed = changed_places mid old n (shift_in deltas) place put has.1 refl has.3
 
   there : entry_of es n ≡ Some place.entry
   there = entry_at old n ∙ ap entry_in has.1
@@ -77,31 +74,27 @@ module _ (old mid : Places) (n : List ℕ) (deltas : List Delta) (change : Chang
 
   -- a place in between has the sums that it had
   sums_between : (q : List ℕ) (x : Place) → place_at mid q ≡ Some x → (r : Resource) → slice_index x.sums (place_of r) ≡ used_in es q r
-  sums_between q x found r = at (bytes_eq n q) refl (sym (has.4 q) ∙ found)
+  sums_between q x found r = at (bytes_eq n q) refl (sym (has.3 q) ∙ found)
     where
       at : (b : Bool) → bytes_eq n q ≡ b → cond b (Some put) (place_at old q) ≡ Some x → slice_index x.sums (place_of r) ≡ used_in es q r
       at true same h = ap (λ (y : Place). slice_index y.sums (place_of r)) (sym (same_Some put x h)) ∙ summed.sums n place has.1 r ∙ ap (λ (k : List ℕ). used_in es k r) (is_same n q same)
       at false out h = summed.sums q x h r
 
-  own_before : (r : Resource) → slice_index change.take (place_of r) ≡ own_of r place.entry
-  own_before r = ap (λ (xs : List ℕ). slice_index xs (place_of r)) has.2
-
-  own_after : (r : Resource) → slice_index change.give (place_of r) ≡ own_of r (shift_in deltas place.entry)
-  own_after r = ap (λ (xs : List ℕ). slice_index xs (place_of r)) has.3
-
   abbrev then : Entries
   then = with_changed n (shift_in deltas) es
 
   moves : (q : List ℕ) (r : Resource) → used_in then q r + cond (is_in q chain) (slice_index change.take (place_of r)) 0 ≡ used_in es q r + cond (is_in q chain) (slice_index change.give (place_of r)) 0
-  moves q r =
-      ap (λ k. used_in then q r + cond (is_in q chain) k 0) (own_before r)
-      ∙ used_shifted es n deltas place.entry (ascends-entries (entries_in old)) there q r
-      ∙ ap (λ k. used_in es q r + cond (is_in q chain) k 0) (sym (own_after r))
+  moves q r = by (is_in q chain) (used_shifted es n deltas place.entry (ascends-entries (entries_in old)) there q r)
+    where
+      by : (b : Bool) → used_in then q r + cond b (own_of r place.entry) 0 ≡ used_in es q r + cond b (own_of r (shift_in deltas place.entry)) 0
+          → used_in then q r + cond b (slice_index change.take (place_of r)) 0 ≡ used_in es q r + cond b (slice_index change.give (place_of r)) 0
+      by true whole = omega (arith, whole, (has.2 r).1)
+      by false whole = whole
 
   own_within : (q : List ℕ) (r : Resource) → is_in q chain ≡ true → slice_index change.take (place_of r) ≤ used_in es q r
   own_within q r mem =
-      subst (λ (k : ℕ). k ≤ used_in es q r) (ap (λ b. cond b (own_of r place.entry) 0) mem ∙ sym (own_before r))
-      (part_within (part_of (tree_of es) q r) n place.entry es (ascends-entries (entries_in old)) there)
+      let own : own_of r place.entry ≤ used_in es q r = subst (λ (k : ℕ). k ≤ used_in es q r) (ap (λ b. cond b (own_of r place.entry) 0) mem) (part_within (part_of (tree_of es) q r) n place.entry es (ascends-entries (entries_in old)) there) in
+      omega (arith, own, (has.2 r).0)
 
   within_then : (q : List ℕ) (r : Resource) → used_in then q r < 2 ^ 128
   within_then q r = less (used_in then q r) (total_of then r) (used_within (tree_of then) q r then) (fits r)

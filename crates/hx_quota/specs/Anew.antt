@@ -2,17 +2,20 @@
 --     all_ended             all walks up the parents from places end at a namespace without one
 --     name_at, chain_at     the name at an index of entries, and its chain
 --     chain_behind          that of its parent
+--     walk_from, walk_behind      whether a walk up from an index passes a name, and one from its parent
 --     with_sums, cleared    places with other sums at an index, and with none
+--     HasAdjusted           the sums at an index are adjusted
 --     HasFirst              the sums of places are those of subtrees, as far as the first places are in them
-use Rattle.std.specs.Prelude.{◌≡◌, ℕ, zero, suc, Bool, List, [], ◌∷◌, map, replicate, sum_by, take, Option, Some, option_and_then, option_map, slice_get, slice_index}
+use Rattle.std.specs.Prelude.{◌≡◌, ℕ, zero, suc, ◌<◌, Bool, List, [], ◌∷◌, map, replicate, sum_by, take, Option, Some, option_and_then, option_map, slice_get, slice_index}
 use Rattle.std.specs.List.{list_all}
 use Rattle.hx_model.specs.Forest.{parent_of}
 use Rattle.hx_model.specs.Moves.{chain_from}
+use Rattle.hx_model.specs.Walks.{walk_has}
 use Rattle.hx_model.specs.declared.resource.Resource.{Resource}
 use Rattle.hx_quota.specs.declared.entry.Entry.{Entry}
 use Rattle.hx_quota.specs.declared.places.Place.{Place}
 use Rattle.hx_quota.specs.Counters.{tree_of, part_of, place_of}
-use Rattle.hx_quota.specs.Inside.{Places, entries_from, entries_in, ordered, place_at, ends_up}
+use Rattle.hx_quota.specs.Inside.{Places, adjusted, entries_from, entries_in, ordered, place_at, ends_up}
 
 -- the name at an index
 abbrev pub name_at : List (List ℕ × Entry) → ℕ → Option (List ℕ)
@@ -26,11 +29,27 @@ chain_at es at = chain_from (tree_of (entries_from es)) (option_and_then (name_a
 abbrev pub chain_behind : List (List ℕ × Entry) → ℕ → List (List ℕ)
 chain_behind es at = chain_from (tree_of (entries_from es)) (option_and_then (parent_of (tree_of (entries_from es))) (name_at es at))
 
+-- whether a walk up from an index, where there is one, passes a name in so many steps
+abbrev pub walk_from : ℕ → Places → Option ℕ → List ℕ → Bool
+walk_from left places at a = walk_has left (tree_of (ordered places)) (option_and_then (name_at (entries_in places)) at) a
+
+-- and one from its parent
+abbrev pub walk_behind : ℕ → Places → ℕ → List ℕ → Bool
+walk_behind left places at a = walk_has left (tree_of (ordered places)) (option_and_then (parent_of (tree_of (ordered places))) (name_at (entries_in places) at)) a
+
 -- with other sums at an index
 abbrev pub with_sums : ℕ → List ℕ → Places → Places
 with_sums at sums [] = []
 with_sums zero sums (e ∷ places) = (e.0, record (e.1) { sums = sums }) ∷ places
 with_sums (suc at) sums (e ∷ places) = e ∷ with_sums at sums places
+
+-- the sums at an index are adjusted
+pub record HasAdjusted (take give : List ℕ) (at : ℕ) (old new : Places) : Type 0 where
+  pub before : List ℕ
+  pub after : List ℕ
+  pub found : Some before ≡ option_map (λ (e : List ℕ × Place). e.1.sums) (slice_get old at)
+  pub put : new ≡ with_sums at after old
+  pub sums : (k : ℕ) → k < 15 → slice_index after k ≡ adjusted take give before k
 
 -- with no sums
 abbrev pub cleared : Places → Places

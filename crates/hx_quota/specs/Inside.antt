@@ -8,6 +8,8 @@
 --     adjusted              a sum of which something is taken and to which something is added
 --     MayAdjust             it may be
 --     IsAdjusted            a place has sums that are adjusted, where a test holds
+--     taken_by, given_by    what deltas take off sums, and what they add
+--     Replaces              sums after a change are those before it, less what is taken and with what is added
 --     HasShifted            the own sums of a place are shifted
 --     SameSums              a place was there with the same sums
 --     ends_by, ends_up      a walk up the parents ends at a namespace without one
@@ -82,11 +84,24 @@ IsAdjusted take give test None new = new ≡ None
 IsAdjusted take give test (Some p) new =
     (q : Place) × (new ≡ Some q) × (q.entry ≡ p.entry) × ((k : ℕ) → k < 15 → slice_index q.sums k ≡ (if test then adjusted take give p.sums k else slice_index p.sums k))
 
--- the own sums of the place of n are shifted, and the change says from what to what
+-- what deltas take off sums, and what they add, over what other deltas do
+abbrev pub taken_by : List Delta → List ℕ → List ℕ
+taken_by [] take = take
+taken_by (d ∷ deltas) take = taken_by deltas (slice_set take (place_of d.resource) d.old)
+
+abbrev pub given_by : List Delta → List ℕ → List ℕ
+given_by [] give = give
+given_by (d ∷ deltas) give = given_by deltas (slice_set give (place_of d.resource) d.new)
+
+-- a sum after a change is that before it, less what is taken and with what is added
+abbrev pub Replaces : List ℕ → List ℕ → List ℕ → List ℕ → ℕ → Type 0
+Replaces take give before after k = (slice_index take k ≤ slice_index before k) × (slice_index after k + slice_index take k ≡ slice_index before k + slice_index give k)
+
+-- the own sums of the place of n are shifted, and the change says by what
 abbrev pub HasShifted : Places → Places → List ℕ → List Delta → Change → Type 0
 HasShifted old new n deltas change =
-    (p : Place) × (place_at old n ≡ Some p) × (change.take ≡ p.entry.own) × (change.give ≡ shifted deltas p.entry.own)
-    × ((q : List ℕ) → place_at new q ≡ (if bytes_eq n q then Some (record p { entry = record (p.entry) { own = change.give } }) else place_at old q))
+    (p : Place) × (place_at old n ≡ Some p) × ((r : Resource) → Replaces change.take change.give p.entry.own (shifted deltas p.entry.own) (place_of r))
+    × ((q : List ℕ) → place_at new q ≡ (if bytes_eq n q then Some (record p { entry = record (p.entry) { own = shifted deltas p.entry.own } }) else place_at old q))
 
 -- a place was there with the same sums
 abbrev pub SameSums : Option Place → Place → Type 0

@@ -1,14 +1,16 @@
 // Walks up the places by their indices, and sums that are adjusted along them.
-ghost use Rattle.std.specs.Prelude.{◌≡◌, ℕ, ◌≤◌, true, is_some, IfSome, List, slice_get, option_map, option_copied, option_and_then};
+ghost use Rattle.std.specs.Prelude.{◌≡◌, ℕ, ◌≤◌, true, false, Some, None, is_some, IfSome, List, length, slice_get, option_map, option_copied, option_and_then};
 ghost use Rattle.std.specs.List.{IsDistinct};
 ghost use Rattle.std.specs.Map.{keys_of};
+ghost use Rattle.std.specs.Option.{option_map_or};
 ghost use Rattle.std.specs.Str.{bytes_eq};
 ghost use Rattle.indexmap.specs.IndexMap.{spare};
 ghost use Rattle.hx_model.specs.Forest.{is_in, parent_of, chain_of};
 ghost use Rattle.hx_model.specs.Moves.{chain_from};
+ghost use Rattle.hx_model.specs.Walks.{walk_has};
 ghost use Rattle.hx_quota.specs.Counters.{entry_of, tree_of, with_parent, AllFit};
 ghost use Rattle.hx_quota.specs.Inside.{entries_in, ordered, place_at, MayAdjust, IsAdjusted, HasUsage, IsFree, IsSummed, AllEnd};
-ghost use Rattle.hx_quota.specs.Anew.{name_at, chain_at, chain_behind, with_sums};
+ghost use Rattle.hx_quota.specs.Anew.{name_at, chain_at, chain_behind, walk_from, walk_behind, with_sums, HasAdjusted};
 
 use crate::places::{Change, Place, PlaceMap, adjust};
 use hx_object::Text;
@@ -55,22 +57,86 @@ pub(crate) fn adjust_up(places: &mut PlaceMap, first: Option<usize>, change: &Ch
 {
     let mut next = first;
     while let Some(at) = next {
-        let Some(mut sums) = sums_at(places, at) else {
+        if !adjust_at(places, at, change) {
             return;
-        };
-        adjust(&mut sums, change);
-        set_sums(places, at, sums);
+        }
         next = parent_index(places, at);
     }
 }
 
-/// The index of the parent of the namespace at an index.
-fn parent_index(places: &PlaceMap, at: usize) -> Option<usize>
-    ensures { chain_at (entries_in places.now.entries) result ≡ chain_behind (entries_in places.now.entries) at }
+/// Changes the sums of the namespace at an index, and says whether there is one.
+fn adjust_at(places: &mut PlaceMap, at: usize, change: &Change) -> bool
+    requires { (sums : List ℕ) → Some sums ≡ option_map (λ e. e.1.sums) (slice_get places.old.entries at) → MayAdjust change.now.take change.now.give sums }
+    ensures there { result ≡ true → HasAdjusted change.now.take change.now.give at places.old.entries places.new.entries }
+    ensures absent { result ≡ false → slice_get places.old.entries at ≡ None }
+    ensures same { result ≡ false → places.new.entries ≡ places.old.entries }
+    ensures room { spare places.old ≤ spare places.new }
 {
-    match parent_at(places, at) {
-        Some(parent) => index_of(places, parent),
-        None => None,
+    match places.get_index_mut(at) {
+        Some(place) => {
+            adjust(&mut place.sums, change);
+            true
+        }
+        None => false,
+    }
+}
+
+/// Whether the walk up from an index, where there is one, comes to a namespace.
+pub(crate) fn passes(places: &PlaceMap, first: Option<usize>, above: &Text) -> bool
+    ensures { result ≡ walk_from (length (tree_of (ordered places.now.entries))) places.now.entries first above.now }
+{
+    let mut next = first;
+    let mut left = count(places);
+    while left > 0 {
+        left -= 1;
+        let Some(at) = next else {
+            return false;
+        };
+        if is_named(places, at, above) {
+            return true;
+        }
+        next = parent_index(places, at);
+    }
+    false
+}
+
+/// How many namespaces there are.
+pub(crate) fn count(places: &PlaceMap) -> usize
+    ensures { result ≡ length (tree_of (ordered places.now.entries)) }
+{
+    places.len()
+}
+
+/// The index of the parent of the namespace at an index. It is found without hashing, unless the parent lies elsewhere than when it was looked up.
+fn parent_index(places: &PlaceMap, at: usize) -> Option<usize>
+    ensures chain { chain_at (entries_in places.now.entries) result ≡ chain_behind (entries_in places.now.entries) at }
+    ensures walks { (left : ℕ) (above : List ℕ) → walk_from left places.now.entries result above ≡ walk_behind left places.now.entries at above }
+{
+    let Some(parent) = parent_at(places, at) else {
+        return None;
+    };
+    let up = up_at(places, at);
+    if is_named(places, up, parent) {
+        return Some(up);
+    }
+    index_of(places, parent)
+}
+
+/// Whether the namespace at an index has a name.
+fn is_named(places: &PlaceMap, at: usize, name: &Text) -> bool
+    ensures { result ≡ option_map_or (λ n. bytes_eq n name.now) (name_at (entries_in places.now.entries) at) false }
+{
+    match places.get_index(at) {
+        Some((found, _place)) => found.as_str() == name.as_str(),
+        None => false,
+    }
+}
+
+/// Where the parent of the namespace at an index lay when it was looked up.
+fn up_at(places: &PlaceMap, at: usize) -> usize {
+    match places.get_index(at) {
+        Some((_name, place)) => place.up,
+        None => 0,
     }
 }
 
@@ -107,6 +173,7 @@ pub(crate) fn set_sums(places: &mut PlaceMap, at: usize, sums: [u128; 15])
 /// The index of a namespace.
 pub(crate) fn index_of(places: &PlaceMap, name: &Text) -> Option<usize>
     ensures chain { chain_at (entries_in places.now.entries) result ≡ chain_of (tree_of (ordered places.now.entries)) name.now }
+    ensures walks { (left : ℕ) (above : List ℕ) → walk_from left places.now.entries result above ≡ walk_has left (tree_of (ordered places.now.entries)) (Some name.now) above }
     ensures distinct { IsDistinct bytes_eq (keys_of (entries_in places.now.entries)) }
 {
     places.get_index_of(name)

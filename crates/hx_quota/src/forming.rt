@@ -8,7 +8,7 @@ ghost use Rattle.hx_quota.specs.Counters.{tree_of, AllFit};
 ghost use Rattle.hx_quota.specs.Inside.{entries_in, ordered, place_at, IsSummed, AllEnd, ends_up};
 ghost use Rattle.hx_quota.specs.Anew.{all_ended, cleared, HasFirst};
 
-use crate::climbing::{adjust_up, set_sums};
+use crate::climbing::{adjust_up, count, set_sums};
 use crate::entry::Entry;
 use crate::places::{Change, Place, PlaceMap};
 use hx_object::Text;
@@ -58,13 +58,6 @@ fn ends(places: &PlaceMap, name: &Text) -> bool
         next = place.entry.parent.as_ref();
     }
     next.is_none()
-}
-
-/// How many namespaces there are.
-fn count(places: &PlaceMap) -> usize
-    ensures { result ≡ length (tree_of (ordered places.now.entries)) }
-{
-    places.len()
 }
 
 /// Sets all sums to 0.

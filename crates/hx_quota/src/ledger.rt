@@ -63,6 +63,7 @@ impl Ledger {
         ensures kept { IsKept self.old → IsKept self.new }
     {
         let place = Place {
+            up: 0,
             entry: Entry::empty(),
             sums: [0; 15],
         };

@@ -1,5 +1,5 @@
 // Own sums after deltas.
-ghost use Rattle.std.specs.Prelude.{◌≡◌};
+ghost use Rattle.std.specs.Prelude.{◌≡◌, length};
 ghost use Rattle.hx_quota.specs.Counters.{shifted, AreApart, HaveOld};
 ghost use Rattle.hx_quota.specs.Inside.{OwnFit};
 
@@ -10,7 +10,8 @@ pub(crate) fn shift(own: &mut [u128; 15], deltas: &[Delta])
     requires apart { AreApart deltas.now }
     requires old { HaveOld deltas.now own.old }
     requires fits { OwnFit (shifted deltas.now own.old) }
-    ensures { own.new ≡ shifted deltas.now own.old }
+    ensures sums { own.new ≡ shifted deltas.now own.old }
+    ensures long { length own.old ≡ 15 }
 {
     for delta in deltas {
         let place = place_of(delta.resource);

@@ -1,23 +1,17 @@
 // Walks up the parents, and what namespaces have with all below them.
-ghost use Rattle.std.specs.Prelude.{◌≡◌, ◌&&◌, false, Some, length, option_copied};
+ghost use Rattle.std.specs.Prelude.{◌≡◌, ◌&&◌, false, Some, option_copied};
 ghost use Rattle.std.specs.Option.{option_map_or};
 ghost use Rattle.hx_model.specs.Forest.{in_chain, parent_of};
 ghost use Rattle.hx_quota.specs.Counters.{tree_of, used_in, AllFit};
 ghost use Rattle.hx_quota.specs.Inside.{entries_of, IsKept, is_plain_move};
 
+use crate::climbing::{index_of, passes};
 use crate::entry::place_of;
 use crate::ledger::Ledger;
 use hx_model::Resource;
 use hx_object::Text;
 
 impl Ledger {
-    /// How many there are.
-    fn len(&self) -> usize
-        ensures { result ≡ length (tree_of (entries_of self.now)) }
-    {
-        self.places.len()
-    }
-
     /// What a namespace has of a resource with all below it.
     pub(crate) fn used(&self, ns: &Text, resource: Resource) -> u128
         requires fits { AllFit (entries_of self.now) }
@@ -81,21 +75,6 @@ impl Ledger {
     fn in_chain(&self, name: &Text, above: &Text) -> bool
         ensures { result ≡ in_chain (tree_of (entries_of self.now)) name.now above.now }
     {
-        let mut next = Some(name);
-        let mut left = self.len();
-        while left > 0 {
-            left -= 1;
-            let Some(member) = next else {
-                return false;
-            };
-            let Some(place) = self.places.get(member) else {
-                return false;
-            };
-            if member.as_str() == above.as_str() {
-                return true;
-            }
-            next = place.entry.parent.as_ref();
-        }
-        false
+        passes(&self.places, index_of(&self.places, name), above)
     }
 }

@@ -32,7 +32,7 @@ returns-in-Shift-clause-totals c = λ r.
     let es = c.args.counters.now.entries in
     let long : length c.args.totals.now ≡ 15 = search rules in
     let may = subst (λ (x : CounterChange). MayChange x es) c.in-Shift.is c.requires.may in
-    ap (λ (xs : List ℕ). slice_index xs (place_of r)) (c.shift.ensures ∙ ap (λ (ds : List Delta). shifted ds c.args.totals.now) c.as_slice.ensures)
+    ap (λ (xs : List ℕ). slice_index xs (place_of r)) (c.shift.ensures.sums ∙ ap (λ (ds : List Delta). shifted ds c.args.totals.now) c.as_slice.ensures)
     ∙ shifted_totals c.args.totals.now es c.requires.regular long c.requires.totals c.in-Shift.ns c.in-Shift.deltas (may.0, may.1, may.2) r
     ∙ sym (ap (λ (xs : Entries). total_of xs r) (c.shift_at.ensures.entries ∙ ap (λ (ds : List Delta). with_shifted (c.in-Shift.ns ∷ []) ds es) c.as_slice-in-Shift.ensures))
 

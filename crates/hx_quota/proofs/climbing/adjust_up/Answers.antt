@@ -1,6 +1,6 @@
-use Rattle.std.proofs.Common.{rules, ◌∙◌, sym}
+use Rattle.std.proofs.Common.{rules}
 use Rattle.hx_quota.specs.Inside.{entries_in}
-use Rattle.hx_quota.specs.Anew.{chain_at}
+use Rattle.hx_quota.specs.Anew.{chain_at, HasAdjusted}
 use Rattle.hx_quota.proofs.Formed.{begun, may_step, more_of, shorter_left}
 use Rattle.hx_quota.proofs.climbing.adjust_up.Goals as goal
 
@@ -10,19 +10,22 @@ loop-next-init c = record {
   room = search rules;
 }
 
-pub adjust-requires : goal.adjust-requires
-adjust-requires c =
+pub adjust_at-requires : goal.adjust_at-requires
+adjust_at-requires c = λ before found.
     may_step c.args.change.now.take c.args.change.now.give c.args.places.now.entries c.loop-next.places.entries (chain_at (entries_in c.args.places.now.entries) c.args.first) c.requires.ends c.requires.distinct c.in-Some.at c.loop-next.next c.in-Some.is
-    c.in-Some-sums_at.sums (sym c.in-Some-sums_at.is ∙ c.sums_at.ensures) c.loop-next.invariant.underway c.requires.may
+    before found c.loop-next.invariant.underway c.requires.may
 
 pub loop-next-smaller : goal.loop-next-smaller
 loop-next-smaller c =
+    let has : HasAdjusted c.args.change.now.take c.args.change.now.give c.in-Some.at c.loop-next.places.entries c.adjust_at.new.places.entries = search rules in
     shorter_left c.args.change.now.take c.args.change.now.give c.args.places.now.entries c.loop-next.places.entries (chain_at (entries_in c.args.places.now.entries) c.args.first) c.requires.ends c.requires.distinct c.in-Some.at c.loop-next.next c.in-Some.is
-    c.in-Some-sums_at.sums (sym c.in-Some-sums_at.is ∙ c.sums_at.ensures) c.loop-next.invariant.underway c.set_sums.new.places.entries c.adjust.new.sums c.set_sums.ensures.places c.parent_index-next.result c.parent_index-next.ensures
+    has.before has.found c.loop-next.invariant.underway c.adjust_at.new.places.entries has.after has.put c.parent_index-next.result c.parent_index-next.ensures.chain
 
 pub loop-next-preserved : goal.loop-next-preserved
-loop-next-preserved c = record {
-  underway = more_of c.args.change.now.take c.args.change.now.give c.args.places.now.entries c.loop-next.places.entries (chain_at (entries_in c.args.places.now.entries) c.args.first) c.requires.ends c.requires.distinct c.in-Some.at c.loop-next.next c.in-Some.is
-      c.in-Some-sums_at.sums (sym c.in-Some-sums_at.is ∙ c.sums_at.ensures) c.loop-next.invariant.underway c.set_sums.new.places.entries c.adjust.new.sums c.set_sums.ensures.places c.parent_index-next.result c.parent_index-next.ensures c.adjust.ensures;
-  room = search rules;
-}
+loop-next-preserved c =
+    let has : HasAdjusted c.args.change.now.take c.args.change.now.give c.in-Some.at c.loop-next.places.entries c.adjust_at.new.places.entries = search rules in
+    record {
+      underway = more_of c.args.change.now.take c.args.change.now.give c.args.places.now.entries c.loop-next.places.entries (chain_at (entries_in c.args.places.now.entries) c.args.first) c.requires.ends c.requires.distinct c.in-Some.at c.loop-next.next c.in-Some.is
+          has.before has.found c.loop-next.invariant.underway c.adjust_at.new.places.entries has.after has.put c.parent_index-next.result c.parent_index-next.ensures.chain has.sums;
+      room = search rules;
+    }

@@ -31,7 +31,7 @@ adjust_up-requires-clause-may c =
     let there : is_there (tree_of (ordered old)) n ≡ true = in_tree (ordered old) n ∙ c.requires.there in
     let mine = at_index old c.requires.summed.ends c.index_of.ensures.distinct n there c.in-Some.at (sym (ap (chain_at es) c.in-Some.is) ∙ c.index_of.ensures.chain) c.in-Some-sums_at.sums (sym c.in-Some-sums_at.is ∙ c.sums_at.ensures) in
     λ q x mem found. subst (λ (s : List ℕ). MayAdjust s (replicate 15 0) x.sums) mine.2
-    (may_take old n (option_copied c.args.parent) there c.requires.open c.requires.fits c.requires.summed mine.0 mine.1 q x (ap (is_in q) (sym (c.parent_index-from.ensures ∙ mine.3)) ∙ mem) found)
+    (may_take old n (option_copied c.args.parent) there c.requires.open c.requires.fits c.requires.summed mine.0 mine.1 q x (ap (is_in q) (sym (c.parent_index-from.ensures.chain ∙ mine.3)) ∙ mem) found)
 
 pub adjust_up-requires-2-clause-ends : goal.adjust_up-requires-2-clause-ends
 adjust_up-requires-2-clause-ends c = subst (λ (xs : List (List ℕ × Entry)). AllEnd (tree_of (entries_from xs))) (sym c.adjust_up.ensures.entries) c.requires.summed.ends
@@ -48,7 +48,7 @@ adjust_up-requires-2-clause-may c =
     let there : is_there f n ≡ true = in_tree (ordered old) n ∙ c.requires.there in
     let mine = at_index old c.requires.summed.ends c.index_of.ensures.distinct n there c.in-Some.at (sym (ap (chain_at es) c.in-Some.is) ∙ c.index_of.ensures.chain) sums (sym c.in-Some-sums_at.is ∙ c.sums_at.ensures) in
     let off = subst (λ (s : List ℕ). (q : List ℕ) → IsAdjusted s none (is_in q (chain_from f (parent_of f n))) (place_at old q) (place_at mid q)) (sym mine.2)
-    (subst (λ (ns : List (List ℕ)). (q : List ℕ) → IsAdjusted sums none (is_in q ns) (place_at old q) (place_at mid q)) (c.parent_index-from.ensures ∙ mine.3) c.adjust_up.ensures.sums) in
+    (subst (λ (ns : List (List ℕ)). (q : List ℕ) → IsAdjusted sums none (is_in q ns) (place_at old q) (place_at mid q)) (c.parent_index-from.ensures.chain ∙ mine.3) c.adjust_up.ensures.sums) in
     let over = ap (λ (xs : List (List ℕ × Entry)). chain_at xs c.index_from-to.result) c.adjust_up.ensures.entries ∙ c.index_from-to.ensures in
     λ q x mem found. subst (λ (s : List ℕ). MayAdjust none s x.sums) mine.2
     (may_give old n (option_copied c.args.parent) there c.requires.open c.requires.fits c.requires.summed mine.0 mine.1 mid off q x (ap (is_in q) (sym over) ∙ mem) found)
@@ -66,7 +66,7 @@ returns-clause-sums c =
     let there : is_there f n ≡ true = in_tree (ordered old) n ∙ c.requires.there in
     let mine = at_index old c.requires.summed.ends c.index_of.ensures.distinct n there c.in-Some.at (sym (ap (chain_at es) c.in-Some.is) ∙ c.index_of.ensures.chain) sums (sym c.in-Some-sums_at.is ∙ c.sums_at.ensures) in
     let off = subst (λ (s : List ℕ). (q : List ℕ) → IsAdjusted s none (is_in q (chain_from f (parent_of f n))) (place_at old q) (place_at mid q)) (sym mine.2)
-    (subst (λ (ns : List (List ℕ)). (q : List ℕ) → IsAdjusted sums none (is_in q ns) (place_at old q) (place_at mid q)) (c.parent_index-from.ensures ∙ mine.3) c.adjust_up.ensures.sums) in
+    (subst (λ (ns : List (List ℕ)). (q : List ℕ) → IsAdjusted sums none (is_in q ns) (place_at old q) (place_at mid q)) (c.parent_index-from.ensures.chain ∙ mine.3) c.adjust_up.ensures.sums) in
     let over = ap (λ (xs : List (List ℕ × Entry)). chain_at xs c.index_from-to.result) c.adjust_up.ensures.entries ∙ c.index_from-to.ensures in
     let on = subst (λ (s : List ℕ). (q : List ℕ) → IsAdjusted none s (is_in q (chain_from f (option_copied c.args.parent))) (place_at mid q) (place_at new q)) (sym mine.2)
     (subst (λ (ns : List (List ℕ)). (q : List ℕ) → IsAdjusted none sums (is_in q ns) (place_at mid q) (place_at new q)) over c.adjust_up-2.ensures.sums) in

@@ -11,7 +11,7 @@ returns-in-Some-clause-entries c =
     let ns = c.args.ns.now in
     let place = c.in-Some.place.now in
     let found : place_at old ns ≡ Some place = sym c.get_mut.ensures.value ∙ ap option_copied_mut c.in-Some.is in
-    let new : Place = record place { entry = record (place.entry) { parent = c.args.parent } } in
+    let new : Place = record place { up = c.way_to-up.result; entry = record (place.entry) { parent = c.args.parent } } in
     let updates = (c.get_mut.follows.holds new).3 (ap is_some found) in
     changed_places (c.get_mut.follows.lender new).entries old ns (λ e. record e { parent = c.args.parent }) place new found refl updates.0
 

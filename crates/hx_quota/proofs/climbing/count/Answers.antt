@@ -5,7 +5,7 @@ use Rattle.hx_quota.specs.Inside.{entries_in, ordered}
 use Rattle.hx_quota.proofs.Placed.{same_keys, same_count}
 use Rattle.hx_quota.proofs.Sums.{length-entries}
 use Rattle.hx_quota.proofs.Trees.{tree_length}
-use Rattle.hx_quota.proofs.forming.count.Goals as goal
+use Rattle.hx_quota.proofs.climbing.count.Goals as goal
 
 pub returns : goal.returns
 returns c =
