@@ -6,22 +6,14 @@ use Rattle.std.specs.FinMap.{is_sorted}
 use Rattle.std.specs.FinMap.Entries.{below_all}
 use Rattle.std.specs.Option.{option_map}
 use Rattle.std.specs.Ordering.{is_ge, is_lt, is_some_and, nat_cmp}
-use Rattle.std.specs.Prelude.{T, ◌&&◌, IfSome, find as find_first, slice_get}
+use Rattle.std.specs.Prelude.{T, IfSome, find as find_first, slice_get}
 use Rattle.std.specs.declared.cmp.Ordering.{Ordering}
 use Rattle.std.specs.declared.cmp.Ordering.TheVariants.{Less, Equal, Greater}
 use Rattle.std.specs.declared.option.Option.{Option}
 use Rattle.hx_object.specs.Texts.{bytes_cmp}
 use Rattle.hx_ports.specs.declared.keeper.Row.{Row}
 use Rattle.hx_ports.specs.Rows.{Entry, entry_of, entries_of, lies_behind}
-use Rattle.hx_ports.proofs.Placed.{less-of, not_less-of, order-is}
-
-first : (a b : Bool) → T (a && b) → T a
-first true b p = tt
-first false b p = p
-
-second : (a b : Bool) → T (a && b) → T b
-second true b p = p
-second false b p = absurd p
+use Rattle.hx_ports.proofs.Placed.{first, second, less-of, not_less-of, order-is}
 
 less : (r : Ordering) → T (is_lt r) → r ≡ Less
 less Less p = refl

@@ -1,5 +1,6 @@
 -- How rows by their keys change where a row is put or cut, as their map does, and when rows in a list ascend.
 use Rattle.std.proofs.Common.{◌≡◌, ℕ, suc, ◌+◌, ◌-◌, ◌<◌, ◌≤◌, Bool, true, false, cond, List, [], ◌∷◌, ◌++◌, map, length, get_or, take, drop, None, Some, refl, sym, ap, subst, ◌∙◌, arith}
+use Rattle.std.proofs.lemmas.Bool.{and_parts}
 use Rattle.std.proofs.lemmas.List.{length-map, take_at as take_at_seam, take-append-drop, length-take, length-drop, drop-drop, map-append}
 use Rattle.std.proofs.Math.Seq.{drop-cons}
 use Rattle.std.specs.Cmp.Lexicographic.{nat_list_cmp_total, nat_list_eq_equiv, slice_partial_cmp, lists_agrees, texts_ties}
@@ -113,11 +114,11 @@ same_tests true false f g = absurd (f tt)
 same_tests false true f g = absurd (g tt)
 same_tests false false f g = refl
 
-first : (a b : Bool) → T (a && b) → T a
+pub first : (a b : Bool) → T (a && b) → T a
 first true b p = tt
 first false b p = p
 
-second : (a b : Bool) → T (a && b) → T b
+pub second : (a b : Bool) → T (a && b) → T b
 second true b p = p
 second false b p = absurd p
 
@@ -188,26 +189,19 @@ lay_rows-step old new row before after rows is put so_far =
     ap (onto (entries_of new)) put ∙ sym (onto-push (entries_of new) (entry_of row) before)
     ∙ ap (λ es. onto es before) (sym (map-append entry_of new (row ∷ [])) ∙ ap entries_of (sym is)) ∙ so_far
 
-left_of : (a b : Bool) → (a && b) ≡ true → a ≡ true
-left_of true b h = refl
-left_of false b h = h
-
-right_of : (a b : Bool) → (a && b) ≡ true → b ≡ true
-right_of true b h = h
-right_of false b h = cc
-
 below-init : (q : List ℕ) (es : List Entry) (e : Entry) → below_all bytes_cmp q (es ++ e ∷ []) ≡ true → below_all bytes_cmp q es ≡ true
 below-init q [] e h = refl
 below-init q (f ∷ es) e h =
-    let first = left_of (is_lt (bytes_cmp q f.0)) (below_all bytes_cmp q (es ++ e ∷ [])) h in
-    let rest = below-init q es e (right_of (is_lt (bytes_cmp q f.0)) (below_all bytes_cmp q (es ++ e ∷ [])) h) in
-    λ i. first i && rest i
+    let parts = and_parts (is_lt (bytes_cmp q f.0)) (below_all bytes_cmp q (es ++ e ∷ [])) h in
+    let rest = below-init q es e parts.1 in
+    λ i. parts.0 i && rest i
 
 sorted-init : (es : List Entry) (e : Entry) → is_sorted bytes_cmp (es ++ e ∷ []) ≡ true → is_sorted bytes_cmp es ≡ true
 sorted-init [] e h = refl
 sorted-init (f ∷ es) e h =
-    let first = below-init f.0 es e (left_of (below_all bytes_cmp f.0 (es ++ e ∷ [])) (is_sorted bytes_cmp (es ++ e ∷ [])) h) in
-    let rest = sorted-init es e (right_of (below_all bytes_cmp f.0 (es ++ e ∷ [])) (is_sorted bytes_cmp (es ++ e ∷ [])) h) in
+    let parts = and_parts (below_all bytes_cmp f.0 (es ++ e ∷ [])) (is_sorted bytes_cmp (es ++ e ∷ [])) h in
+    let first = below-init f.0 es e parts.0 in
+    let rest = sorted-init es e parts.1 in
     λ i. first i && rest i
 
 -- rows without their last one still ascend
