@@ -26,6 +26,10 @@ pub(crate) fn mark_held(slots: &mut Slots, key: &Key) -> bool
     ensures marked { held_of slots.new.entries ≡ again_in key.now (held_of slots.old.entries) }
     ensures room { spare slots.new ≡ spare slots.old }
 {
+    // mostly nobody holds any, and nothing is hashed
+    if slots.is_empty() {
+        return false;
+    }
     match slots.get_mut(key) {
         Some(slot) => {
             slot.again = true;
