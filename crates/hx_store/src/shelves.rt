@@ -35,6 +35,10 @@ impl Shelves {
     pub(crate) fn board(&self, ns: &str) -> Option<&Board>
         ensures { option_copied result ≡ board_in self.now ns.now }
     {
+        // many a kind has no objects, and then nothing is hashed
+        if self.shelves.is_empty() {
+            return None;
+        }
         self.shelves.get(ns)
     }
 
