@@ -14,7 +14,7 @@ use Rattle.indexmap.proofs.MapLemmas.{swap_remove_last}
 use Rattle.hx_model.specs.Keys.{same_key, is_among}
 use Rattle.hx_model.specs.declared.key.Key.{Key}
 use Rattle.hx_queue.specs.Kept.{waiting_without}
-use Rattle.hx_queue.specs.Line.{in_line, IsLine}
+use Rattle.hx_queue.specs.Line.{in_line, with_key, IsLine}
 use Rattle.hx_model.proofs.SameKeys.{key_laws, same_key_itself, same_turned}
 use Rattle.hx_queue.proofs.Sets.{among_without, distinct_filter, same_keys, line_without, line_permutes, among_line, head_absent}
 
@@ -33,15 +33,43 @@ unchanged false P e h = h
 
 -- ---- keys that are pushed
 
-pub pushed_first : (k : Key) → IsLine (k ∷ []) []
+pushed_first : (k : Key) → IsLine (k ∷ []) []
 unfolding IsDistinct
 pushed_first k = record { distinct = IsDistinct-push key_laws [] k tt refl; turned = λ e. refl }
 
-pub pushed : (older younger : List Key) (k : Key) → IsLine older younger → (older ≡ [] → ⊥) → is_among k (in_line older younger) ≡ false → IsLine older (younger ++ k ∷ [])
+pushed : (older younger : List Key) (k : Key) → IsLine older younger → (older ≡ [] → ⊥) → is_among k (in_line older younger) ≡ false → IsLine older (younger ++ k ∷ [])
 pushed older younger k line some absent = record {
   distinct = subst (IsDistinct same_key) (append_assoc (reverse older) younger (k ∷ [])) (IsDistinct-push key_laws (in_line older younger) k line.distinct absent);
   turned = λ e. absurd (some e);
 }
+
+-- the first key of all
+pub first_line : (older younger new : List Key) (k : Key) → IsLine older younger → older ≡ [] → new ≡ with_key k older → IsLine new younger
+first_line older younger new k line none is =
+    subst (λ l. IsLine l younger) (sym (is ∙ ap (with_key k) none)) (subst (IsLine (k ∷ [])) (sym (line.turned none)) (pushed_first k))
+
+-- a key that the older generation has
+pub there_line : (older younger : List Key) (k : Key) → is_among k older ≡ true → in_line older younger ≡ with_key k (in_line older younger)
+there_line older younger k there = sym (ap (λ b. cond b (in_line older younger) (in_line older younger ++ k ∷ [])) (among_line k older younger ∙ ap (λ b. b || is_among k younger) there))
+
+-- a key that it doesn't have
+pub younger_line : (older younger : List Key) (k : Key) → IsLine older younger → (older ≡ [] → ⊥) → is_among k older ≡ false
+    → IsLine older (with_key k younger) × (in_line older (with_key k younger) ≡ with_key k (in_line older younger))
+younger_line older younger k line some out = by (is_among k younger) refl
+  where
+    among : is_among k (in_line older younger) ≡ is_among k younger
+    among = among_line k older younger ∙ ap (λ b. b || is_among k younger) out
+
+    by : (b : Bool) → is_among k younger ≡ b → IsLine older (with_key k younger) × (in_line older (with_key k younger) ≡ with_key k (in_line older younger))
+    by true there = (
+      subst (IsLine older) (sym (ap (λ b. cond b younger (younger ++ k ∷ [])) there)) line,
+      ap (in_line older) (ap (λ b. cond b younger (younger ++ k ∷ [])) there) ∙ sym (ap (λ b. cond b (in_line older younger) (in_line older younger ++ k ∷ [])) (among ∙ there)),
+    )
+    by false absent = (
+      subst (IsLine older) (sym (ap (λ b. cond b younger (younger ++ k ∷ [])) absent)) (pushed older younger k line some (among ∙ absent)),
+      ap (in_line older) (ap (λ b. cond b younger (younger ++ k ∷ [])) absent) ∙ sym (append_assoc (reverse older) younger (k ∷ []))
+          ∙ sym (ap (λ b. cond b (in_line older younger) (in_line older younger ++ k ∷ [])) (among ∙ absent)),
+    )
 
 -- ---- keys that are taken
 

@@ -11,7 +11,7 @@ use Rattle.std.proofs.lemmas.Map.Keys.{IsDistinct-head, IsDistinct-tail, IsDisti
 use Rattle.hx_model.specs.Keys.{same_key, is_among}
 use Rattle.hx_model.specs.declared.key.Key.{Key}
 use Rattle.hx_queue.specs.Kept.{Held, QueueView, AreApart, again_in, held_without, keys_held, waiting_without, waiting_after, Releases}
-use Rattle.hx_queue.specs.Line.{LineView}
+use Rattle.hx_queue.specs.Line.{LineView, with_key}
 use Rattle.hx_queue.specs.Slots.{held_of, held_by, view, seen, IsQueue}
 use Rattle.hx_queue.specs.declared.slots.Slot.{Slot}
 use Rattle.hx_model.proofs.SameKeys.{key_laws, same_key_is, same_turned}
@@ -83,7 +83,7 @@ among_push q k keys = list_any-append (same_key q) keys (k ∷ []) ∙ ap (λ b.
     or_false false = refl
 
 -- a key that is neither there nor held
-pub pushed_queue : (k : Key) (a b : LineView) (es fs : List (Key × Slot)) → IsQueue a es → held_of fs ≡ again_in k (held_of es) → b.keys ≡ a.keys ++ k ∷ [] → a.room ≤ b.room + 1 → length es < a.room
+pushed_queue : (k : Key) (a b : LineView) (es fs : List (Key × Slot)) → IsQueue a es → held_of fs ≡ again_in k (held_of es) → b.keys ≡ a.keys ++ k ∷ [] → a.room ≤ b.room + 1 → length es < a.room
     → is_among k a.keys ≡ false → is_some (find (λ (h : Held). same_key k h.key) (held_of es)) ≡ false → IsQueue b fs
 pushed_queue k a b es fs q is keys room more absent free =
     let m = marked_queue k a es fs q is in
@@ -99,6 +99,19 @@ pushed_queue k a b es fs q is keys room more absent free =
     by p held true e out =
         absurd (true≢false (sym held ∙ ap (is_among p) (ap keys_held is ∙ keys_again k (held_of es)) ∙ ap (λ x. is_among x (keys_held (held_of es))) (same_key_is p k e) ∙ sym (is_held_among k (held_of es)) ∙ free))
     by p held false e out = (λ i. out i || e i)
+
+-- a key waits, or did before
+pub with_queue : (k : Key) (a b : LineView) (es fs : List (Key × Slot)) → IsQueue a es → held_of fs ≡ again_in k (held_of es) → b.keys ≡ with_key k a.keys → a.room ≤ b.room + 1 → length es < a.room
+    → is_some (find (λ (h : Held). same_key k h.key) (held_of es)) ≡ false → IsQueue b fs
+with_queue k a b es fs q is keys room more free = by (is_among k a.keys) refl
+  where
+    by : (t : Bool) → is_among k a.keys ≡ t → IsQueue b fs
+    by false absent = pushed_queue k a b es fs q is (keys ∙ ap (λ t. cond t a.keys (a.keys ++ k ∷ [])) absent) room more absent free
+    by true there =
+        let m = marked_queue k a es fs q is in
+        let same : b.keys ≡ a.keys = keys ∙ ap (λ t. cond t a.keys (a.keys ++ k ∷ [])) there in
+        let long = as_many es fs (ap keys_held is ∙ keys_again k (held_of es)) in
+        record { apart = subst (λ l. (n : ℕ) → AreApart (view l (held_of fs) n)) (sym same) m.apart; room = omega (arith, room, more, long) }
 
 -- ---- a key is held
 

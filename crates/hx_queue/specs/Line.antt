@@ -1,11 +1,12 @@
 -- The keys that wait, in two generations.
 --     LineView    the keys, the next one first, and the room
 --     in_line     the keys of both generations in order
+--     with_key    keys with one behind the others, unless it is there
 --     IsLine      what the generations keep
-use Rattle.std.specs.Prelude.{◌≡◌, ℕ, List, [], ◌++◌, reverse, refl}
+use Rattle.std.specs.Prelude.{◌≡◌, ℕ, List, [], ◌∷◌, ◌++◌, reverse, if◌then◌else◌, refl}
 use Rattle.std.specs.List.{IsDistinct}
 use Rattle.std.specs.Coded.{Coded, code_by, coded×, coded_list, coded_ℕ}
-use Rattle.hx_model.specs.Keys.{same_key}
+use Rattle.hx_model.specs.Keys.{same_key, is_among}
 use Rattle.hx_model.specs.contracts.key.Key as key
 use Rattle.hx_model.specs.declared.key.Key.{Key}
 
@@ -16,6 +17,10 @@ pub record LineView : Type 0 where
 -- the older generation from its last key on, and then the younger one
 abbrev pub in_line : List Key → List Key → List Key
 in_line now later = reverse now ++ later
+
+-- with a key behind the others, unless it is there
+abbrev pub with_key : Key → List Key → List Key
+with_key k keys = if is_among k keys then keys else keys ++ k ∷ []
 
 -- no key is there twice, and the older generation has keys if the younger one does
 pub record IsLine (now later : List Key) : Type 0 where

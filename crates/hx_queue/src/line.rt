@@ -6,7 +6,7 @@ ghost use Rattle.indexmap.specs.IndexSet.{spare};
 ghost use Rattle.hx_model.specs.Keys.{same_key, is_among};
 ghost use Rattle.hx_model.specs.declared.key.Key.{Key as key_of};
 ghost use Rattle.hx_queue.specs.Kept.{waiting_without};
-ghost use Rattle.hx_queue.specs.Line.{in_line};
+ghost use Rattle.hx_queue.specs.Line.{in_line, with_key};
 
 use hx_model::Key;
 use hx_object::NoMemory;
@@ -93,15 +93,16 @@ impl Line {
         self.older.last()
     }
 
-    /// Puts a key behind the others. It takes no memory.
+    /// Puts a key behind the others, unless it is there. It takes no memory.
     pub(crate) fn push(&mut self, key: Key)
-        requires room { 0 < self.old.room }
-        requires absent { is_among key self.old.keys ≡ false }
-        ensures keys { self.new.keys ≡ self.old.keys ++ key ∷ [] }
+        requires { 0 < self.old.room }
+        ensures keys { self.new.keys ≡ with_key key self.old.keys }
         ensures room { self.old.room ≤ self.new.room + 1 }
     {
         if self.older.is_empty() {
             push_in(&mut self.older, key);
+        } else if self.older.contains(&key) {
+            drop(key);
         } else {
             push_in(&mut self.younger, key);
         }
@@ -119,12 +120,11 @@ impl Line {
     }
 }
 
-// Puts a key that isn't there behind the others.
+// Puts a key behind the others, unless it is there.
 #[tactic(auto, unfolding(hx_model::specs::Keys::same_key))]
 fn push_in(keys: &mut KeySet, key: Key)
-    requires room { 0 < spare keys.old }
-    requires absent { is_among key keys.old.keys ≡ false }
-    ensures keys { keys.new.keys ≡ keys.old.keys ++ key ∷ [] }
+    requires { 0 < spare keys.old }
+    ensures keys { keys.new.keys ≡ with_key key keys.old.keys }
     ensures room { spare keys.old ≤ spare keys.new + 1 }
 {
     let _pushed = keys.insert(key);

@@ -73,12 +73,7 @@ impl Queue {
             drop(key);
             return;
         }
-        let waits = self.line.has(&key);
-        if waits {
-            drop(key);
-        } else {
-            self.line.push(key);
-        }
+        self.line.push(key);
     }
 
     /// The key that waits longest.
