@@ -1,5 +1,5 @@
 // Writes by which a copy would overwrite a source.
-ghost use Rattle.std.specs.Prelude.{◌≡◌, ◌||◌, ◌&&◌, true, [], filter, is_some, IfOk, IfSome, OnOk, option_copied};
+ghost use Rattle.std.specs.Prelude.{◌≡◌, ◌||◌, ◌&&◌, true, false, [], filter, is_some, IfOk, IfSome, OnOk, option_copied};
 ghost use Rattle.std.specs.List.{list_any};
 ghost use Rattle.std.specs.Str.{bytes_eq};
 ghost use Rattle.hx_object.specs.Kinds.{can_be_copied};
@@ -142,10 +142,29 @@ impl IndexedState {
         ensures order { OnOk result (ascends self.now.state.objects ≡ true) }
     {
         let id = &new.id;
-        if !self.is_open(&id.ns) || is_source_in(old) {
+        // a state that is read is in order
+        let _store = &self.store;
+        if is_source_in(old) || !self.may_be_reached(new)? || !self.is_open(&id.ns) {
             return Ok(false);
         }
         self.is_reached(&id.ns, id.kind, &id.name)
+    }
+
+    /// Whether a source from above may go to the place of an object: its kind is propagated, and there is a source of the kind and the name.
+    ///
+    /// What stays home may have one name in every namespace, and then no sources are listed.
+    fn may_be_reached(&self, new: &Object) -> Result<bool, NoMemory>
+        ensures { IfOk result (λ may. may ≡ false → is_reached self.now.state new.now.id.ns new.now.id.kind new.now.id.name ≡ false) }
+    {
+        let id = &new.id;
+        if !is_propagated(self.mode(id.kind)) {
+            return Ok(false);
+        }
+        if stays_home(new) {
+            return Ok(true);
+        }
+        let sources = self.sources(id.kind, &id.name)?;
+        Ok(!sources.is_empty())
     }
 
     /// Whether a source that is written goes to where a source of its kind and name lies, below its namespace, and none went before.
