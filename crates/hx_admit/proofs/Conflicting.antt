@@ -39,7 +39,7 @@ use Rattle.hx_admit.specs.Conflicting.{with_object, is_source_of, is_source_in, 
 -- ---- names
 
 -- a name that passes
-member : (P : List ℕ → Bool) (names : List (List ℕ)) → list_any P names ≡ true → (a : List ℕ) × (is_in a names ≡ true) × (P a ≡ true)
+pub member : (P : List ℕ → Bool) (names : List (List ℕ)) → list_any P names ≡ true → (a : List ℕ) × (is_in a names ≡ true) × (P a ≡ true)
 member P [] h = absurd (true≢false (sym h))
 member P (a ∷ names) h = elim (or_cases (P a) (list_any P names) h) [
   | inl here ↦ (a, or_left (bytes_eq a a) (is_in a names) (same_itself a), here)
@@ -402,7 +402,7 @@ pub nothing_listed : {A : Type 0} (xs : List A) → not (length xs == 0) ≡ fal
 nothing_listed xs none = nil_from_length xs (eqb-true (length xs) 0 (not-false (length xs == 0) none))
 
 -- what goes from a namespace is a source of the kind and the name
-goes_listed : (objects : Objects) (kind : Kind) (name a : List ℕ) (mode : Mode) (labels : List (List ℕ × List ℕ)) (x : Object) → object_at objects (id_in kind name a) ≡ Some x → goes_to mode x labels ≡ true → is_source_of kind name x ≡ true
+pub goes_listed : (objects : Objects) (kind : Kind) (name a : List ℕ) (mode : Mode) (labels : List (List ℕ × List ℕ)) (x : Object) → object_at objects (id_in kind name a) ≡ Some x → goes_to mode x labels ≡ true → is_source_of kind name x ≡ true
 goes_listed objects kind name a mode labels x at goes =
     let is = found_id objects (id_in kind name a) x at in
     and_from (eqb (number_of kind) (number_of x.id.kind) && bytes_eq x.id.name name) _

@@ -1,5 +1,6 @@
 -- What the look-up of a move's conflicts finds.
 --     unlooked         a source that doesn't look at labels goes to all alike
+--     met_none         where no source of a kind and name lies above, none goes there
 --     none_moved       where the top doesn't take part, nothing is overwritten below
 --     all_moved        and where it does, the ways up to it tell the chains
 --     stays_answer, moves_answer      what is found is whether there is a new conflict
@@ -7,7 +8,7 @@ use Rattle.std.specs.Prelude.{is_some, IfSome, IfOk, Result, Ok, Err, if◌then�
 use Rattle.std.proofs.Common.{◌≡◌, ◌==◌, eqb-true, ℕ, suc, arith, ◌+◌, ◌<◌, length, drop, get_or, drop-cons, Bool, true, false, cond, not, ◌&&◌, ◌||◌, Option, Some, None, List, [], ◌∷◌, filter, refl, sym, ap, ◌∙◌, subst, true≢false}
 use Rattle.std.specs.List.{list_any, list_all}
 use Rattle.std.specs.Str.{bytes_eq}
-use Rattle.std.proofs.lemmas.Bool.{or_left, and_parts, false_from_ne_true}
+use Rattle.std.proofs.lemmas.Bool.{or_left, and_parts, and_from, false_from_ne_true}
 use Rattle.hx_object.specs.Kinds.{number_of}
 use Rattle.hx_object.specs.declared.kind.Kind.{Kind}
 use Rattle.hx_object.specs.declared.object.Id.{Id}
@@ -19,7 +20,7 @@ use Rattle.hx_model.specs.Answers.{is_listed}
 use Rattle.hx_model.specs.Cases.{same_name}
 use Rattle.hx_model.specs.Conflicts.{makes_conflict, with_written, written_in}
 use Rattle.hx_model.specs.Exceptions.{select_of, tree_select_in, none_of, passes, is_false, select_allows, tree_select_allows}
-use Rattle.hx_model.specs.Forest.{Forest, tail_of, in_chain, is_there, chain_of, parent_of, subtree_of}
+use Rattle.hx_model.specs.Forest.{Forest, is_in, tail_of, in_chain, is_there, chain_of, parent_of, subtree_of}
 use Rattle.hx_model.specs.Moves.{mode_at, labels_in, is_going, is_met, up_to, chain_from, is_calm, is_open_above, moved_chain_of, open_chain, open_moved, is_newly_met, overwrites_kind, overwrites_in, copied_kinds}
 use Rattle.hx_model.specs.Propagation.{id_in, goes_to, is_propagated, is_source, stays_home}
 use Rattle.hx_model.specs.State.{State, Objects, object_at}
@@ -27,10 +28,13 @@ use Rattle.hx_model.specs.Tree.{forest_of}
 use Rattle.hx_model.specs.Valid.{IsValid}
 use Rattle.hx_model.specs.TreeLabels.{prescribed_labels}
 use Rattle.hx_model.proofs.Conflicting.{unpropagated}
-use Rattle.hx_model.proofs.Objects.{same_kind}
+use Rattle.hx_model.proofs.Objects.{same_kind, found_id}
+use Rattle.hx_model.proofs.Passing.{passing_object}
 use Rattle.hx_model.proofs.Displacing.{IsDecided, put_decided, cut_decided}
 use Rattle.hx_model.proofs.Moving.{IsApart}
+use Rattle.hx_store.specs.Sources.{is_source_of}
 use Rattle.hx_admit.specs.Moves.{open_way, CanMove, IsMovedBy}
+use Rattle.hx_admit.proofs.Conflicting.{member, goes_listed}
 
 -- ---- loops and results
 
@@ -113,6 +117,32 @@ no_mode objects n after before kind out = sym (any_in_filter (is_newly_met objec
         let same : kind ≡ x.id.kind = same_kind kind x.id.kind (eqb-true (number_of kind) (number_of x.id.kind) (and_parts (number_of kind == number_of x.id.kind) (bytes_eq x.id.ns n) parts.0).0) in
         let met = (and_parts (is_met objects n after x.id.kind x.id.name) (not (is_met objects n before x.id.kind x.id.name)) (and_parts (is_source x) _ parts.1).1).0 in
         true≢false (sym met ∙ unmet x same))
+
+-- ---- a name that no source above has
+
+what_goes : (mode : Mode) (labels : List (List ℕ × List ℕ)) (found : Option Object) → is_going mode labels found ≡ true → (x : Object) × (found ≡ Some x) × (goes_to mode x labels ≡ true)
+what_goes mode labels None e = absurd (true≢false (sym e))
+what_goes mode labels (Some x) e = (x, refl, e)
+
+-- where no source of the kind and the name lies in a later member of a chain, none goes along it
+pub met_none : (objects : Objects) (chain : List (List ℕ)) (kind : Kind) (name : List ℕ) → list_any (λ (y : Object). is_in y.id.ns (tail_of chain)) (filter (is_source_of kind name) objects) ≡ false
+    → (n : List ℕ) → is_met objects n chain kind name ≡ false
+met_none objects chain kind name none n = false_from_ne_true (is_met objects n chain kind name) (λ met.
+    let mode = mode_at objects kind in
+    let labels = prescribed_labels chain (labels_in objects n) in
+    let at = member (λ a. is_going mode labels (object_at objects (id_in kind name a))) (tail_of chain) met in
+    let goes = what_goes mode labels (object_at objects (id_in kind name at.0)) at.2 in
+    let listed = goes_listed objects kind name at.0 mode labels goes.0 goes.1 goes.2 in
+    let lies : is_in goes.0.id.ns (tail_of chain) ≡ true = subst (λ (q : Id). is_in q.ns (tail_of chain) ≡ true) (found_id objects (id_in kind name at.0) goes.0 goes.1) at.1 in
+    let passes = passing_object (λ y. is_source_of kind name y && is_in y.id.ns (tail_of chain)) objects (id_in kind name at.0) goes.0 goes.1 (and_from (is_source_of kind name goes.0) _ listed lies) in
+    true≢false (sym (any_in_filter (λ y. is_in y.id.ns (tail_of chain)) (is_source_of kind name) objects ∙ passes) ∙ none))
+
+pub met_answer : {E : Type 0} (objects : Objects) (chain above : List (List ℕ)) (kind : Kind) (name : List ℕ) (r : Result Bool E) → tail_of chain ≡ above → IfOk r (λ has. has ≡ list_any (λ (y : Object). is_in y.id.ns above) (filter (is_source_of kind name) objects))
+    → IfOk r (λ may. may ≡ false → (n : List ℕ) → is_met objects n chain kind name ≡ false)
+met_answer objects chain above kind name (Err e) is has = tt
+met_answer objects chain above kind name (Ok b) is has = λ none. met_none objects chain kind name (ap (λ names. list_any (λ (y : Object). is_in y.id.ns names) (filter (is_source_of kind name) objects)) is ∙ sym has ∙ none)
+
+-- ---- the top
 
 -- where the top doesn't take part, nothing is overwritten below
 pub none_moved : (objects : Objects) (f : Forest) (n : List ℕ) (parent : Option (List ℕ)) (ms : List (List ℕ)) → (is_calm f n && is_open_above f parent) ≡ false
