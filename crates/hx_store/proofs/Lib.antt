@@ -1,5 +1,6 @@
 pub mod Along
 pub mod Apart
+pub mod Beside
 pub mod ByKind
 pub mod Descending
 pub mod Edits

@@ -1,6 +1,7 @@
 -- Where a store keeps sources and anchors once more: by kind, then by name, then by namespace.
 --     turned id                the identity with its namespace and its name in each other's place
 --     turned_places by_name    the places of the index, by turned identities
+--     entry_place by_name kind name ns   the place of a kind and a name in a namespace
 --     if_indexed kind g        a place changes by g, if objects of its kind may be in the index
 --     HasEntry by_name w       the source or the anchor that is put has its place there
 --     IsIndex by_name places   the index has the sources and the anchors among the objects, and nothing else
@@ -22,6 +23,10 @@ turned id = record { kind = id.kind; ns = id.name; name = id.ns }
 -- the places of the index, by turned identities
 abbrev pub turned_places : ByName → Places
 turned_places by_name = record { kinds = by_name.kinds }
+
+-- the place of a kind and a name in a namespace
+abbrev pub entry_place : ByName → Kind → List ℕ → List ℕ → Place
+entry_place by_name kind name ns = place_at (turned_places by_name) (record { kind = kind; ns = name; name = ns })
 
 -- a place changes so, if objects of its kind may be in the index
 abbrev pub if_indexed : Kind → (Place → Place) → Place → Place

@@ -4,11 +4,13 @@
 --     is_indexed x               a source or an anchor
 --     is_indexed_of kind name x  a source of the kind and the name, or an anchor of both
 --     indexed_in found           the source or the anchor among what is found
-use Rattle.std.specs.Prelude.{ℕ, Bool, cond, ◌&&◌, ◌||◌, ◌==◌, List, Option, Some, None}
+--     HasNoneBeside objects kind name ns   no source and no anchor of the kind and the name lies in another namespace
+use Rattle.std.specs.Prelude.{◌≡◌, ℕ, Bool, false, cond, ◌&&◌, ◌||◌, ◌==◌, List, Option, Some, None}
 use Rattle.std.specs.Str.{bytes_eq}
 use Rattle.hx_object.specs.Kinds.{number_of, is_anchor, can_be_copied}
 use Rattle.hx_object.specs.declared.kind.Kind.{Kind}
 use Rattle.hx_object.specs.declared.object.Object.{Object}
+use Rattle.hx_model.specs.State.{Objects, object_at}
 pub use Rattle.hx_model.specs.Propagation.{is_source}
 
 -- a source of the kind and the name
@@ -35,3 +37,7 @@ may_be_indexed kind = can_be_copied kind || is_anchor kind
 abbrev pub indexed_in : Option Object → Option Object
 indexed_in None = None
 indexed_in (Some x) = cond (is_indexed x) (Some x) None
+
+-- no source and no anchor of the kind and the name lies in another namespace
+abbrev pub HasNoneBeside : Objects → Kind → List ℕ → List ℕ → Type 0
+HasNoneBeside objects kind name ns = (m : List ℕ) → bytes_eq ns m ≡ false → indexed_in (object_at objects (record { kind = kind; ns = m; name = name })) ≡ None

@@ -1,8 +1,8 @@
 // The objects of one kind in one namespace: one by itself, a few in a rack, or more on a shelf.
-ghost use Rattle.std.specs.Prelude.{◌≡◌, ◌++◌, ◌∷◌, ◌↔◌, ℕ, List, cond, IfOk, OnOk, IsTrue, [], MatchResult, option_copied};
+ghost use Rattle.std.specs.Prelude.{◌≡◌, ◌++◌, ◌∷◌, ◌↔◌, ℕ, List, false, cond, IfOk, OnOk, IsTrue, [], MatchResult, option_copied};
 ghost use Rattle.std.specs.Str.{bytes_eq};
 ghost use Rattle.hx_store.specs.Least.{IsLeast};
-ghost use Rattle.hx_store.specs.Places.{IsBoard, IsShelf, place_in, place_along, place_on, entries_of, found, EditsBoard, made, filled, swept, unchanged, objects_in, IsNewBoard};
+ghost use Rattle.hx_store.specs.Places.{IsBoard, IsShelf, place_in, place_along, place_on, entries_of, found, EditsBoard, made, filled, swept, unchanged, objects_in, IsNewBoard, HoldsNone};
 
 use crate::rack::Rack;
 use crate::shelf::Shelf;
@@ -166,6 +166,19 @@ impl Board {
             Board::One { .. } => false,
             Board::Few(rack) => rack.is_empty(),
             Board::Many(shelf) => shelf.as_ref().is_empty(),
+        }
+    }
+
+    /// Whether there may be an object of another name. Of many it looks at none, and says that there may.
+    pub(crate) fn may_hold_another(&self, name: &str) -> bool
+        ensures { result ≡ false → HoldsNone (place_in self.now) name.now }
+    {
+        match self {
+            Board::Empty => false,
+            Board::Held { .. } => false,
+            Board::One { name: held, .. } => name != held.as_str(),
+            Board::Few(rack) => rack.holds_another(name),
+            Board::Many(_) => true,
         }
     }
 

@@ -1,7 +1,7 @@
 // Sources and anchors, by their names.
-ghost use Rattle.std.specs.Prelude.{◌≡◌, ◌++◌, ℕ, [], Some, OnOk, MatchResult, length, slice_get};
-ghost use Rattle.hx_store.specs.Places.{ArePlaces, EditsPlaces, made, filled, swept, unchanged, objects_listed};
-ghost use Rattle.hx_store.specs.ByName.{turned, turned_places, if_indexed};
+ghost use Rattle.std.specs.Prelude.{◌≡◌, ◌++◌, ℕ, false, [], Some, OnOk, MatchResult, length, slice_get};
+ghost use Rattle.hx_store.specs.Places.{ArePlaces, EditsPlaces, made, filled, swept, unchanged, objects_listed, HoldsNone};
+ghost use Rattle.hx_store.specs.ByName.{turned, turned_places, entry_place, if_indexed};
 
 use crate::change::may_be_indexed;
 use crate::places::{empty_kinds, index_of};
@@ -63,6 +63,13 @@ impl ByName {
             return;
         }
         self.kinds[index_of(id.kind)].sweep(id.name.as_str(), id.ns.as_str());
+    }
+
+    /// Whether a source of a kind and a name, or an anchor of the name, may lie in another namespace than this one.
+    pub(crate) fn may_lie_beside(&self, kind: Kind, name: &str, ns: &str) -> bool
+        ensures { result ≡ false → HoldsNone (entry_place self.now kind name.now) ns.now }
+    {
+        self.kinds[index_of(kind)].may_hold_another(name, ns)
     }
 
     /// Adds the sources of a kind and a name, or the anchors of a name, to those that are listed.

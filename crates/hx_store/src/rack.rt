@@ -1,10 +1,11 @@
 // The objects of a few names of one kind in one namespace.
 ghost use Rattle.std.specs.Prelude.{◌≡◌, ◌++◌, ◌∷◌, ◌↔◌, ℕ, List, cond, IfOk, OnOk, IsTrue, [], MatchResult, None, option_copied, position};
+ghost use Rattle.std.specs.List.{list_any};
 ghost use Rattle.std.specs.Map.Iter.{deref_pair};
 ghost use Rattle.std.specs.Option.{option_map};
 ghost use Rattle.std.specs.Str.{bytes_eq};
 ghost use Rattle.hx_store.specs.Least.{IsLeast, least_entry};
-ghost use Rattle.hx_store.specs.Places.{IsRack, IsShelf, place_along, place_alone, place_on, found, EditsRack, made, filled, swept, unchanged, objects_along};
+ghost use Rattle.hx_store.specs.Places.{IsRack, IsShelf, place_along, place_alone, place_on, found, EditsRack, made, filled, swept, unchanged, objects_along, is_of_another};
 
 use crate::shelf::{Shelf, lesser, list_place};
 use hx_object::{NoMemory, Shared, Text};
@@ -140,6 +141,18 @@ impl Rack {
         ensures { IsTrue result ↔ (self.now.places.items ≡ []) }
     {
         self.places.is_empty()
+    }
+
+    /// Whether there is an object of another name.
+    pub(crate) fn holds_another(&self, name: &str) -> bool
+        ensures { result ≡ list_any (is_of_another name.now) self.now.places.items }
+    {
+        for (held, place) in self.places.iter() {
+            if place.is_some() && name != held.as_str() {
+                return true;
+            }
+        }
+        false
     }
 
     /// Adds the objects to those that are listed.

@@ -1,8 +1,8 @@
 // The objects of one kind.
-ghost use Rattle.std.specs.Prelude.{◌≡◌, ◌++◌, ℕ, List, [], None, OnOk, MatchResult, option_copied};
+ghost use Rattle.std.specs.Prelude.{◌≡◌, ◌++◌, ℕ, List, false, [], None, OnOk, MatchResult, option_copied};
 ghost use Rattle.std.specs.Option.{option_map_or};
 ghost use Rattle.hx_store.specs.Least.{IsLeast};
-ghost use Rattle.hx_store.specs.Places.{AreShelves, board_in, place_of, found, EditsShelves, made, filled, swept, unchanged, objects_in, objects_of};
+ghost use Rattle.hx_store.specs.Places.{AreShelves, board_in, place_of, found, EditsShelves, made, filled, swept, unchanged, objects_in, objects_of, HoldsNone};
 
 use crate::board::Board;
 use crate::map::{TextMap, empty_map};
@@ -120,6 +120,16 @@ impl Shelves {
         match self.board(ns) {
             Some(board) => board.least(),
             None => None,
+        }
+    }
+
+    /// Whether a namespace may have an object of another name. Of many it looks at none, and says that it may.
+    pub(crate) fn may_hold_another(&self, ns: &str, name: &str) -> bool
+        ensures { result ≡ false → HoldsNone (place_of self.now ns.now) name.now }
+    {
+        match self.board(ns) {
+            Some(board) => board.may_hold_another(name),
+            None => false,
         }
     }
 

@@ -1,10 +1,10 @@
 // The store.
-ghost use Rattle.std.specs.Prelude.{◌≡◌, [], filter, IfOk, OnOk, OnErr, option_copied};
+ghost use Rattle.std.specs.Prelude.{◌≡◌, false, [], filter, IfOk, OnOk, OnErr, option_copied};
 ghost use Rattle.std.specs.List.Sorted.{IsPermutation, IsSortedByKey};
 ghost use Rattle.hx_object.specs.Order.{id_cmp};
 ghost use Rattle.hx_model.specs.State.{object_at, after_writes, least_in};
 ghost use Rattle.hx_model.specs.Answers.{is_listed};
-ghost use Rattle.hx_store.specs.Sources.{is_source_of, is_anchor_of, is_indexed_of};
+ghost use Rattle.hx_store.specs.Sources.{is_source_of, is_anchor_of, is_indexed_of, HasNoneBeside};
 
 use crate::by_name::ByName;
 use crate::change::Change;
@@ -124,6 +124,15 @@ impl Store {
         ensures { IfOk result (λ objects. objects.items ≡ filter (is_anchor_of name.now) self.now.objects) }
     {
         self.indexed(Kind::SubnamespaceAnchor, name)
+    }
+
+    /// Whether a source of a kind and a name may lie in another namespace than this one.
+    ///
+    /// It takes constant time: of many places it looks at none, and says that one may. For anchors it tells the same of anchors.
+    pub fn may_lie_beside(&self, kind: Kind, name: &str, ns: &str) -> bool
+        ensures { result ≡ false → HasNoneBeside self.now.objects kind name.now ns.now }
+    {
+        self.by_name.may_lie_beside(kind, name, ns)
     }
 
     /// The sources of a kind and a name, or the anchors of a name, in ascending order of identities.
