@@ -63,3 +63,4 @@ pub mod Placing
 pub mod Promising
 pub mod Regular
 pub mod Sending
+pub mod Unlimited

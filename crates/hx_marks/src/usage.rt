@@ -1,5 +1,5 @@
 // The quotas whose usage a write changes.
-ghost use Rattle.std.specs.Prelude.{◌≡◌, ◌++◌, ◌∷◌, [], IfOk, OnOk, filter, flat_map, map, option_copied};
+ghost use Rattle.std.specs.Prelude.{◌≡◌, ℕ, ◌++◌, ◌∷◌, [], false, List, IfOk, OnOk, filter, flat_map, map, option_copied};
 ghost use Rattle.std.specs.List.{list_any};
 ghost use Rattle.hx_model.specs.Forest.{chain_of, tail_of};
 ghost use Rattle.hx_model.specs.Moves.{chain_from, up_to};
@@ -69,6 +69,9 @@ pub(crate) fn moved_usage(
 ) -> Result<(), NoMemory>
     ensures { OnOk result (keys.new.items ≡ keys.old.items ++ usage_of current.now.store.now.objects (in_one (tail_of (chain_of current.now.forest.now.nodes name.now)) (up_to name.now (chain_from current.now.forest.now.nodes (option_copied parent.entry))))) }
 {
+    if !has_quotas(current.store) {
+        return Ok(());
+    }
     let alloc = current.store.allocator();
     let before = current.forest.chain(name)?;
     let above = chain_from(alloc, current.forest, parent)?;
@@ -91,7 +94,17 @@ pub(crate) fn charged_usage(
     if !is_charged_anew(old, new) {
         return Ok(());
     }
+    if !has_quotas(current.store) {
+        return Ok(());
+    }
     charged_along(current.store, old, new, current.forest.ancestors(ns), keys)
+}
+
+/// Whether there may be quotas. Where there are none, no chain is walked for them.
+fn has_quotas(store: &Store) -> bool
+    ensures { result ≡ false → (ns : List ℕ) → quotas_in store.now.objects ns ≡ [] }
+{
+    store.may_have(Kind::HierarchicalResourceQuota)
 }
 
 /// Marks the quotas of some namespaces that limit what an object is charged of, where that changes.

@@ -1,5 +1,5 @@
 // The places of the objects of all kinds.
-ghost use Rattle.std.specs.Prelude.{◌≡◌, ◌++◌, ◌-◌, ◌<◌, ℕ, [], Some, OnOk, MatchResult, length, option_copied, slice_get};
+ghost use Rattle.std.specs.Prelude.{◌≡◌, ◌++◌, ◌-◌, ◌<◌, ℕ, List, [], true, Option, Some, OnOk, MatchResult, length, option_copied, slice_get};
 ghost use Rattle.hx_object.specs.Kinds.{number_of};
 ghost use Rattle.hx_model.specs.State.{least_in};
 ghost use Rattle.hx_store.specs.Places.{AreShelves, ArePlaces, IsSound, objects_at, place_at, found, EditsPlaces, made, filled, swept, unchanged, objects_listed};
@@ -43,6 +43,13 @@ impl Places {
         ensures { option_copied result ≡ found (place_at self.now (record { kind = kind; ns = ns.now; name = name.now })) }
     {
         self.kinds[index_of(kind)].find(ns, name)
+    }
+
+    /// Whether there are no places of a kind.
+    pub(crate) fn is_empty(&self, kind: Kind) -> bool
+        ensures { result ≡ true → (ns : Option (List ℕ)) → objects_listed self.now kind ns ≡ [] }
+    {
+        self.kinds[index_of(kind)].is_empty()
     }
 
     /// Makes a place for the object of an identity, unless there is one.

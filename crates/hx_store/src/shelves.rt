@@ -1,8 +1,8 @@
 // The objects of one kind.
-ghost use Rattle.std.specs.Prelude.{◌≡◌, ◌++◌, ℕ, List, false, [], None, OnOk, MatchResult, option_copied};
+ghost use Rattle.std.specs.Prelude.{◌≡◌, ◌++◌, ℕ, List, false, true, Option, [], None, OnOk, MatchResult, option_copied};
 ghost use Rattle.std.specs.Option.{option_map_or};
 ghost use Rattle.hx_store.specs.Least.{IsLeast};
-ghost use Rattle.hx_store.specs.Places.{AreShelves, board_in, place_of, found, EditsShelves, made, filled, swept, unchanged, objects_in, objects_of, HoldsNone};
+ghost use Rattle.hx_store.specs.Places.{AreShelves, board_in, place_of, found, EditsShelves, made, filled, swept, unchanged, objects_in, objects_of, objects_under, HoldsNone};
 
 use crate::board::Board;
 use crate::map::{TextMap, empty_map};
@@ -29,6 +29,13 @@ impl Shelves {
         Shelves {
             shelves: empty_map(alloc, keys),
         }
+    }
+
+    /// Whether there are no places.
+    pub(crate) fn is_empty(&self) -> bool
+        ensures { result ≡ true → (ns : Option (List ℕ)) → objects_under ns self.now ≡ [] }
+    {
+        self.shelves.is_empty()
     }
 
     /// The objects of a namespace.

@@ -1,5 +1,5 @@
 // The store.
-ghost use Rattle.std.specs.Prelude.{◌≡◌, false, [], filter, IfOk, OnOk, OnErr, option_copied};
+ghost use Rattle.std.specs.Prelude.{◌≡◌, ℕ, List, [], false, Option, filter, IfOk, OnOk, OnErr, option_copied};
 ghost use Rattle.std.specs.List.Sorted.{IsPermutation, IsSortedByKey};
 ghost use Rattle.hx_object.specs.Order.{id_cmp};
 ghost use Rattle.hx_model.specs.State.{object_at, after_writes, least_in};
@@ -93,6 +93,13 @@ impl Store {
         ensures { option_copied result ≡ object_at self.now.objects (record { kind = kind; ns = ns.now; name = name.now }) }
     {
         self.places.find(kind, ns, name)
+    }
+
+    /// Whether there may be objects of a kind, in constant time. It is true also where one is only staged.
+    pub fn may_have(&self, kind: Kind) -> bool
+        ensures { result ≡ false → (ns : Option (List ℕ)) → filter (is_listed kind ns) self.now.objects ≡ [] }
+    {
+        !self.places.is_empty(kind)
     }
 
     /// The objects of a kind, in one namespace or in all, in ascending order of identities.
