@@ -1,5 +1,6 @@
 pub mod Nodes
 pub mod Ways
+pub mod Notes
 pub mod Listing
 pub mod Ascending
 pub mod Indexing

@@ -25,7 +25,7 @@ use Rattle.hx_forest.proofs.Nodes.{ascends-forest, same_forests, forest-put, for
 
 module _ (old new : List ℕ → Option Place) (n : List ℕ) (w : Option Place) (is : (q : List ℕ) → new q ≡ cond (bytes_eq n q) w (old q)) where
   -- a place is the one that changed, or is as it was
-  either : {P : Type 0} (b : List ℕ) (q : Place) → new b ≡ Some q → (n ≡ b → w ≡ Some q → P) → (old b ≡ Some q → P) → P
+  pub either : {P : Type 0} (b : List ℕ) (q : Place) → new b ≡ Some q → (n ≡ b → w ≡ Some q → P) → (old b ≡ Some q → P) → P
   either {P} b q e here there = by (bytes_eq n b) refl (sym (is b) ∙ e)
     where
       by : (t : Bool) → bytes_eq n b ≡ t → cond t w (old b) ≡ Some q → P

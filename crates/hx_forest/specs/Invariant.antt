@@ -1,6 +1,6 @@
 -- What holds inside a forest.
 --     IsReady      the children are those of the nodes, and the prepared changes may be made without taking memory
---     IsKept       that, of the fields of a forest, and each way up comes to a parent
+--     IsKept       that, of the fields of a forest, and each way up comes to a parent, and what is noted is so
 use Rattle.std.specs.Prelude.{ℕ, ◌≤◌, List, length}
 use Rattle.std.specs.List.{AllByRecursion}
 use Rattle.indexmap.specs.IndexMap.{spare}
@@ -8,6 +8,7 @@ use Rattle.hx_model.specs.Forest.{Forest}
 use Rattle.hx_forest.specs.Children.{Lists, IsIndex}
 use Rattle.hx_forest.specs.Kept.{MayChangeAll}
 use Rattle.hx_forest.specs.Ways.{forest_of, AllLeadUp}
+use Rattle.hx_forest.specs.Notes.{AreNoted}
 use Rattle.hx_forest.specs.Staged.{IsPrepared, changes_of}
 use Rattle.hx_forest.specs.declared.prepared.Prepared.{Prepared}
 use Rattle.hx_forest.specs.declared.forest.Forest.TheInside.{Inside}
@@ -22,4 +23,4 @@ pub record IsReady (f : Forest) (lists : Lists) (nodes_left lists_left : ℕ) (s
 
 -- the fields of a forest
 abbrev pub IsKept : Inside → Type 0
-IsKept f = IsReady (forest_of f.nodes) f.children.lists.entries (spare f.nodes.places) (spare f.children.lists) f.staged.items × AllLeadUp f.nodes
+IsKept f = IsReady (forest_of f.nodes) f.children.lists.entries (spare f.nodes.places) (spare f.children.lists) f.staged.items × AllLeadUp f.nodes × AreNoted f.nodes

@@ -1,5 +1,6 @@
 pub mod Names
 pub mod Ways
+pub mod Notes
 pub mod Children
 pub mod Inside
 pub mod Kept

@@ -1,5 +1,6 @@
 // Why namespaces are halted.
-ghost use Rattle.std.specs.Prelude.{◌≡◌, ◌+◌, false, Some, [], ◌∷◌, not, ◌&&◌, is_some, length, option_copied, IfSome};
+ghost use Rattle.std.specs.Prelude.{◌≡◌, ◌+◌, ◌≤◌, false, Some, [], ◌∷◌, not, ◌&&◌, is_some, length, option_copied, IfSome};
+ghost use Rattle.indexmap.specs.IndexMap.{spare};
 ghost use Rattle.hx_model.specs.Cases.{is_leaving};
 ghost use Rattle.hx_model.specs.First.{so, first};
 ghost use Rattle.hx_model.specs.Forest.{own_halt_of, halt_of, is_live};
@@ -8,6 +9,7 @@ ghost use Rattle.hx_model.specs.TreeLabels.{is_open};
 ghost use Rattle.hx_model.specs.Walks.{walk_ends};
 ghost use Rattle.hx_forest.specs.Inside.{halt_at, halt_under, nodes_halt};
 ghost use Rattle.hx_forest.specs.Ways.{forest_of, node_in, place_of, LeadsUp, AllLeadUp};
+ghost use Rattle.hx_forest.specs.Notes.{AreNoted};
 ghost use Rattle.hx_model.specs.declared.node.Halt.TheVariants.{Ancestor};
 
 use crate::forest::Forest;
@@ -59,12 +61,37 @@ impl Forest {
     {
         self.nodes.is_open(name)
     }
+
+    /// Notes that a namespace isn't halted, where it isn't, so that this is told in constant time until the tree changes. It takes no memory.
+    pub fn note(&mut self, name: &Text)
+        ensures { self.new ≡ self.old }
+    {
+        self.nodes.note(name);
+    }
 }
 
 impl Nodes {
+    /// Notes that a namespace isn't halted, where it isn't.
+    fn note(&mut self, name: &Text)
+        requires ways { AllLeadUp self.old }
+        requires notes { AreNoted self.old }
+        ensures nodes { forest_of self.new ≡ forest_of self.old }
+        ensures ways { AllLeadUp self.new }
+        ensures notes { AreNoted self.new }
+        ensures room { spare self.old.places ≤ spare self.new.places }
+    {
+        let Some(place) = self.place(name) else {
+            return;
+        };
+        if !self.is_noted(place) && self.halt_from(name, place).is_none() {
+            self.set_noted(name);
+        }
+    }
+
     /// Whether a namespace takes part.
     fn is_open(&self, name: &Text) -> bool
-        requires { AllLeadUp self.now }
+        requires ways { AllLeadUp self.now }
+        requires notes { AreNoted self.now }
         ensures { result ≡ is_open (forest_of self.now) name.now }
     {
         match self.place(name) {
@@ -75,7 +102,8 @@ impl Nodes {
 
     /// Why a namespace is halted: the first reason that holds.
     fn halt(&self, name: &Text) -> Option<Halt>
-        requires { AllLeadUp self.now }
+        requires ways { AllLeadUp self.now }
+        requires notes { AreNoted self.now }
         ensures { result ≡ halt_of (forest_of self.now) name.now }
     {
         match self.place(name) {
@@ -84,12 +112,16 @@ impl Nodes {
         }
     }
 
-    /// Why a namespace is halted that has this place. A walk up that ends meets each member once.
+    /// Why a namespace is halted that has this place, as it is noted or by a walk up. One that ends meets each member once.
     fn halt_from(&self, name: &Text, place: &Place) -> Option<Halt>
         requires ways { AllLeadUp self.now }
+        requires notes { AreNoted self.now }
         requires place { place_of self.now name.now ≡ Some place.now }
         ensures { result ≡ halt_of (forest_of self.now) name.now }
     {
+        if self.is_noted(place) {
+            return None;
+        }
         let above = self.above(place);
         match self.has_halted(above) {
             Some(is_below) => halt_or_below(halt_by(&place.node, above), is_below),

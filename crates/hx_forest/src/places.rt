@@ -1,9 +1,10 @@
 // Nodes by the names of their namespaces.
-ghost use Rattle.std.specs.Prelude.{◌≡◌, ◌+◌, ◌<◌, ◌≤◌, ◌^◌, true, false, Some, [], length, OnOk, IfSome, option_copied};
+ghost use Rattle.std.specs.Prelude.{◌≡◌, ◌+◌, ◌<◌, ◌≤◌, ◌^◌, true, false, Some, None, [], length, OnOk, IfSome, option_copied};
 ghost use Rattle.indexmap.specs.IndexMap.{spare};
-ghost use Rattle.hx_model.specs.Forest.{is_there, node_of, parent_of, with_parent};
+ghost use Rattle.hx_model.specs.Forest.{halt_of, is_there, node_of, parent_of, with_parent};
 ghost use Rattle.hx_model.specs.ForestChanges.{with_node, with_terminating, without_node};
 ghost use Rattle.hx_forest.specs.Ways.{place_of, place_at, forest_of, number_at, LeadsUp, AllLeadUp};
+ghost use Rattle.hx_forest.specs.Notes.{AreNoted};
 
 use crate::children::{NameMap, map_by_name};
 use hx_model::Node;
@@ -25,15 +26,21 @@ pub(crate) struct Place {
     pub(crate) node: Node,
     number: u64,
     up: Way,
+    /// The stamp that the tree had when the namespace was last noted not to be halted, or 0.
+    noted: u64,
 }
 
 /// Nodes by the names of their namespaces.
 ///
 /// A step up goes by the way, which reads no name. Where it doesn't meet a place of its number, the step goes by the parent's name.
+///
+/// A namespace that isn't halted may be noted by the stamp of the tree. Each change of a node gives the tree another stamp, so that nothing is noted then.
 pub(crate) struct Nodes {
     places: NameMap<Place>,
     /// The greatest number of a place so far.
     drawn: u64,
+    /// The stamp of the tree, which it hasn't had before. Where none is left it is 0, and nothing is noted any more.
+    stamp: u64,
 }
 
 impl Drop for Nodes {
@@ -41,6 +48,7 @@ impl Drop for Nodes {
         let Nodes {
             places: _,
             drawn: _,
+            stamp: _,
         } = self;
     }
 }
@@ -50,10 +58,12 @@ impl Nodes {
     pub(crate) fn new(alloc: Global, keys: RandomState) -> Nodes
         ensures places { result.places.entries ≡ [] }
         ensures ways { AllLeadUp result }
+        ensures notes { AreNoted result }
     {
         Nodes {
             places: map_by_name(alloc, keys),
             drawn: 0,
+            stamp: 1,
         }
     }
 
@@ -73,6 +83,7 @@ impl Nodes {
     pub(crate) fn reserve(&mut self, more: usize) -> Result<(), NoMemory>
         ensures nodes { forest_of self.new ≡ forest_of self.old }
         ensures ways { AllLeadUp self.old → AllLeadUp self.new }
+        ensures notes { AreNoted self.old → AreNoted self.new }
         ensures room { OnOk result (more ≤ spare self.new.places) }
     {
         Ok(self.places.reserve(more)?)
@@ -167,6 +178,7 @@ impl Nodes {
     pub(crate) fn find_ways(&mut self, names: &[Text])
         ensures nodes { forest_of self.new ≡ forest_of self.old }
         ensures ways { AllLeadUp self.old → AllLeadUp self.new }
+        ensures notes { AreNoted self.old → AreNoted self.new }
         ensures room { spare self.old.places ≤ spare self.new.places }
     {
         for name in names {
@@ -178,6 +190,7 @@ impl Nodes {
     fn find_way(&mut self, name: &Text)
         ensures nodes { forest_of self.new ≡ forest_of self.old }
         ensures ways { AllLeadUp self.old → AllLeadUp self.new }
+        ensures notes { AreNoted self.old → AreNoted self.new }
         ensures room { spare self.old.places ≤ spare self.new.places }
     {
         let up = self.way_to(self.parent(name));
@@ -200,6 +213,7 @@ impl Nodes {
     /// A number that no place has had, or 0 where there is none left.
     fn draw(&mut self) -> u64
         ensures places { self.new.places ≡ self.old.places }
+        ensures stamp { self.new.stamp ≡ self.old.stamp }
         ensures grows { self.old.drawn ≤ self.new.drawn }
         ensures within { result ≤ self.new.drawn }
         ensures fresh { 0 < result → self.old.drawn < result }
@@ -218,11 +232,18 @@ impl Nodes {
         requires { 1 ≤ spare self.old.places }
         ensures nodes { forest_of self.new ≡ with_node name node (forest_of self.old) }
         ensures ways { AllLeadUp self.old → AllLeadUp self.new }
+        ensures notes { AreNoted self.old → AreNoted self.new }
         ensures room { spare self.old.places ≤ spare self.new.places + 1 }
     {
         let up = self.way_to(node.parent.as_ref());
         let number = self.draw();
-        let place = Place { node, number, up };
+        let place = Place {
+            node,
+            number,
+            up,
+            noted: 0,
+        };
+        self.stamp = stamp_after(self.stamp);
         let _none = self.places.insert(name, place).unwrap();
     }
 
@@ -232,9 +253,11 @@ impl Nodes {
         ensures nodes { forest_of self.new ≡ with_parent name.now parent (forest_of self.old) }
         ensures old { result ≡ parent_of (forest_of self.old) name.now }
         ensures ways { AllLeadUp self.old → AllLeadUp self.new }
+        ensures notes { AreNoted self.old → AreNoted self.new }
         ensures room { spare self.old.places ≤ spare self.new.places }
     {
         let up = self.way_to(parent.as_ref());
+        self.stamp = stamp_after(self.stamp);
         let place = self.places.get_mut(name)?;
         place.up = up;
         mem::replace(&mut place.node.parent, parent)
@@ -245,8 +268,10 @@ impl Nodes {
         requires { is_there (forest_of self.old) name.now ≡ true }
         ensures nodes { forest_of self.new ≡ with_terminating name.now (forest_of self.old) }
         ensures ways { AllLeadUp self.old → AllLeadUp self.new }
+        ensures notes { AreNoted self.old → AreNoted self.new }
         ensures room { spare self.old.places ≤ spare self.new.places }
     {
+        self.stamp = stamp_after(self.stamp);
         if let Some(place) = self.places.get_mut(name) {
             place.node.terminating = true;
         }
@@ -257,8 +282,40 @@ impl Nodes {
         ensures nodes { forest_of self.new ≡ without_node name.now (forest_of self.old) }
         ensures old { result ≡ parent_of (forest_of self.old) name.now }
         ensures ways { AllLeadUp self.old → AllLeadUp self.new }
+        ensures notes { AreNoted self.old → AreNoted self.new }
         ensures room { spare self.old.places ≤ spare self.new.places }
     {
+        self.stamp = stamp_after(self.stamp);
         self.places.swap_remove(name)?.node.parent
+    }
+
+    /// Whether a namespace is noted not to be halted, that has this place.
+    pub(crate) fn is_noted(&self, place: &Place) -> bool
+        ensures { result ≡ true → 0 < self.now.stamp × place.now.noted ≡ self.now.stamp }
+    {
+        place.noted > 0 && place.noted == self.stamp
+    }
+
+    /// Notes that a namespace isn't halted.
+    pub(crate) fn set_noted(&mut self, name: &Text)
+        requires { halt_of (forest_of self.old) name.now ≡ None }
+        ensures nodes { forest_of self.new ≡ forest_of self.old }
+        ensures ways { AllLeadUp self.old → AllLeadUp self.new }
+        ensures notes { AreNoted self.old → AreNoted self.new }
+        ensures room { spare self.old.places ≤ spare self.new.places }
+    {
+        if let Some(place) = self.places.get_mut(name) {
+            place.noted = self.stamp;
+        }
+    }
+}
+
+/// The stamp of the tree after this one, or 0 where there is none left.
+fn stamp_after(stamp: u64) -> u64
+    ensures { 0 < result → 0 < stamp × stamp < result }
+{
+    match stamp.checked_add(1) {
+        Some(next) if stamp > 0 => next,
+        _ => 0,
     }
 }

@@ -5,6 +5,7 @@ ghost use Rattle.indexmap.specs.IndexMap.{spare};
 ghost use Rattle.hx_forest.specs.Children.{list_of, IsIndex, Fits};
 ghost use Rattle.hx_forest.specs.Kept.{changed_by, MayChange};
 ghost use Rattle.hx_forest.specs.Ways.{forest_of, AllLeadUp};
+ghost use Rattle.hx_forest.specs.Notes.{AreNoted};
 ghost use Rattle.hx_forest.specs.Staged.{left_by, joined_by, place_of, changes_of, IsLeft, IsJoined, StartsEmpty, FitsUnder, IsLinked, IsPrepared};
 
 use crate::change::Change;
@@ -69,6 +70,7 @@ pub(crate) fn reserve(
 ) -> Result<(), NoMemory>
     ensures nodes { forest_of nodes.new ≡ forest_of nodes.old }
     ensures ways { AllLeadUp nodes.old → AllLeadUp nodes.new }
+    ensures notes { AreNoted nodes.old → AreNoted nodes.new }
     ensures names { (q : List ℕ) → option_map (λ n. n.names) (list_of children.new.lists.entries q) ≡ option_map (λ n. n.names) (list_of children.old.lists.entries q) }
     ensures node_room { OnOk result (length prepared.now ≤ spare nodes.new.places) }
     ensures list_room { OnOk result (length prepared.now ≤ spare children.new.lists) }
@@ -114,6 +116,7 @@ pub(crate) fn make(nodes: &mut Nodes, children: &mut Children, prepared: Prepare
     requires list_room { 1 ≤ spare children.old.lists }
     ensures nodes { forest_of nodes.new ≡ changed_by prepared.change (forest_of nodes.old) }
     ensures ways { AllLeadUp nodes.old → AllLeadUp nodes.new }
+    ensures notes { AreNoted nodes.old → AreNoted nodes.new }
     ensures index { IsIndex children.new.lists.entries (forest_of nodes.new) }
     ensures node_room { spare nodes.old.places ≤ spare nodes.new.places + 1 }
     ensures list_room { spare children.old.lists ≤ spare children.new.lists + 1 }
@@ -140,6 +143,7 @@ fn index_after(nodes: &Nodes, change: &Change) -> Option<usize> {
 fn find_ways_to(nodes: &mut Nodes, children: &Children, index: Option<usize>)
     ensures nodes { forest_of nodes.new ≡ forest_of nodes.old }
     ensures ways { AllLeadUp nodes.old → AllLeadUp nodes.new }
+    ensures notes { AreNoted nodes.old → AreNoted nodes.new }
     ensures room { spare nodes.old.places ≤ spare nodes.new.places }
 {
     let Some(index) = index else {
@@ -183,6 +187,7 @@ fn change_nodes(nodes: &mut Nodes, change: Change) -> Option<(Text, Text)>
     requires room { 1 ≤ spare nodes.old.places }
     ensures nodes { forest_of nodes.new ≡ changed_by change (forest_of nodes.old) }
     ensures ways { AllLeadUp nodes.old → AllLeadUp nodes.new }
+    ensures notes { AreNoted nodes.old → AreNoted nodes.new }
     ensures left { result ≡ left_by change (forest_of nodes.old) }
     ensures room { spare nodes.old.places ≤ spare nodes.new.places + 1 }
 {

@@ -24,4 +24,5 @@ loop-prepared-preserved c =
           (subst (λ (ps : List Prepared). IsReady nodes before.children.lists.entries (spare before.nodes.places) (spare before.children.lists) ps) split c.loop-prepared.invariant.ready)
           c.make.ensures.nodes c.make.ensures.index c.make.ensures.node_room c.make.ensures.list_room c.make.ensures.fits;
       ways = c.make.ensures.ways c.loop-prepared.invariant.ways;
+      notes = c.make.ensures.notes c.loop-prepared.invariant.notes;
     }

@@ -32,3 +32,8 @@ returns-in-Some c =
     c.halt_or_below.ensures
     ∙ ap (λ o. first (o ∷ so is_below Ancestor ∷ [])) (c.halt_by.ensures ∙ ap (halt_at node.parent) above)
     ∙ halt_walked f n node is_below found walk
+
+pub returns-then-is_noted : goal.returns-then-is_noted
+returns-then-is_noted c =
+    let noted = c.is_noted.ensures c.if-is_noted.true in
+    sym ((c.requires.notes.each c.args.name.now c.args.place.now c.requires.place noted.0).1 noted.1)
