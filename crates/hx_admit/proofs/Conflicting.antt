@@ -2,17 +2,16 @@
 --     conflict_put     in its own place, or where it goes to sources of its kind and name
 --     conflict_alike   not there, where the source that it replaces went to the same labels
 --     reached_down     a place is reached from one of the namespaces above
---     reached_none     and not where no source has its kind and name
-use Rattle.std.proofs.Common.{◌≡◌, ◌==◌, length, ℕ, Bool, true, false, cond, not, ◌&&◌, ◌||◌, Option, Some, None, List, [], ◌∷◌, ◌⊎◌, filter, refl, sym, ap, ◌∙◌, subst, true≢false, eqb, eq-eqb, eqb-true, inl, inr}
+--     reached_none     and not where no source of its kind and name lies in another namespace
+use Rattle.std.proofs.Common.{◌≡◌, ℕ, Bool, true, false, cond, not, ◌&&◌, ◌||◌, Option, Some, None, List, [], ◌∷◌, ◌⊎◌, filter, refl, sym, ap, ◌∙◌, subst, true≢false, eqb, eq-eqb, eqb-true, inl, inr}
 use Rattle.std.specs.Prelude.{is_some, is_none, option_and_then, Result, IfOk}
 use Rattle.hx_object.specs.declared.memory.NoMemory.{NoMemory}
 use Rattle.std.specs.List.{list_any}
 use Rattle.std.specs.Option.{option_map_or, MatchOption}
 use Rattle.std.specs.Str.{bytes_eq}
 use Rattle.std.proofs.lemmas.Map.Entries.{option_filter}
-use Rattle.std.proofs.lemmas.Bool.{and_parts, and_from, and_left, and_right, or_cases, or_left, or_right, not-true, not-false, not_from_false, false_from_ne_true}
-use Rattle.std.proofs.lemmas.List.{nil_from_length}
-use Rattle.hx_object.specs.Kinds.{number_of, can_be_copied}
+use Rattle.std.proofs.lemmas.Bool.{and_parts, and_from, and_left, and_right, or_cases, or_left, or_right, not-true, not_from_false, false_from_ne_true}
+use Rattle.hx_object.specs.Kinds.{number_of, can_be_copied, is_anchor}
 use Rattle.hx_object.specs.declared.kind.Kind.{Kind}
 use Rattle.hx_object.specs.declared.object.Id.{Id}
 use Rattle.hx_object.specs.declared.object.Mode.{Mode}
@@ -26,20 +25,20 @@ use Rattle.hx_model.specs.First.{so}
 use Rattle.hx_model.specs.Forest.{is_in, in_chain, chain_of, tail_of}
 use Rattle.hx_model.specs.Modes.{mode_of}
 use Rattle.hx_model.specs.Propagation.{goes_to, is_propagated, is_source, stays_home, id_in, source_at}
-use Rattle.hx_model.specs.State.{State, Objects, same_id, object_at, put, ascends}
+use Rattle.hx_model.specs.State.{State, same_id, object_at, put, ascends}
 use Rattle.hx_model.specs.Tree.{forest_of}
 use Rattle.hx_model.specs.TreeLabels.{is_open}
 use Rattle.hx_model.proofs.Climbing.{is_same, same_itself}
 use Rattle.hx_model.proofs.Conflicting.{found_any, any_found, goes_from, unpropagated, reached_any, tail_in, tail_chain, head_out, reaches, overwritten_by, overwritten_now, overwritten_put, other_at, conflict_found, conflict_of}
 use Rattle.hx_model.proofs.Objects.{is_same_id, same_kind, object_at-filter, found_id, found_again}
-use Rattle.hx_model.proofs.Passing.{passing_object}
 use Rattle.hx_model.proofs.Walking.{both, passes_in}
+use Rattle.hx_store.specs.Sources.{HasNoneBeside, indexed_in}
 use Rattle.hx_admit.specs.Conflicting.{with_object, is_source_of, is_source_in, is_alike, goes_as_before, goes_down, is_reached, is_taken, is_hit, hits}
 
 -- ---- names
 
 -- a name that passes
-pub member : (P : List ℕ → Bool) (names : List (List ℕ)) → list_any P names ≡ true → (a : List ℕ) × (is_in a names ≡ true) × (P a ≡ true)
+member : (P : List ℕ → Bool) (names : List (List ℕ)) → list_any P names ≡ true → (a : List ℕ) × (is_in a names ≡ true) × (P a ≡ true)
 member P [] h = absurd (true≢false (sym h))
 member P (a ∷ names) h = elim (or_cases (P a) (list_any P names) h) [
   | inl here ↦ (a, or_left (bytes_eq a a) (is_in a names) (same_itself a), here)
@@ -388,38 +387,25 @@ unreached s ns kind name mode is out = sym (no_name (goes_down s mode ns kind na
     by None = refl
     by (Some x) = unpropagated mode x (labels_at s ns) out
 
--- ---- a name that no source has
+-- ---- a name that no source has in another namespace
 
-unlisted : (P : Object → Bool) (xs : List Object) → filter P xs ≡ [] → list_any P xs ≡ false
-unlisted P [] e = refl
-unlisted P (x ∷ xs) e =
-    elim (P x) as (λ b. cond b (x ∷ filter P xs) (filter P xs) ≡ [] → (b || list_any P xs) ≡ false) [
-      | true ↦ λ some. ap (list_any (λ y. true)) some
-      | false ↦ λ rest. unlisted P xs rest
-    ] e
+-- what fails under each other name passes nowhere among those
+pub none_later : (P : List ℕ → Bool) (n : List ℕ) (names : List (List ℕ)) → is_in n names ≡ false → ((a : List ℕ) → bytes_eq n a ≡ false → P a ≡ false) → list_any P names ≡ false
+none_later P n names out none = any_same P (λ a. false) n names out none ∙ no_name (λ a. false) names (λ a. refl)
 
-pub nothing_listed : {A : Type 0} (xs : List A) → not (length xs == 0) ≡ false → xs ≡ []
-nothing_listed xs none = nil_from_length xs (eqb-true (length xs) 0 (not-false (length xs == 0) none))
+-- what goes somewhere is a source
+pub goes_none : (mode : Mode) (labels : List (List ℕ × List ℕ)) (found : Option Object) → indexed_in found ≡ None → goes_from mode labels found ≡ false
+goes_none mode labels None none = refl
+goes_none mode labels (Some x) none = false_from_ne_true (goes_to mode x labels) (λ goes.
+    let kept : indexed_in (Some x) ≡ Some x = ap (λ b. cond {A = Option Object} b (Some x) None) (or_left (is_source x) (is_anchor x.id.kind) (goes_source mode x labels goes)) in
+    true≢false (ap is_some (sym kept ∙ none)))
 
--- what goes from a namespace is a source of the kind and the name
-pub goes_listed : (objects : Objects) (kind : Kind) (name a : List ℕ) (mode : Mode) (labels : List (List ℕ × List ℕ)) (x : Object) → object_at objects (id_in kind name a) ≡ Some x → goes_to mode x labels ≡ true → is_source_of kind name x ≡ true
-goes_listed objects kind name a mode labels x at goes =
-    let is = found_id objects (id_in kind name a) x at in
-    and_from (eqb (number_of kind) (number_of x.id.kind) && bytes_eq x.id.name name) _
-    (and_from (eqb (number_of kind) (number_of x.id.kind)) _ (eq-eqb _ _ (ap (λ (q : Id). number_of q.kind) is)) (ap (λ (q : Id). bytes_eq q.name name) (sym is) ∙ same_itself name)) (goes_source mode x labels goes)
-
-goes_none : (objects : Objects) (kind : Kind) (name a : List ℕ) (mode : Mode) (labels : List (List ℕ × List ℕ)) → list_any (is_source_of kind name) objects ≡ false → goes_from mode labels (object_at objects (id_in kind name a)) ≡ false
-goes_none objects kind name a mode labels none = by (object_at objects (id_in kind name a)) refl
-  where
-    by : (found : Option Object) → object_at objects (id_in kind name a) ≡ found → goes_from mode labels found ≡ false
-    by None at = refl
-    by (Some x) at = false_from_ne_true (goes_to mode x labels) (λ goes. true≢false (sym (passing_object (is_source_of kind name) objects (id_in kind name a) x at (goes_listed objects kind name a mode labels x at goes)) ∙ none))
-
-pub reached_none : (s : State) (ns : List ℕ) (kind : Kind) (name : List ℕ) → filter (is_source_of kind name) s.objects ≡ [] → is_reached s ns kind name ≡ false
+pub reached_none : (s : State) (ns : List ℕ) (kind : Kind) (name : List ℕ) → HasNoneBeside s.objects kind name ns → is_reached s ns kind name ≡ false
 unfolding goes_down
 reached_none s ns kind name none =
     sym (reached_down s ns kind name (mode_of s kind) refl)
-    ∙ no_name (goes_down s (mode_of s kind) ns kind name) (tail_of (chain_of (forest_of s) ns)) (λ a. goes_none s.objects kind name a (mode_of s kind) (labels_at s ns) (unlisted (is_source_of kind name) s.objects none))
+    ∙ none_later (goes_down s (mode_of s kind) ns kind name) ns (tail_of (chain_of (forest_of s) ns)) (head_out (forest_of s) ns)
+    (λ a apart. goes_none (mode_of s kind) (labels_at s ns) (object_at s.objects (id_in kind name a)) (none a apart))
 
 -- ---- what is there
 

@@ -1,14 +1,15 @@
 -- What the look-up of a move's conflicts finds.
 --     unlooked         a source that doesn't look at labels goes to all alike
---     met_none         where no source of a kind and name lies above, none goes there
+--     met_none         where no source of a kind and name lies in another namespace, none goes along a chain
+--     ways_apart       the ways up to the top come back to no member
 --     none_moved       where the top doesn't take part, nothing is overwritten below
 --     all_moved        and where it does, the ways up to it tell the chains
 --     stays_answer, moves_answer      what is found is whether there is a new conflict
 use Rattle.std.specs.Prelude.{is_some, IfSome, IfOk, Result, Ok, Err, if◌then◌else◌}
-use Rattle.std.proofs.Common.{◌≡◌, ◌==◌, eqb-true, ℕ, suc, arith, ◌+◌, ◌<◌, length, drop, get_or, drop-cons, Bool, true, false, cond, not, ◌&&◌, ◌||◌, Option, Some, None, List, [], ◌∷◌, filter, refl, sym, ap, ◌∙◌, subst, true≢false}
+use Rattle.std.proofs.Common.{◌≡◌, ◌==◌, eqb-true, ℕ, zero, suc, arith, ◌+◌, ◌<◌, length, drop, get_or, drop-cons, Bool, true, false, cond, not, ◌&&◌, ◌||◌, Option, Some, None, List, [], ◌∷◌, filter, refl, sym, ap, ◌∙◌, subst, true≢false}
 use Rattle.std.specs.List.{list_any, list_all}
 use Rattle.std.specs.Str.{bytes_eq}
-use Rattle.std.proofs.lemmas.Bool.{or_left, and_parts, and_from, false_from_ne_true}
+use Rattle.std.proofs.lemmas.Bool.{or_left, or_right, and_parts, false_from_ne_true}
 use Rattle.hx_object.specs.Kinds.{number_of}
 use Rattle.hx_object.specs.declared.kind.Kind.{Kind}
 use Rattle.hx_object.specs.declared.object.Id.{Id}
@@ -20,21 +21,23 @@ use Rattle.hx_model.specs.Answers.{is_listed}
 use Rattle.hx_model.specs.Cases.{same_name}
 use Rattle.hx_model.specs.Conflicts.{makes_conflict, with_written, written_in}
 use Rattle.hx_model.specs.Exceptions.{select_of, tree_select_in, none_of, passes, is_false, select_allows, tree_select_allows}
-use Rattle.hx_model.specs.Forest.{Forest, is_in, tail_of, in_chain, is_there, chain_of, parent_of, subtree_of}
+use Rattle.hx_model.specs.Forest.{Forest, is_in, names_of, with_parent, tail_of, in_chain, is_there, chain_of, parent_of, subtree_of}
 use Rattle.hx_model.specs.Moves.{mode_at, labels_in, is_going, is_met, up_to, chain_from, is_calm, is_open_above, moved_chain_of, open_chain, open_moved, is_newly_met, overwrites_kind, overwrites_in, copied_kinds}
 use Rattle.hx_model.specs.Propagation.{id_in, goes_to, is_propagated, is_source, stays_home}
 use Rattle.hx_model.specs.State.{State, Objects, object_at}
 use Rattle.hx_model.specs.Tree.{forest_of}
 use Rattle.hx_model.specs.Valid.{IsValid}
 use Rattle.hx_model.specs.TreeLabels.{prescribed_labels}
-use Rattle.hx_model.proofs.Conflicting.{unpropagated}
-use Rattle.hx_model.proofs.Objects.{same_kind, found_id}
-use Rattle.hx_model.proofs.Passing.{passing_object}
+use Rattle.hx_model.proofs.Climbing.{same_itself}
+use Rattle.hx_model.proofs.Conflicting.{unpropagated, head_out}
+use Rattle.hx_model.proofs.Objects.{same_kind}
 use Rattle.hx_model.proofs.Displacing.{IsDecided, put_decided, cut_decided}
 use Rattle.hx_model.proofs.Moving.{IsApart}
-use Rattle.hx_store.specs.Sources.{is_source_of}
-use Rattle.hx_admit.specs.Moves.{open_way, CanMove, IsMovedBy}
-use Rattle.hx_admit.proofs.Conflicting.{member, goes_listed}
+use Rattle.hx_model.proofs.Opening.{moved_chain_below}
+use Rattle.hx_model.proofs.Parents.{in_below}
+use Rattle.hx_store.specs.Sources.{HasNoneBeside}
+use Rattle.hx_admit.specs.Moves.{open_way, is_later, CanMove, IsMovedBy}
+use Rattle.hx_admit.proofs.Conflicting.{none_later, goes_none}
 
 -- ---- loops and results
 
@@ -118,31 +121,37 @@ no_mode objects n after before kind out = sym (any_in_filter (is_newly_met objec
         let met = (and_parts (is_met objects n after x.id.kind x.id.name) (not (is_met objects n before x.id.kind x.id.name)) (and_parts (is_source x) _ parts.1).1).0 in
         true≢false (sym met ∙ unmet x same))
 
--- ---- a name that no source above has
+-- ---- a name that no source has in another namespace
 
-what_goes : (mode : Mode) (labels : List (List ℕ × List ℕ)) (found : Option Object) → is_going mode labels found ≡ true → (x : Object) × (found ≡ Some x) × (goes_to mode x labels ≡ true)
-what_goes mode labels None e = absurd (true≢false (sym e))
-what_goes mode labels (Some x) e = (x, refl, e)
-
--- where no source of the kind and the name lies in a later member of a chain, none goes along it
-pub met_none : (objects : Objects) (chain : List (List ℕ)) (kind : Kind) (name : List ℕ) → list_any (λ (y : Object). is_in y.id.ns (tail_of chain)) (filter (is_source_of kind name) objects) ≡ false
-    → (n : List ℕ) → is_met objects n chain kind name ≡ false
-met_none objects chain kind name none n = false_from_ne_true (is_met objects n chain kind name) (λ met.
+-- none goes along a chain then, where no later member has the name of the first one
+pub met_none : (objects : Objects) (kind : Kind) (name n : List ℕ) → HasNoneBeside objects kind name n → (chain : List (List ℕ)) → is_later n chain ≡ false → is_met objects n chain kind name ≡ false
+met_none objects kind name n none chain out =
     let mode = mode_at objects kind in
     let labels = prescribed_labels chain (labels_in objects n) in
-    let at = member (λ a. is_going mode labels (object_at objects (id_in kind name a))) (tail_of chain) met in
-    let goes = what_goes mode labels (object_at objects (id_in kind name at.0)) at.2 in
-    let listed = goes_listed objects kind name at.0 mode labels goes.0 goes.1 goes.2 in
-    let lies : is_in goes.0.id.ns (tail_of chain) ≡ true = subst (λ (q : Id). is_in q.ns (tail_of chain) ≡ true) (found_id objects (id_in kind name at.0) goes.0 goes.1) at.1 in
-    let passes = passing_object (λ y. is_source_of kind name y && is_in y.id.ns (tail_of chain)) objects (id_in kind name at.0) goes.0 goes.1 (and_from (is_source_of kind name goes.0) _ listed lies) in
-    true≢false (sym (any_in_filter (λ y. is_in y.id.ns (tail_of chain)) (is_source_of kind name) objects ∙ passes) ∙ none))
+    none_later (λ a. is_going mode labels (object_at objects (id_in kind name a))) n (tail_of chain) out (λ a apart. goes_none mode labels (object_at objects (id_in kind name a)) (none a apart))
 
-pub met_answer : {E : Type 0} (objects : Objects) (chain above : List (List ℕ)) (kind : Kind) (name : List ℕ) (r : Result Bool E) → tail_of chain ≡ above → IfOk r (λ has. has ≡ list_any (λ (y : Object). is_in y.id.ns above) (filter (is_source_of kind name) objects))
-    → IfOk r (λ may. may ≡ false → (n : List ℕ) → is_met objects n chain kind name ≡ false)
-met_answer objects chain above kind name (Err e) is has = tt
-met_answer objects chain above kind name (Ok b) is has = λ none. met_none objects chain kind name (ap (λ names. list_any (λ (y : Object). is_in y.id.ns names) (filter (is_source_of kind name) objects)) is ∙ sym has ∙ none)
+-- an item is among all
+pub item_in : (names : List (List ℕ)) (i : ℕ) (n : List ℕ) → i < length names → n ≡ get_or names i n → is_in n names ≡ true
+item_in [] i n within is = absurd (omega (arith, within))
+item_in (m ∷ names) zero n within is = or_left (bytes_eq n m) (is_in n names) (ap (bytes_eq n) (sym is) ∙ same_itself n)
+item_in (m ∷ names) (suc i) n within is = or_right (bytes_eq n m) (is_in n names) (item_in names i n (omega (arith, within)) is)
 
 -- ---- the top
+
+apart_of : (f : Forest) (n : List ℕ) (parent : Option (List ℕ)) → IfSome parent (λ p. in_chain f p n ≡ false) → IsApart f n parent
+apart_of f n None out = refl
+apart_of f n (Some p) out = out
+
+-- the ways up to it come back to no member
+pub ways_apart : (f : Forest) (n : List ℕ) (parent : Option (List ℕ)) (above ms : List (List ℕ)) → CanMove f n parent → above ≡ chain_from f parent → ms ≡ subtree_of f n
+    → (m : List ℕ) → is_in m ms ≡ true → is_later m (open_way f n above m) ≡ false
+ways_apart f n parent above ms may is all m has =
+    ap (λ names. is_later m (open_way f n names m)) is
+    ∙ by (and_parts (is_in m (names_of f)) (in_chain f m n) (sym (in_below f m n) ∙ sym (ap (is_in m) all) ∙ has)).1 (list_all (is_calm f) (up_to n (chain_of f m)))
+  where
+    by : in_chain f m n ≡ true → (b : Bool) → is_later m (if b then moved_chain_of f n parent m else []) ≡ false
+    by below true = ap (is_later m) (sym (moved_chain_below f n parent (apart_of f n parent may.apart) m below)) ∙ head_out (with_parent n parent f) m
+    by below false = refl
 
 -- where the top doesn't take part, nothing is overwritten below
 pub none_moved : (objects : Objects) (f : Forest) (n : List ℕ) (parent : Option (List ℕ)) (ms : List (List ℕ)) → (is_calm f n && is_open_above f parent) ≡ false
@@ -166,10 +175,6 @@ all_moved objects f n parent above ms calm opens is all = pass_alike (λ m. over
         ∙ ap (λ b. if b then moved_chain_of f n parent m else []) (and_true (list_all (is_calm f) (up_to n (chain_of f m))))
 
 -- ---- the write
-
-apart_of : (f : Forest) (n : List ℕ) (parent : Option (List ℕ)) → IfSome parent (λ p. in_chain f p n ≡ false) → IsApart f n parent
-apart_of f n None out = refl
-apart_of f n (Some p) out = out
 
 -- the write's objects are decided by the parent that it leaves
 decided : (s : State) (valid : IsValid s) (parent : Option (List ℕ)) (id : Id) (new : Option Object) → IsMovedBy s id.ns parent id new → IsDecided s valid id parent (written_in id new s.objects)
@@ -205,6 +210,10 @@ module _ (s : State) (valid : IsValid s) (n : List ℕ) (parent : Option (List �
 pub kept_stays : (s : State) → IsValid s → (nodes : Forest) → nodes ≡ forest_of s → (n : List ℕ) (parent : Option (List ℕ)) → same_name (parent_of nodes n) parent ≡ true
     → (id : Id) (new : Option Object) → IsMovedBy s n parent id new → false ≡ makes_conflict s (with_written s id new)
 kept_stays s valid nodes planted n parent same = stays_answer s valid n parent (sym (ap (λ (f : Forest). same_name (parent_of f n) parent) planted) ∙ same)
+
+pub kept_may : (s : State) (nodes : Forest) → nodes ≡ forest_of s → (n : List ℕ) (parent : Option (List ℕ)) → same_name (parent_of nodes n) parent ≡ false
+    → (same_name (parent_of (forest_of s) n) parent ≡ false → CanMove (forest_of s) n parent) → CanMove nodes n parent
+kept_may s nodes planted n parent differs may = subst (λ (f : Forest). CanMove f n parent) (sym planted) (may (sym (ap (λ (f : Forest). same_name (parent_of f n) parent) planted) ∙ differs))
 
 pub kept_moves : (s : State) → IsValid s → (nodes : Forest) → nodes ≡ forest_of s → (n : List ℕ) (parent : Option (List ℕ)) → same_name (parent_of nodes n) parent ≡ false
     → (same_name (parent_of (forest_of s) n) parent ≡ false → CanMove (forest_of s) n parent) → (found : Bool)

@@ -1,5 +1,6 @@
 -- What the look-up of a move's conflicts promises.
 --     open_way f n above m   the chain of a namespace below n once what is above n is another chain, where all up to n are calm
+--     is_later n chain       the name is that of a later member of a chain
 --     is_gone_to             what is found goes to the labels that a chain prescribes
 --     CanMove                a namespace that is there may get that parent: no cycle comes of it
 --     IsMovedBy              a write by which a namespace gets that parent
@@ -9,7 +10,7 @@ use Rattle.std.specs.Str.{bytes_eq}
 use Rattle.hx_object.specs.declared.kind.Kind.{Kind}
 use Rattle.hx_object.specs.declared.object.Id.{Id}
 use Rattle.hx_object.specs.declared.object.Object.{Object}
-use Rattle.hx_model.specs.Forest.{Forest, chain_of, in_chain, is_there, parent_of}
+use Rattle.hx_model.specs.Forest.{Forest, chain_of, in_chain, is_in, is_there, parent_of, tail_of}
 use Rattle.hx_model.specs.Limits.{is_hierarchy}
 use Rattle.hx_model.specs.Moves.{up_to, is_calm, is_going, labels_in, mode_at}
 use Rattle.hx_model.specs.Propagation.{id_in}
@@ -20,6 +21,10 @@ use Rattle.hx_model.specs.TreeLabels.{prescribed_labels}
 -- up to n as before, and then what is above n, where all up to n are calm
 abbrev pub open_way : Forest → List ℕ → List (List ℕ) → List ℕ → List (List ℕ)
 open_way f n above m = if list_all (is_calm f) (up_to n (chain_of f m)) then up_to n (chain_of f m) ++ n ∷ above else []
+
+-- the name is that of a later member
+abbrev pub is_later : List ℕ → List (List ℕ) → Bool
+is_later n chain = is_in n (tail_of chain)
 
 -- the object of a kind and name in a namespace goes to the labels that a chain prescribes to its first member, n
 abbrev pub is_gone_to : Objects → List ℕ → List (List ℕ) → Kind → List ℕ → List ℕ → Bool

@@ -144,27 +144,22 @@ impl IndexedState {
         let id = &new.id;
         // a state that is read is in order
         let _store = &self.store;
-        if is_source_in(old) || !self.may_be_reached(new)? || !self.is_open(&id.ns) {
+        if is_source_in(old) || !self.may_be_reached(new) || !self.is_open(&id.ns) {
             return Ok(false);
         }
         self.is_reached(&id.ns, id.kind, &id.name)
     }
 
-    /// Whether a source from above may go to the place of an object: its kind is propagated, and there is a source of the kind and the name.
-    ///
-    /// What stays home may have one name in every namespace, and then no sources are listed.
-    fn may_be_reached(&self, new: &Object) -> Result<bool, NoMemory>
-        ensures { IfOk result (λ may. may ≡ false → is_reached self.now.state new.now.id.ns new.now.id.kind new.now.id.name ≡ false) }
+    /// Whether a source from above may go to the place of an object: its kind is propagated, and a source of the kind and the name may lie in another namespace.
+    fn may_be_reached(&self, new: &Object) -> bool
+        ensures { result ≡ false → is_reached self.now.state new.now.id.ns new.now.id.kind new.now.id.name ≡ false }
     {
         let id = &new.id;
         if !is_propagated(self.mode(id.kind)) {
-            return Ok(false);
+            return false;
         }
-        if stays_home(new) {
-            return Ok(true);
-        }
-        let sources = self.sources(id.kind, &id.name)?;
-        Ok(!sources.is_empty())
+        self.store
+            .may_lie_beside(id.kind, id.name.as_str(), id.ns.as_str())
     }
 
     /// Whether a source that is written goes to where a source of its kind and name lies, below its namespace, and none went before.

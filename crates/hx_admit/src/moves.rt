@@ -1,5 +1,5 @@
 // Moves of a namespace by which a copy would overwrite a source.
-ghost use Rattle.std.specs.Prelude.{◌≡◌, ℕ, ◌++◌, ◌||◌, false, List, filter, IfOk, OnOk, Option, option_copied};
+ghost use Rattle.std.specs.Prelude.{◌≡◌, ℕ, ◌++◌, ◌||◌, true, false, List, IfOk, OnOk, Option, option_copied};
 ghost use Rattle.std.specs.List.{list_all, list_any};
 ghost use Rattle.hx_object.specs.declared.object.Id.{Id as id_of};
 ghost use Rattle.hx_object.specs.declared.object.Object.{Object as object_of};
@@ -10,8 +10,7 @@ ghost use Rattle.hx_model.specs.Moves.{up_to, chain_from, is_calm, is_open_above
 ghost use Rattle.hx_model.specs.Propagation.{goes_to};
 ghost use Rattle.hx_model.specs.Tree.{forest_of};
 ghost use Rattle.hx_model.specs.TreeLabels.{prescribed_labels};
-ghost use Rattle.hx_store.specs.Sources.{is_source_of};
-ghost use Rattle.hx_admit.specs.Moves.{open_way, is_gone_to, CanMove, IsMovedBy};
+ghost use Rattle.hx_admit.specs.Moves.{open_way, is_later, is_gone_to, CanMove, IsMovedBy};
 
 use crate::conflicts::{is_propagated, looks_at_labels};
 use crate::indexed_state::IndexedState;
@@ -20,14 +19,14 @@ use hx_forest::Forest;
 use hx_model::{COPIED_KINDS, is_same_name, is_source, mode_in};
 use hx_object::well_known::CONFIG;
 use hx_object::{Kind, Mode, NoMemory, Object, Pairs, Shared, Text};
-use hx_rules::{goes_to, prescribed_labels, stays_home};
+use hx_rules::{goes_to, prescribed_labels};
 use hx_store::Store;
 use std::alloc::Global;
 
 impl IndexedState {
     /// Whether a namespace that gets another parent makes a conflict: some source of its subtree lies where a source from above is copied to then, and wasn't before (HNC user guide, "Propagating policies").
     ///
-    /// It looks at nothing but the subtree, the namespaces above it, the objects there of kinds that are propagated, and the sources of their kinds and names.
+    /// It looks at nothing but the subtree, the namespaces above it, and the objects there of kinds that are propagated. It walks no chain for an object whose name no source of its kind has in another namespace.
     pub(crate) fn overwrites_by_move(
         &self,
         namespace: &Text,
@@ -50,6 +49,7 @@ fn overwrites_below(
     namespace: &Text,
     parent: Option<&Text>,
 ) -> Result<bool, NoMemory>
+    requires moves { CanMove forest.now.nodes namespace.now (option_copied parent) }
     ensures { IfOk result (λ found. found ≡ list_any (λ m. overwrites_in store.now.objects m (open_moved forest.now.nodes namespace.now (option_copied parent.entry) m) (open_chain forest.now.nodes m)) (subtree_of forest.now.nodes namespace.now)) }
 {
     if !forest.is_calm(namespace) || !is_open_above(forest, parent) {
@@ -67,6 +67,7 @@ fn any_overwrites(
     above: &[Text],
     members: &[Text],
 ) -> Result<bool, NoMemory>
+    requires apart { (m : List ℕ) → is_in m members.now ≡ true → is_later m (open_way forest.now.nodes namespace.now above.now m) ≡ false }
     ensures { IfOk result (λ found. found ≡ list_any (λ m. overwrites_in store.now.objects m (open_way forest.now.nodes namespace.now above.now m) (open_chain forest.now.nodes m)) members.now) }
 {
     for member in members {
@@ -86,6 +87,7 @@ fn any_kind(
     member: &Text,
     kinds: &[Kind],
 ) -> Result<bool, NoMemory>
+    requires apart { is_later member.now (open_way forest.now.nodes namespace.now above.now member.now) ≡ false }
     ensures { IfOk result (λ found. found ≡ list_any (overwrites_kind store.now.objects member.now (open_way forest.now.nodes namespace.now above.now member.now) (open_chain forest.now.nodes member.now)) kinds.now) }
 {
     for kind in kinds {
@@ -105,6 +107,7 @@ fn overwrites_kind(
     member: &Text,
     kind: Kind,
 ) -> Result<bool, NoMemory>
+    requires apart { is_later member.now (open_way forest.now.nodes namespace.now above.now member.now) ≡ false }
     ensures { IfOk result (λ found. found ≡ overwrites_kind store.now.objects member.now (open_way forest.now.nodes namespace.now above.now member.now) (open_chain forest.now.nodes member.now) kind) }
 {
     if !is_propagated(mode_at(store, kind)) {
@@ -127,6 +130,7 @@ fn any_newly_met(
     before: &[Text],
     objects: &[Shared],
 ) -> Result<bool, NoMemory>
+    requires apart { is_later name.now after.now ≡ false }
     ensures { IfOk result (λ found. found ≡ list_any (is_newly_met store.now.objects name.now after.now before.now) objects.now) }
 {
     for object in objects {
@@ -145,10 +149,11 @@ fn is_newly_met(
     before: &[Text],
     object: &Object,
 ) -> Result<bool, NoMemory>
+    requires apart { is_later name.now after.now ≡ false }
     ensures { IfOk result (λ newly. newly ≡ is_newly_met store.now.objects name.now after.now before.now object.now) }
 {
     let id = &object.id;
-    if !is_source(object) || !may_be_met(store, after, object)? {
+    if !is_source(object) || !may_be_met(store, name, object) {
         return Ok(false);
     }
     if !is_met(store, name, after, id.kind, &id.name)? {
@@ -158,55 +163,12 @@ fn is_newly_met(
     Ok(!is_met_before)
 }
 
-/// Whether a source of an object's kind and name may go from a later member of a chain to the place of its first one: one lies there.
-///
-/// What stays home may have one name in every namespace, and then no sources are listed.
-fn may_be_met(store: &Store, chain: &[Text], object: &Object) -> Result<bool, NoMemory>
-    ensures { IfOk result (λ may. may ≡ false → (n : List ℕ) → is_met store.now.objects n chain.now object.now.id.kind object.now.id.name ≡ false) }
+/// Whether a source of an object's kind and name may go from a later member of a chain to the place of its first one: one may lie in another namespace.
+fn may_be_met(store: &Store, name: &Text, object: &Object) -> bool
+    ensures { result ≡ false → (chain : List (List ℕ)) → is_later name.now chain ≡ false → is_met store.now.objects name.now chain object.now.id.kind object.now.id.name ≡ false }
 {
-    if stays_home(object) {
-        return Ok(true);
-    }
-    match chain.split_first() {
-        Some((_, above)) => has_source_among(store, object.id.kind, &object.id.name, above),
-        None => Ok(false),
-    }
-}
-
-/// Whether a source of a kind and a name lies in one of some namespaces.
-fn has_source_among(
-    store: &Store,
-    kind: Kind,
-    name: &Text,
-    namespaces: &[Text],
-) -> Result<bool, NoMemory>
-    ensures { IfOk result (λ has. has ≡ list_any (λ (y : object_of). is_in y.id.ns namespaces.now) (filter (is_source_of kind name.now) store.now.objects)) }
-{
-    let sources = store.sources(kind, name.as_str())?;
-    Ok(any_lies_among(&sources, namespaces))
-}
-
-fn any_lies_among(objects: &[Shared], namespaces: &[Text]) -> bool
-    ensures { result ≡ list_any (λ (y : object_of). is_in y.id.ns namespaces.now) objects.now }
-{
-    for object in objects {
-        if is_among(&object.object().id.ns, namespaces) {
-            return true;
-        }
-    }
-    false
-}
-
-/// Whether a name is among others.
-fn is_among(name: &Text, names: &[Text]) -> bool
-    ensures { result ≡ is_in name.now names.now }
-{
-    for other in names {
-        if name.as_str() == other.as_str() {
-            return true;
-        }
-    }
-    false
+    let id = &object.id;
+    store.may_lie_beside(id.kind, id.name.as_str(), name.as_str())
 }
 
 /// Whether a source of a kind and a name goes from a later member of a chain to the place of its first one.

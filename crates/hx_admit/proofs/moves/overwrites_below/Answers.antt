@@ -1,7 +1,7 @@
 use Rattle.std.proofs.Common.{◌≡◌, ◌&&◌, Bool, sym, ap, ◌∙◌, subst}
 use Rattle.std.specs.Prelude.{IfOk, option_copied}
 use Rattle.hx_model.specs.Moves.{is_calm, is_open_above}
-use Rattle.hx_admit.proofs.Moved.{none_moved, all_moved, and_false}
+use Rattle.hx_admit.proofs.Moved.{none_moved, all_moved, ways_apart, and_false}
 use Rattle.hx_admit.proofs.moves.overwrites_below.Goals.{then-not-is_calm-via-then-not-is_calm, then-not-is_calm-via-else-not-is_calm+then-not-is_open_above}
 use Rattle.hx_admit.proofs.moves.overwrites_below.Goals as goal
 
@@ -19,3 +19,9 @@ returns c =
     (all_moved c.args.store.now.objects c.args.forest.now.nodes c.args.namespace.now (option_copied c.args.parent) c.deref.result.now c.deref-2.result.now (sym c.is_calm.ensures ∙ c.if-not-is_calm.false) (sym c.is_open_above.ensures ∙ c.if-not-is_open_above.false)
     (c.deref.ensures.value ∙ c.in_ok-above.ensures) (c.deref-2.ensures.value ∙ c.in_ok-members.ensures))
     c.any_overwrites.ensures
+
+pub any_overwrites-requires : goal.any_overwrites-requires
+any_overwrites-requires c = record {
+  apart = ways_apart c.args.forest.now.nodes c.args.namespace.now (option_copied c.args.parent) c.deref.result.now c.deref-2.result.now c.requires.moves
+      (c.deref.ensures.value ∙ c.in_ok-above.ensures) (c.deref-2.ensures.value ∙ c.in_ok-members.ensures);
+}

@@ -1,5 +1,7 @@
-use Rattle.std.proofs.Common.{◌≡◌, ◌∙◌, ◌==◌, sym, ap, not, length, rules}
-use Rattle.hx_admit.proofs.Conflicting.{nothing_listed, reached_none, unreached}
+use Rattle.std.proofs.Common.{◌∙◌, ℕ, List, sym, subst}
+use Rattle.hx_store.specs.Sources.{HasNoneBeside}
+use Rattle.hx_admit.specs.StateView.{StateView}
+use Rattle.hx_admit.proofs.Conflicting.{reached_none, unreached}
 use Rattle.hx_admit.proofs.indexed_state.IndexedState.may_be_reached.Goals as goal
 
 pub returns-then-not-is_propagated : goal.returns-then-not-is_propagated
@@ -7,5 +9,8 @@ returns-then-not-is_propagated c = λ _. sym (unreached c.args.self.now.state c.
 
 pub returns : goal.returns
 returns c = λ out.
-    let counted : c.is_empty.result ≡ (length c.in_ok-sources.sources.items == 0) = search rules in
-    reached_none c.args.self.now.state c.args.new.now.id.ns c.args.new.now.id.kind c.args.new.now.id.name (sym c.in_ok-sources.ensures ∙ nothing_listed c.in_ok-sources.sources.items (ap not (sym counted) ∙ out))
+    let id = c.args.new.now.id in
+    reached_none c.args.self.now.state id.ns id.kind id.name
+    (subst (λ (v : StateView). HasNoneBeside v.state.objects id.kind id.name id.ns) c.self.view_is
+    (subst (λ (m : List ℕ). HasNoneBeside c.self.inside.store.objects id.kind id.name m) c.as_str-2.ensures.value
+    (subst (λ (n : List ℕ). HasNoneBeside c.self.inside.store.objects id.kind n c.as_str-2.result.now) c.as_str.ensures.value (c.may_lie_beside.ensures out))))
