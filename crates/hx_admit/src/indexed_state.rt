@@ -171,6 +171,7 @@ impl IndexedState {
             return;
         }
         let version = self.store.version() + 1;
+        note_place(&mut self.forest, self.store.staged());
         self.store.apply(version);
         self.forest.apply();
         self.owners.apply();
@@ -187,5 +188,14 @@ impl IndexedState {
         self.forest.discard();
         self.owners.discard();
         self.usage.discard();
+    }
+}
+
+/// Notes in the tree that the namespace of a write isn't halted, so that the next write there needn't walk up.
+fn note_place(forest: &mut Forest, writes: &[Change])
+    ensures { forest.new ≡ forest.old }
+{
+    if let Some(write) = writes.first() {
+        forest.note(&write.id().ns);
     }
 }

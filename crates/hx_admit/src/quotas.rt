@@ -34,6 +34,9 @@ impl IndexedState {
     fn quotas_for(&self, ns: &Text) -> Result<Vec<Shared>, NoMemory>
         ensures { IfOk result (λ quotas. quotas.items ≡ quotas_for self.now.state ns.now) }
     {
+        if !self.store.may_have(Kind::HierarchicalResourceQuota) {
+            return Ok(Vec::new(self.store.allocator()));
+        }
         self.quotas_of(self.forest.ancestors(ns))
     }
 
