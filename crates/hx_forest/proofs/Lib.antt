@@ -1,4 +1,5 @@
 pub mod Nodes
+pub mod Placing
 pub mod Ways
 pub mod Notes
 pub mod Listing
@@ -8,6 +9,7 @@ pub mod Changing
 pub mod Readiness
 pub mod Stepping
 pub mod Passing
+pub mod Indices
 pub mod Rings
 pub mod Reasons
 pub mod Descending

@@ -18,7 +18,7 @@ use Rattle.std.proofs.lemmas.Map.Lookups.{exact_bytes}
 use Rattle.std.proofs.lemmas.Map.Keys.{IsDistinct-head, IsDistinct-tail}
 use Rattle.hx_object.specs.Texts.{bytes_cmp}
 use Rattle.hx_model.specs.declared.node.Node.{Node}
-use Rattle.hx_model.specs.Forest.{Forest, is_there, node_of, with_changed}
+use Rattle.hx_model.specs.Forest.{Forest, node_of, with_changed}
 use Rattle.hx_model.specs.ForestChanges.{with_node, without_node, forest_from}
 use Rattle.hx_model.proofs.Climbing.{is_same, same_itself}
 use Rattle.hx_model.proofs.Moving.{changed_node}

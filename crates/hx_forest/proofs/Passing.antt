@@ -1,7 +1,7 @@
 -- The names that a walk up passes.
 --     names_none                               a walk from nowhere
 --     names_chain                              as many steps as the chain is long pass the chain
---     names_on, names_out, one_fewer           one step, from a place and from where there is none
+--     names_on, one_fewer                      one step from a place
 use Rattle.std.proofs.Common.{◌≡◌, ℕ, zero, suc, ◌+◌, ◌-◌, ◌<◌, cond, not, Option, Some, None, List, [], ◌∷◌, ◌++◌, length, is_some, refl, sym, ap, ◌∙◌, arith, length-append, append_assoc, append-nil}
 use Rattle.std.specs.Prelude.{option_and_then}
 use Rattle.std.proofs.lemmas.Bool.{and_parts}
@@ -10,9 +10,9 @@ use Rattle.hx_model.specs.Forest.{Forest, is_in, is_there, node_of, parent_of, c
 use Rattle.hx_model.proofs.Climbing.{Climbs, at_top, stopped, onward, chain-Climbs}
 use Rattle.hx_model.proofs.Walking.{longer}
 use Rattle.hx_forest.specs.Inside.{walk_names}
-use Rattle.hx_forest.specs.declared.places.Place.{Place}
 use Rattle.hx_forest.specs.declared.places.Nodes.{Nodes}
-use Rattle.hx_forest.specs.Ways.{forest_of, node_in, place_at, place_of}
+use Rattle.hx_forest.specs.Places.{Place}
+use Rattle.hx_forest.specs.Ways.{forest_of, node_in, place_of}
 use Rattle.hx_forest.proofs.Ways.{node_there}
 
 pub names_none : (left : ℕ) (f : Forest) → walk_names left f None ≡ []
@@ -44,12 +44,6 @@ names_on (suc left) nodes n place pos here =
     let same : left ≡ suc left - 1 = omega arith in
     (λ i. cond (is_some (found i)) (n ∷ walk_names left (forest_of nodes) (option_and_then (λ (node : Node). node.parent) (found i))) [])
     ∙ ap (λ k. n ∷ walk_names k (forest_of nodes) place.node.parent) same
-
--- where there is no place, nothing more is passed
-pub names_out : (left : ℕ) (nodes : Nodes) (next : Option (List ℕ)) → place_at nodes next ≡ None → walk_names left (forest_of nodes) next ≡ []
-names_out zero nodes next out = refl
-names_out (suc left) nodes None out = refl
-names_out (suc left) nodes (Some n) out = ap (λ b. cond b (n ∷ walk_names left (forest_of nodes) (parent_of (forest_of nodes) n)) []) (ap is_some (node_there nodes n ∙ ap node_in out))
 
 -- fewer are left then
 pub one_fewer : (all left : List (List ℕ)) (n : List ℕ) → all ≡ n ∷ left → length left < length all

@@ -2,23 +2,33 @@
 --     ways_set, ways_add, ways_cut            one is changed, added, taken out
 --     up_by_number                            a way that was just found
 --     node_there, node_at_there               the node of a name is that of its place
---     up_above                                what a step comes to may be stepped from
+--     absent_place, among_places, among_indices     a name that isn't there, and one that is
+--     place_at_name, node_at_name             what lies where a name lies
+--     way_index, step_index                   a way comes to where the parent lies
+--     node_above, parent_there, parent_at_name      what lies above a node
+--     place_there, kept_place                 a place at an index, and under its name
+--     ways_changed, nodes_changed, nodes_same        the place at an index is changed
 --     put_nodes, cut_nodes, changed_nodes     the forest then
-use Rattle.std.specs.Prelude.{is_some, option_and_then, option_copied, IfSome}
-use Rattle.std.specs.Borrow.{Bor}
+use Rattle.std.specs.Prelude.{is_some, option_and_then, slice_get}
+use Rattle.std.specs.List.{IsDistinct}
 use Rattle.std.proofs.Common.{◌≡◌, ℕ, suc, ◌<◌, ◌≤◌, Bool, true, false, cond, List, [], ◌∷◌, length, Option, Some, None, option_map, refl, sym, ap, subst, ◌∙◌, arith, true≢false}
 use Rattle.std.specs.Map.{keys_of, lookup}
 use Rattle.std.specs.Option.{option_map_or}
 use Rattle.std.specs.Str.{bytes_eq}
+use Rattle.std.proofs.lemmas.Cmp.{nat_list_eq_equiv}
+use Rattle.std.proofs.lemmas.Map.Entries.{lookup_from_place}
 use Rattle.std.proofs.lemmas.Option.{same_Some, none-some}
 use Rattle.hx_model.specs.declared.node.Node.{Node}
-use Rattle.hx_model.specs.Forest.{is_there, node_of, with_changed}
+use Rattle.hx_model.specs.Forest.{is_there, node_of, parent_of, with_changed}
 use Rattle.hx_model.specs.ForestChanges.{with_node, without_node, forest_from}
 use Rattle.hx_model.proofs.Climbing.{is_same}
-use Rattle.hx_forest.specs.declared.places.Place.{Place}
 use Rattle.hx_forest.specs.declared.places.Nodes.{Nodes}
+use Rattle.hx_forest.specs.declared.steps.Step.{Step}
+use Rattle.hx_forest.specs.declared.steps.Way.{Way}
+use Rattle.hx_forest.specs.Places.{Place, step_of, entry_in, changed_at}
 use Rattle.hx_forest.specs.Inside.{node_at}
-use Rattle.hx_forest.specs.Ways.{nodes_of, place_of, place_at, node_in, forest_of, LeadsUp, LeadUp, AllLeadUp}
+use Rattle.hx_forest.specs.Ways.{nodes_of, place_of, place_at, node_in, forest_of, index_at, place_in, parent_in, IsAt, LeadsUp, LeadUp, AllLeadUp}
+use Rattle.hx_forest.proofs.Placing.{place_at_index, name_at_index, own_index, look_changed}
 use Rattle.hx_forest.proofs.Nodes.{ascends-forest, same_forests, forest-put, forest-cut, forest-changed, node_of-forest}
 
 -- ---- ways
@@ -127,14 +137,19 @@ node_among (e ∷ es) q = elim (bytes_eq q e.0) as (λ b. cond b (Some e.1.node)
 pub node_there : (nodes : Nodes) (n : List ℕ) → node_of (forest_of nodes) n ≡ option_map (λ p. p.node) (place_of nodes n)
 node_there nodes n = node_of-forest (nodes_of nodes.places.entries) n ∙ node_among nodes.places.entries n
 
+pub absent_place : (nodes : Nodes) (n : List ℕ) → is_there (forest_of nodes) n ≡ false → place_of nodes n ≡ None
+absent_place nodes n out = by (place_of nodes n) (sym (ap is_some (node_there nodes n)) ∙ out)
+  where
+    by : (o : Option Place) → is_some (option_map (λ p. p.node) o) ≡ false → o ≡ None
+    by None _ = refl
+    by (Some p) some = absurd (true≢false some)
+
 pub among_places : (nodes : Nodes) (n : List ℕ) → is_there (forest_of nodes) n ≡ true → place_of nodes n ≡ None → ⊥
 among_places nodes n there none = true≢false (sym there ∙ ap is_some (node_there nodes n ∙ ap (option_map (λ (p : Place). p.node)) none))
 
--- what is above may be stepped from
-pub up_above : (nodes : Nodes) (next : Option (List ℕ)) (r : Option (Bor Place)) → option_copied r ≡ place_at nodes next → AllLeadUp nodes → IfSome r (λ p. LeadsUp (place_of nodes) p.now)
-up_above nodes next None is links = tt
-up_above nodes None (Some p) is links = absurd (none-some p.now (sym is))
-up_above nodes (Some n) (Some p) is links = links.ups n p.now (sym is)
+-- a name that is there lies somewhere
+pub among_indices : (nodes : Nodes) (n : List ℕ) → is_there (forest_of nodes) n ≡ true → index_at nodes (Some n) ≡ None → ⊥
+among_indices nodes n there none = among_places nodes n there (sym (place_at_index nodes.places.entries n) ∙ ap (λ o. option_map (λ (e : List ℕ × Place). e.1) (entry_in nodes.places.entries o)) none)
 
 pub same_keys : (es : List (List ℕ × Place)) → keys_of (nodes_of es) ≡ keys_of es
 same_keys [] = refl
@@ -178,3 +193,96 @@ module _ (new old : List (List ℕ × Place)) (n : List ℕ) where
 pub node_at_there : (nodes : Nodes) (next : Option (List ℕ)) → node_at (forest_of nodes) next ≡ node_in (place_at nodes next)
 node_at_there nodes None = refl
 node_at_there nodes (Some n) = node_there nodes n
+
+-- ---- indices
+
+-- what lies where a name lies
+pub place_at_name : (nodes : Nodes) (next : Option (List ℕ)) → place_in nodes (index_at nodes next) ≡ place_at nodes next
+place_at_name nodes None = refl
+place_at_name nodes (Some n) = place_at_index nodes.places.entries n
+
+pub node_at_name : (nodes : Nodes) (next : Option (List ℕ)) → node_in (place_in nodes (index_at nodes next)) ≡ node_at (forest_of nodes) next
+node_at_name nodes next = ap node_in (place_at_name nodes next) ∙ sym (node_at_there nodes next)
+
+-- a place that lies at an index lies there with its name
+named : (nodes : Nodes) (at : Option ℕ) (p : Place) → place_in nodes at ≡ Some p → {P : Type 0} → ((i : ℕ) (n : List ℕ) → at ≡ Some i → slice_get nodes.places.entries i ≡ Some (n, p) → P) → P
+named nodes None p is then = absurd (none-some p is)
+named nodes (Some i) p is {P} then = by (slice_get nodes.places.entries i) refl is
+  where
+    by : (o : Option (List ℕ × Place)) → slice_get nodes.places.entries i ≡ o → option_map (λ e. e.1) o ≡ Some p → P
+    by None _ none = absurd (none-some p none)
+    by (Some e) there same = then i (e.0) refl (there ∙ ap (λ (x : Place). Some (e.0, x)) (same_Some e.1 p same))
+
+-- it is found by that name
+pub place_there : (nodes : Nodes) (i : ℕ) (n : List ℕ) (p : Place) → IsDistinct bytes_eq (keys_of nodes.places.entries) → slice_get nodes.places.entries i ≡ Some (n, p) → place_of nodes n ≡ Some p
+place_there nodes i n p distinct there = lookup_from_place nat_list_eq_equiv nodes.places.entries i n p distinct there
+
+-- a way that comes to a place of its number comes to where the parent lies
+pub way_index : (nodes : Nodes) (at : Option ℕ) (p : Place) (j : ℕ) → IsDistinct bytes_eq (keys_of nodes.places.entries) → AllLeadUp nodes → place_in nodes at ≡ Some p → IsAt nodes p.up j → index_at nodes p.node.parent ≡ Some j
+way_index nodes at p j distinct links here way = named nodes at p here (λ i n _ there. named nodes (Some j) way.place way.is (λ k b same above.
+    let above_at : slice_get nodes.places.entries j ≡ Some (b, way.place) = ap (slice_get nodes.places.entries) (same_Some j k same) ∙ above in
+    let parent : p.node.parent ≡ Some b = links.ups n p (place_there nodes i n p distinct there) b way.place (place_there nodes j b way.place distinct above_at)
+    (subst (λ (x : ℕ). 0 < x) (sym way.number) way.some) (sym way.number) in
+    ap (index_at nodes) parent ∙ own_index nodes.places.entries j b way.place distinct above_at))
+
+parent_named : (o : Option Place) (node : Node) → node_in o ≡ Some node → option_and_then (λ p. p.node.parent) o ≡ node.parent
+parent_named None node is = absurd (none-some node is)
+parent_named (Some p) node is = ap (λ (x : Node). x.parent) (same_Some p.node node is)
+
+-- what the node at an index names as its parent
+pub parent_there : (nodes : Nodes) (at : Option ℕ) (node : Node) → node_in (place_in nodes at) ≡ Some node → parent_in nodes at ≡ node.parent
+parent_there nodes at node is = parent_named (place_in nodes at) node is
+
+pub parent_at_name : (nodes : Nodes) (n : List ℕ) (i : ℕ) → index_at nodes (Some n) ≡ Some i → parent_of (forest_of nodes) n ≡ parent_in nodes (Some i)
+parent_at_name nodes n i at = ap (option_and_then (λ (node : Node). node.parent)) (node_there nodes n ∙ ap node_in (sym (place_at_name nodes (Some n)) ∙ ap (place_in nodes) at)) ∙ by (place_in nodes (Some i))
+  where
+    by : (o : Option Place) → option_and_then (λ (node : Node). node.parent) (node_in o) ≡ option_and_then (λ p. p.node.parent) o
+    by None = refl
+    by (Some p) = refl
+
+-- a step goes to where the parent lies
+pub step_index : (nodes : Nodes) (at : Option ℕ) (step : Step) (j : ℕ) → IsDistinct bytes_eq (keys_of nodes.places.entries) → AllLeadUp nodes → Some step ≡ option_map (λ e. step_of e.1) (entry_in nodes.places.entries at) → IsAt nodes step.up j
+    → Some j ≡ index_at nodes (parent_in nodes at)
+step_index nodes at step j distinct links is way = by (entry_in nodes.places.entries at) refl is
+  where
+    by : (o : Option (List ℕ × Place)) → entry_in nodes.places.entries at ≡ o → Some step ≡ option_map (λ e. step_of e.1) o → Some j ≡ index_at nodes (parent_in nodes at)
+    by None _ same = absurd (none-some step (sym same))
+    by (Some e) here same =
+        let p = e.1 in
+        let lies : place_in nodes at ≡ Some p = ap (option_map (λ (e : List ℕ × Place). e.1)) here in
+        let up : step.up ≡ p.up = ap (λ (s : Step). s.up) (same_Some step (step_of p) same) in
+        sym (ap (λ o. index_at nodes (option_and_then (λ (p : Place). p.node.parent) o)) lies ∙ way_index nodes at p j distinct links lies (subst (λ (u : Way). IsAt nodes u j) up way))
+
+-- the node above it
+pub node_above : (nodes : Nodes) (at above : Option ℕ) (node : Node) → above ≡ index_at nodes (parent_in nodes at) → node_in (place_in nodes at) ≡ Some node → node_in (place_in nodes above) ≡ node_at (forest_of nodes) node.parent
+node_above nodes at above node is here = ap (λ (o : Option ℕ). node_in (place_in nodes o)) (is ∙ ap (index_at nodes) (parent_there nodes at node here)) ∙ node_at_name nodes node.parent
+
+-- a name that lies at an index has a place
+pub kept_place : (nodes : Nodes) (n : List ℕ) (i : ℕ) → index_at nodes (Some n) ≡ Some i → {P : Type 0} → ((p : Place) → place_of nodes n ≡ Some p → place_in nodes (Some i) ≡ Some p → P) → P
+kept_place nodes n i at {P} then = by (slice_get nodes.places.entries i) refl
+  where
+    name : option_map (λ e. e.0) (slice_get nodes.places.entries i) ≡ Some n
+    name = name_at_index nodes.places.entries n i at
+
+    by : (o : Option (List ℕ × Place)) → slice_get nodes.places.entries i ≡ o → P
+    by None none = absurd (none-some n (sym (ap (option_map (λ (e : List ℕ × Place). e.0)) none) ∙ name))
+    by (Some e) there =
+        let lies : place_in nodes (Some i) ≡ Some e.1 = ap (option_map (λ (e : List ℕ × Place). e.1)) there in
+        then e.1 (sym (place_at_name nodes (Some n)) ∙ ap (place_in nodes) at ∙ lies) lies
+
+-- ---- the place at an index is changed
+
+module _ (old new : Nodes) (n : List ℕ) (i : ℕ) (change : Place → Place) (at : index_at old (Some n) ≡ Some i) (is : new.places.entries ≡ changed_at change i old.places.entries) where
+  pub look_new : (p : Place) → place_of old n ≡ Some p → (q : List ℕ) → place_of new q ≡ cond (bytes_eq n q) (Some (change p)) (place_of old q)
+  look_new p there q = ap (lookup (bytes_eq q)) is ∙ look_changed change old.places.entries n i p at there q
+
+  pub ways_changed : new.drawn ≡ old.drawn → ((p : Place) → (change p).number ≡ p.number) → ((p : Place) → place_of old n ≡ Some p → ((change p).up.number ≤ old.drawn) × LeadsUp (place_of old) (change p)) → AllLeadUp old → AllLeadUp new
+  ways_changed drawn number fine links = kept_place old n i at (λ p there _.
+      subst (LeadUp (place_of new)) (sym drawn)
+      (ways_set (place_of old) (place_of new) old.drawn n p (change p) (look_new p there) there (number p) (fine p there).0 (fine p there).1 links))
+
+  pub nodes_changed : (make : Node → Node) → ((p : Place) → (change p).node ≡ make p.node) → forest_of new ≡ with_changed n make (forest_of old)
+  nodes_changed make same = kept_place old n i at (λ p there _. changed_nodes new.places.entries old.places.entries n make p (change p) there (same p) (look_new p there))
+
+  pub nodes_same : ((p : Place) → (change p).node ≡ p.node) → forest_of new ≡ forest_of old
+  nodes_same same = kept_place old n i at (λ p there _. same_nodes new.places.entries old.places.entries n p (change p) there (same p) (look_new p there))

@@ -23,4 +23,4 @@ pub record IsReady (f : Forest) (lists : Lists) (nodes_left lists_left : ℕ) (s
 
 -- the fields of a forest
 abbrev pub IsKept : Inside → Type 0
-IsKept f = IsReady (forest_of f.nodes) f.children.lists.entries (spare f.nodes.places) (spare f.children.lists) f.staged.items × AllLeadUp f.nodes × AreNoted f.nodes
+IsKept f = IsReady (forest_of f.nodes) f.children.lists.entries f.nodes.places.spare (spare f.children.lists) f.staged.items × AllLeadUp f.nodes × AreNoted f.nodes

@@ -1,4 +1,5 @@
 pub mod Names
+pub mod Places
 pub mod Ways
 pub mod Notes
 pub mod Children

@@ -3,8 +3,8 @@
 --     AreNoted      so it is with all nodes
 use Rattle.std.specs.Prelude.{◌≡◌, ℕ, ◌<◌, ◌≤◌, List, Some, None}
 use Rattle.hx_model.specs.Forest.{Forest, halt_of}
-use Rattle.hx_forest.specs.declared.places.Place.{Place}
 use Rattle.hx_forest.specs.declared.places.Nodes.{Nodes}
+use Rattle.hx_forest.specs.Places.{Place}
 use Rattle.hx_forest.specs.Ways.{forest_of, place_of}
 
 -- a namespace with the stamp of the tree isn't halted, and none has a later one; with the stamp 0 nothing is noted

@@ -2,6 +2,9 @@
 --     forest_of nodes         the forest of the nodes
 --     place_of nodes n        the place of a name
 --     place_at, number_at     the place of a name that may be none, and its number
+--     index_at, name_in, place_in      where such a name lies, and the name and the place at an index that may be none
+--     parent_in               what the node at such an index names as its parent
+--     IsAt                    a way comes to a place of its number at an index
 --     LeadsUp, AllLeadUp      a way that meets a place of its number has come to that of the parent
 use Rattle.std.specs.Prelude.{◌≡◌, ℕ, ◌<◌, ◌≤◌, List, map, Option, Some, option_map, option_and_then}
 use Rattle.std.specs.Map.{lookup}
@@ -10,8 +13,9 @@ use Rattle.std.specs.Str.{bytes_eq}
 use Rattle.hx_model.specs.Forest.{Forest}
 use Rattle.hx_model.specs.ForestChanges.{forest_from}
 use Rattle.hx_model.specs.declared.node.Node.{Node}
-use Rattle.hx_forest.specs.declared.places.Place.{Place}
 use Rattle.hx_forest.specs.declared.places.Nodes.{Nodes}
+use Rattle.hx_forest.specs.declared.steps.Way.{Way}
+use Rattle.hx_forest.specs.Places.{Place, index_in, entry_in}
 
 -- the nodes of places
 abbrev pub nodes_of : List (List ℕ × Place) → List (List ℕ × Node)
@@ -36,6 +40,29 @@ forest_of nodes = forest_from (nodes_of nodes.places.entries)
 -- the number of the place of such a name, and 0 where there is none
 abbrev pub number_at : Nodes → Option (List ℕ) → ℕ
 number_at nodes next = option_map_or (λ p. p.number) (place_at nodes next) 0
+
+-- where such a name lies
+abbrev pub index_at : Nodes → Option (List ℕ) → Option ℕ
+index_at nodes next = option_and_then (index_in nodes.places.entries) next
+
+-- the name at an index that may be none
+abbrev pub name_in : Nodes → Option ℕ → Option (List ℕ)
+name_in nodes at = option_map (λ e. e.0) (entry_in nodes.places.entries at)
+
+-- and the place there
+abbrev pub place_in : Nodes → Option ℕ → Option Place
+place_in nodes at = option_map (λ e. e.1) (entry_in nodes.places.entries at)
+
+-- what the node at an index names as its parent
+abbrev pub parent_in : Nodes → Option ℕ → Option (List ℕ)
+parent_in nodes at = option_and_then (λ p. p.node.parent) (place_in nodes at)
+
+-- a way comes to a place of its number at an index
+pub record IsAt (nodes : Nodes) (up : Way) (at : ℕ) : Type 0 where
+  pub some : 0 < up.number
+  pub place : Place
+  pub is : place_in nodes (Some at) ≡ Some place
+  pub number : place.number ≡ up.number
 
 -- a place that has the number of the way is that of the parent
 abbrev pub LeadsUp : (List ℕ → Option Place) → Place → Type 0

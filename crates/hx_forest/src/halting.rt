@@ -1,6 +1,5 @@
 // Why namespaces are halted.
 ghost use Rattle.std.specs.Prelude.{◌≡◌, ◌+◌, ◌≤◌, false, Some, [], ◌∷◌, not, ◌&&◌, is_some, length, option_copied, IfSome};
-ghost use Rattle.indexmap.specs.IndexMap.{spare};
 ghost use Rattle.hx_model.specs.Cases.{is_leaving};
 ghost use Rattle.hx_model.specs.First.{so, first};
 ghost use Rattle.hx_model.specs.Forest.{own_halt_of, halt_of, is_live};
@@ -8,12 +7,12 @@ ghost use Rattle.hx_model.specs.Moves.{is_calm};
 ghost use Rattle.hx_model.specs.TreeLabels.{is_open};
 ghost use Rattle.hx_model.specs.Walks.{walk_ends};
 ghost use Rattle.hx_forest.specs.Inside.{halt_at, halt_under, nodes_halt};
-ghost use Rattle.hx_forest.specs.Ways.{forest_of, node_in, place_of, LeadsUp, AllLeadUp};
+ghost use Rattle.hx_forest.specs.Ways.{forest_of, node_in, index_at, place_in, AllLeadUp};
 ghost use Rattle.hx_forest.specs.Notes.{AreNoted};
 ghost use Rattle.hx_model.specs.declared.node.Halt.TheVariants.{Ancestor};
 
 use crate::forest::Forest;
-use crate::places::{Nodes, Place};
+use crate::places::Nodes;
 use hx_model::{Halt, Node};
 use hx_object::Text;
 
@@ -78,13 +77,13 @@ impl Nodes {
         ensures nodes { forest_of self.new ≡ forest_of self.old }
         ensures ways { AllLeadUp self.new }
         ensures notes { AreNoted self.new }
-        ensures room { spare self.old.places ≤ spare self.new.places }
+        ensures room { self.old.places.spare ≤ self.new.places.spare }
     {
-        let Some(place) = self.place(name) else {
+        let Some(at) = self.index_of(name) else {
             return;
         };
-        if !self.is_noted(place) && self.halt_from(name, place).is_none() {
-            self.set_noted(name);
+        if !self.is_noted(at) && self.halt_from(name, at).is_none() {
+            self.set_noted(at);
         }
     }
 
@@ -94,8 +93,8 @@ impl Nodes {
         requires notes { AreNoted self.now }
         ensures { result ≡ is_open (forest_of self.now) name.now }
     {
-        match self.place(name) {
-            Some(place) => is_calm(&place.node) && self.halt_from(name, place).is_none(),
+        match self.index_of(name) {
+            Some(at) => self.is_calm(at) && self.halt_from(name, at).is_none(),
             None => false,
         }
     }
@@ -106,45 +105,62 @@ impl Nodes {
         requires notes { AreNoted self.now }
         ensures { result ≡ halt_of (forest_of self.now) name.now }
     {
-        match self.place(name) {
-            Some(place) => self.halt_from(name, place),
+        match self.index_of(name) {
+            Some(at) => self.halt_from(name, at),
             None => None,
         }
     }
 
-    /// Why a namespace is halted that has this place, as it is noted or by a walk up. One that ends meets each member once.
-    fn halt_from(&self, name: &Text, place: &Place) -> Option<Halt>
+    /// Whether the namespace at an index isn't on its way out, and isn't excluded.
+    fn is_calm(&self, at: usize) -> bool
+        ensures { (node : Node) → node_in (place_in self.now (Some at)) ≡ Some node → result ≡ (not node.terminating && not node.excluded) }
+    {
+        match self.node_in(Some(at)) {
+            Some(node) => is_calm(node),
+            None => false,
+        }
+    }
+
+    /// Why a namespace is halted that lies at this index, as it is noted or by a walk up. One that ends meets each member once.
+    fn halt_from(&self, name: &Text, at: usize) -> Option<Halt>
         requires ways { AllLeadUp self.now }
         requires notes { AreNoted self.now }
-        requires place { place_of self.now name.now ≡ Some place.now }
+        requires at { index_at self.now (Some name.now) ≡ Some at }
         ensures { result ≡ halt_of (forest_of self.now) name.now }
     {
-        if self.is_noted(place) {
+        if self.is_noted(at) {
             return None;
         }
-        let above = self.above(place);
+        let above = self.above(Some(at));
         match self.has_halted(above) {
-            Some(is_below) => halt_or_below(halt_by(&place.node, above), is_below),
+            Some(is_below) => halt_or_below(self.parent_halt(at, above), is_below),
             None => self.halt_by_ring(name),
         }
     }
 
-    /// Whether a walk up from a place passes one that has a reason by its parent, where the walk ends.
-    fn has_halted<'a>(&'a self, first: Option<&'a Place>) -> Option<bool>
-        requires ways { AllLeadUp self.now }
-        requires up { IfSome first (λ p. LeadsUp (place_of self.now) p.now) }
-        ensures { result ≡ nodes_halt (length (forest_of self.now)) (forest_of self.now) (node_in (option_copied first.entry)) }
+    /// The reason that the namespace at an index has by its parent, which lies at `above` where it is there.
+    fn parent_halt(&self, at: usize, above: Option<usize>) -> Option<Halt>
+        ensures { (node : Node) → node_in (place_in self.now (Some at)) ≡ Some node → result ≡ halt_at node.parent (node_in (place_in self.now above)) }
+    {
+        let node = self.node_in(Some(at))?;
+        halt_by(node, self.node_in(above))
+    }
+
+    /// Whether a walk up from an index passes one that has a reason by its parent, where the walk ends.
+    fn has_halted(&self, first: Option<usize>) -> Option<bool>
+        requires { AllLeadUp self.now }
+        ensures { result ≡ nodes_halt (length (forest_of self.now)) (forest_of self.now) (node_in (place_in self.now first)) }
     {
         let mut has = false;
-        let mut next = first;
+        let mut at = first;
         let mut left = self.len();
         while left > 0 {
             left -= 1;
-            let Some(place) = next else {
+            let Some(node) = self.node_in(at) else {
                 return Some(has);
             };
-            next = self.above(place);
-            has = has || halt_by(&place.node, next).is_some();
+            at = self.above(at);
+            has = has || halt_by(node, self.node_in(at)).is_some();
         }
         None
     }
@@ -186,15 +202,15 @@ fn is_calm(node: &Node) -> bool
     !node.terminating && !node.excluded
 }
 
-/// The reason that a namespace has by its parent, whose place is `above` where it is there.
-fn halt_by(node: &Node, above: Option<&Place>) -> Option<Halt>
-    ensures { result ≡ halt_at node.now.parent (node_in (option_copied above.entry)) }
+/// The reason that a namespace has by its parent, whose node is `above` where it is there.
+fn halt_by(node: &Node, above: Option<&Node>) -> Option<Halt>
+    ensures { result ≡ halt_at node.now.parent (option_copied above.entry) }
 {
     if node.parent.is_none() {
         return None;
     }
     match above {
-        Some(parent) => halt_under(&parent.node),
+        Some(parent) => halt_under(parent),
         None => Some(Halt::ParentMissing),
     }
 }

@@ -11,6 +11,7 @@ mod halting;
 mod names;
 mod places;
 mod prepared;
+mod steps;
 mod walks;
 
 pub use change::Change;

@@ -1,34 +1,20 @@
 // Nodes by the names of their namespaces.
-ghost use Rattle.std.specs.Prelude.{◌≡◌, ◌+◌, ◌<◌, ◌≤◌, ◌^◌, true, false, Some, None, [], length, OnOk, IfSome, option_copied};
-ghost use Rattle.indexmap.specs.IndexMap.{spare};
+ghost use Rattle.std.specs.Prelude.{◌≡◌, ◌+◌, ◌<◌, ◌≤◌, ◌^◌, ℕ, List, true, false, is_some, Some, None, [], length, OnOk, IfSome, option_copied};
+ghost use Rattle.std.specs.List.{IsDistinct};
+ghost use Rattle.std.specs.Map.{keys_of};
+ghost use Rattle.std.specs.Option.{option_map_or};
+ghost use Rattle.std.specs.Str.{bytes_eq};
 ghost use Rattle.hx_model.specs.Forest.{halt_of, is_there, node_of, parent_of, with_parent};
 ghost use Rattle.hx_model.specs.ForestChanges.{with_node, with_terminating, without_node};
-ghost use Rattle.hx_forest.specs.Ways.{place_of, place_at, forest_of, number_at, LeadsUp, AllLeadUp};
+ghost use Rattle.hx_forest.specs.Places.{Place};
+ghost use Rattle.hx_forest.specs.Ways.{forest_of, node_in, number_at, index_at, name_in, place_in, parent_in, IsAt, AllLeadUp};
 ghost use Rattle.hx_forest.specs.Notes.{AreNoted};
 
-use crate::children::{NameMap, map_by_name};
+use crate::steps::{Places, Step, Way};
 use hx_model::Node;
 use hx_object::{NoMemory, Text};
 use std::alloc::Global;
 use std::hash::RandomState;
-use std::mem;
-
-/// Where the place of a parent was when it was looked up, and its number. The number 0 is that of no place.
-#[derive(Clone, Copy)]
-pub(crate) struct Way {
-    index: usize,
-    number: u64,
-}
-
-/// A node with a number that no other place has had, and the way to the place of its parent.
-#[derive(Drop)]
-pub(crate) struct Place {
-    pub(crate) node: Node,
-    number: u64,
-    up: Way,
-    /// The stamp that the tree had when the namespace was last noted not to be halted, or 0.
-    noted: u64,
-}
 
 /// Nodes by the names of their namespaces.
 ///
@@ -36,7 +22,7 @@ pub(crate) struct Place {
 ///
 /// A namespace that isn't halted may be noted by the stamp of the tree. Each change of a node gives the tree another stamp, so that nothing is noted then.
 pub(crate) struct Nodes {
-    places: NameMap<Place>,
+    places: Places,
     /// The greatest number of a place so far.
     drawn: u64,
     /// The stamp of the tree, which it hasn't had before. Where none is left it is 0, and nothing is noted any more.
@@ -61,20 +47,21 @@ impl Nodes {
         ensures notes { AreNoted result }
     {
         Nodes {
-            places: map_by_name(alloc, keys),
+            places: Places::new(alloc, keys),
             drawn: 0,
             stamp: 1,
         }
     }
 
     pub(crate) fn allocator(&self) -> Global {
-        *self.places.allocator()
+        self.places.allocator()
     }
 
     /// How many there are.
     pub(crate) fn len(&self) -> usize
         ensures len { result ≡ length (forest_of self.now) }
         ensures small { result < 2 ^ 63 }
+        ensures unique { IsDistinct bytes_eq (keys_of self.now.places.entries) }
     {
         self.places.len()
     }
@@ -84,26 +71,16 @@ impl Nodes {
         ensures nodes { forest_of self.new ≡ forest_of self.old }
         ensures ways { AllLeadUp self.old → AllLeadUp self.new }
         ensures notes { AreNoted self.old → AreNoted self.new }
-        ensures room { OnOk result (more ≤ spare self.new.places) }
+        ensures room { OnOk result (more ≤ self.new.places.spare) }
     {
-        Ok(self.places.reserve(more)?)
-    }
-
-    /// The place of a namespace.
-    pub(crate) fn place(&self, name: &Text) -> Option<&Place>
-        ensures { option_copied result ≡ place_of self.now name.now }
-    {
-        self.places.get(name)
+        self.places.reserve(more)
     }
 
     /// The node of a namespace.
     pub(crate) fn node(&self, name: &Text) -> Option<&Node>
         ensures { option_copied result ≡ node_of (forest_of self.now) name.now }
     {
-        match self.place(name) {
-            Some(place) => Some(&place.node),
-            None => None,
-        }
+        self.node_in(self.index_of(name))
     }
 
     /// What a namespace names as its parent.
@@ -116,38 +93,75 @@ impl Nodes {
         }
     }
 
-    /// The place of a node's parent, where it has one that is there.
-    pub(crate) fn above(&self, place: &Place) -> Option<&Place>
-        requires ways { AllLeadUp self.now }
-        requires up { LeadsUp (place_of self.now) place.now }
-        ensures value { option_copied result ≡ place_at self.now place.now.node.parent }
-        ensures up { IfSome result (λ p. LeadsUp (place_of self.now) p.now) }
+    /// The index of a namespace.
+    pub(crate) fn index_of(&self, name: &Text) -> Option<usize>
+        ensures { result ≡ index_at self.now (Some name.now) }
     {
-        match self.at_way(place) {
+        self.places.index_of(name)
+    }
+
+    /// The namespace at an index.
+    pub(crate) fn name_in(&self, at: Option<usize>) -> Option<&Text>
+        ensures name { option_copied result ≡ name_in self.now at }
+        ensures unique { IsDistinct bytes_eq (keys_of self.now.places.entries) }
+    {
+        self.places.name(at)
+    }
+
+    /// The node at an index.
+    pub(crate) fn node_in(&self, at: Option<usize>) -> Option<&Node>
+        ensures { option_copied result ≡ node_in (place_in self.now at) }
+    {
+        self.places.node(at)
+    }
+
+    /// Whether a place lies at an index.
+    pub(crate) fn is_place(&self, at: Option<usize>) -> bool
+        ensures { result ≡ is_some (place_in self.now at) }
+    {
+        self.places.step(at).is_some()
+    }
+
+    /// Where the parent of the node at an index lies.
+    pub(crate) fn above(&self, at: Option<usize>) -> Option<usize>
+        requires { AllLeadUp self.now }
+        ensures { result ≡ index_at self.now (parent_in self.now at) }
+    {
+        let step = self.places.step(at)?;
+        match self.at_way(step.up) {
             Some(above) => Some(above),
-            None => self.at_name(place.node.parent.as_ref()),
+            None => self.at_name(self.parent_in(at)),
         }
     }
 
-    /// The place of a node's parent by the way to it, where that comes to it.
-    fn at_way(&self, place: &Place) -> Option<&Place>
-        requires { LeadsUp (place_of self.now) place.now }
-        ensures { IfSome result (λ p. place_at self.now place.now.node.parent ≡ Some p.now) }
+    /// What the node at an index names as its parent.
+    fn parent_in(&self, at: Option<usize>) -> Option<&Text>
+        ensures { option_copied result ≡ parent_in self.now at }
     {
-        let (_, above) = self.places.get_index(place.up.index)?;
-        if above.number > 0 && above.number == place.up.number {
-            Some(above)
+        match self.node_in(at) {
+            Some(node) => node.parent.as_ref(),
+            None => None,
+        }
+    }
+
+    /// Where a way goes, where it comes to a place of its number.
+    fn at_way(&self, up: Way) -> Option<usize>
+        ensures { IfSome result (IsAt self.now up) }
+    {
+        let above = self.places.step(Some(up.index))?;
+        if up.number > 0 && above.number == up.number {
+            Some(up.index)
         } else {
             None
         }
     }
 
-    /// The place of a name that may be none.
-    fn at_name(&self, name: Option<&Text>) -> Option<&Place>
-        ensures { option_copied result ≡ place_at self.now (option_copied name.entry) }
+    /// Where a name lies that may be none.
+    fn at_name(&self, name: Option<&Text>) -> Option<usize>
+        ensures { result ≡ index_at self.now (option_copied name.entry) }
     {
         match name {
-            Some(name) => self.place(name),
+            Some(name) => self.index_of(name),
             None => None,
         }
     }
@@ -156,21 +170,20 @@ impl Nodes {
     fn way_to(&self, parent: Option<&Text>) -> Way
         ensures { result.number ≡ number_at self.now (option_copied parent.entry) }
     {
-        let Some(parent) = parent else {
-            return Way {
-                index: 0,
-                number: 0,
-            };
-        };
-        match self.places.get_full(parent) {
-            Some((index, _, place)) => Way {
-                index,
-                number: place.number,
-            },
-            None => Way {
-                index: 0,
-                number: 0,
-            },
+        let at = self.at_name(parent);
+        Way {
+            index: at.unwrap_or(0),
+            number: self.number_in(at),
+        }
+    }
+
+    /// The number of the place at an index, and 0 where there is none.
+    fn number_in(&self, at: Option<usize>) -> u64
+        ensures { result ≡ option_map_or (λ p. p.number) (place_in self.now at) 0 }
+    {
+        match self.places.step(at) {
+            Some(step) => step.number,
+            None => 0,
         }
     }
 
@@ -179,7 +192,7 @@ impl Nodes {
         ensures nodes { forest_of self.new ≡ forest_of self.old }
         ensures ways { AllLeadUp self.old → AllLeadUp self.new }
         ensures notes { AreNoted self.old → AreNoted self.new }
-        ensures room { spare self.old.places ≤ spare self.new.places }
+        ensures room { self.old.places.spare ≤ self.new.places.spare }
     {
         for name in names {
             self.find_way(name);
@@ -191,23 +204,13 @@ impl Nodes {
         ensures nodes { forest_of self.new ≡ forest_of self.old }
         ensures ways { AllLeadUp self.old → AllLeadUp self.new }
         ensures notes { AreNoted self.old → AreNoted self.new }
-        ensures room { spare self.old.places ≤ spare self.new.places }
+        ensures room { self.old.places.spare ≤ self.new.places.spare }
     {
-        let up = self.way_to(self.parent(name));
-        if let Some(place) = self.places.get_mut(name) {
-            place.up = up;
-        }
-    }
-
-    /// The index of a namespace.
-    pub(crate) fn index_of(&self, name: &Text) -> Option<usize> {
-        self.places.get_index_of(name)
-    }
-
-    /// The namespace at an index.
-    pub(crate) fn name_at(&self, index: usize) -> Option<&Text> {
-        let (name, _) = self.places.get_index(index)?;
-        Some(name)
+        let Some(at) = self.index_of(name) else {
+            return;
+        };
+        let up = self.way_to(self.parent_in(Some(at)));
+        self.places.set_up(at, up);
     }
 
     /// A number that no place has had, or 0 where there is none left.
@@ -229,22 +232,18 @@ impl Nodes {
 
     /// Adds a namespace. It takes no memory.
     pub(crate) fn add(&mut self, name: Text, node: Node)
-        requires { 1 ≤ spare self.old.places }
+        requires absent { is_there (forest_of self.old) name ≡ false }
+        requires room { 1 ≤ self.old.places.spare }
         ensures nodes { forest_of self.new ≡ with_node name node (forest_of self.old) }
         ensures ways { AllLeadUp self.old → AllLeadUp self.new }
         ensures notes { AreNoted self.old → AreNoted self.new }
-        ensures room { spare self.old.places ≤ spare self.new.places + 1 }
+        ensures room { self.old.places.spare ≤ self.new.places.spare + 1 }
     {
         let up = self.way_to(node.parent.as_ref());
         let number = self.draw();
-        let place = Place {
-            node,
-            number,
-            up,
-            noted: 0,
-        };
         self.stamp = stamp_after(self.stamp);
-        let _none = self.places.insert(name, place).unwrap();
+        let noted = 0;
+        self.places.add(name, Step { number, up, noted }, node);
     }
 
     /// Gives a namespace another parent, or none, and gives back the one that it had.
@@ -254,13 +253,14 @@ impl Nodes {
         ensures old { result ≡ parent_of (forest_of self.old) name.now }
         ensures ways { AllLeadUp self.old → AllLeadUp self.new }
         ensures notes { AreNoted self.old → AreNoted self.new }
-        ensures room { spare self.old.places ≤ spare self.new.places }
+        ensures room { self.old.places.spare ≤ self.new.places.spare }
     {
         let up = self.way_to(parent.as_ref());
         self.stamp = stamp_after(self.stamp);
-        let place = self.places.get_mut(name)?;
-        place.up = up;
-        mem::replace(&mut place.node.parent, parent)
+        let at = self.index_of(name)?;
+        let old = self.places.set_parent(at, parent);
+        self.places.set_up(at, up);
+        old
     }
 
     /// Marks a namespace as terminating.
@@ -269,11 +269,11 @@ impl Nodes {
         ensures nodes { forest_of self.new ≡ with_terminating name.now (forest_of self.old) }
         ensures ways { AllLeadUp self.old → AllLeadUp self.new }
         ensures notes { AreNoted self.old → AreNoted self.new }
-        ensures room { spare self.old.places ≤ spare self.new.places }
+        ensures room { self.old.places.spare ≤ self.new.places.spare }
     {
         self.stamp = stamp_after(self.stamp);
-        if let Some(place) = self.places.get_mut(name) {
-            place.node.terminating = true;
+        if let Some(at) = self.index_of(name) {
+            self.places.set_terminating(at);
         }
     }
 
@@ -283,30 +283,31 @@ impl Nodes {
         ensures old { result ≡ parent_of (forest_of self.old) name.now }
         ensures ways { AllLeadUp self.old → AllLeadUp self.new }
         ensures notes { AreNoted self.old → AreNoted self.new }
-        ensures room { spare self.old.places ≤ spare self.new.places }
+        ensures room { self.old.places.spare ≤ self.new.places.spare }
     {
         self.stamp = stamp_after(self.stamp);
-        self.places.swap_remove(name)?.node.parent
+        self.places.remove(name)?.parent
     }
 
-    /// Whether a namespace is noted not to be halted, that has this place.
-    pub(crate) fn is_noted(&self, place: &Place) -> bool
-        ensures { result ≡ true → 0 < self.now.stamp × place.now.noted ≡ self.now.stamp }
+    /// Whether the namespace at an index is noted not to be halted.
+    pub(crate) fn is_noted(&self, at: usize) -> bool
+        ensures { result ≡ true → 0 < self.now.stamp × ((p : Place) → place_in self.now (Some at) ≡ Some p → p.noted ≡ self.now.stamp) }
     {
-        place.noted > 0 && place.noted == self.stamp
+        match self.places.step(Some(at)) {
+            Some(step) => step.noted > 0 && step.noted == self.stamp,
+            None => false,
+        }
     }
 
-    /// Notes that a namespace isn't halted.
-    pub(crate) fn set_noted(&mut self, name: &Text)
-        requires { halt_of (forest_of self.old) name.now ≡ None }
+    /// Notes that the namespace at an index isn't halted.
+    pub(crate) fn set_noted(&mut self, at: usize)
+        requires { (n : List ℕ) × (index_at self.old (Some n) ≡ Some at) × (halt_of (forest_of self.old) n ≡ None) }
         ensures nodes { forest_of self.new ≡ forest_of self.old }
         ensures ways { AllLeadUp self.old → AllLeadUp self.new }
         ensures notes { AreNoted self.old → AreNoted self.new }
-        ensures room { spare self.old.places ≤ spare self.new.places }
+        ensures room { self.old.places.spare ≤ self.new.places.spare }
     {
-        if let Some(place) = self.places.get_mut(name) {
-            place.noted = self.stamp;
-        }
+        self.places.set_noted(at, self.stamp);
     }
 }
 

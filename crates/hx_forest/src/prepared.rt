@@ -72,7 +72,7 @@ pub(crate) fn reserve(
     ensures ways { AllLeadUp nodes.old → AllLeadUp nodes.new }
     ensures notes { AreNoted nodes.old → AreNoted nodes.new }
     ensures names { (q : List ℕ) → option_map (λ n. n.names) (list_of children.new.lists.entries q) ≡ option_map (λ n. n.names) (list_of children.old.lists.entries q) }
-    ensures node_room { OnOk result (length prepared.now ≤ spare nodes.new.places) }
+    ensures node_room { OnOk result (length prepared.now ≤ nodes.new.places.spare) }
     ensures list_room { OnOk result (length prepared.now ≤ spare children.new.lists) }
     ensures fits { OnOk result (AllByRecursion (λ p. FitsUnder (length prepared.now) children.new.lists.entries p.link) prepared.now) }
 {
@@ -112,13 +112,13 @@ pub(crate) fn make(nodes: &mut Nodes, children: &mut Children, prepared: Prepare
     requires may { MayChange prepared.change (forest_of nodes.old) }
     requires index { IsIndex children.old.lists.entries (forest_of nodes.old) }
     requires ready { IsPrepared 1 children.old.lists.entries prepared }
-    requires node_room { 1 ≤ spare nodes.old.places }
+    requires node_room { 1 ≤ nodes.old.places.spare }
     requires list_room { 1 ≤ spare children.old.lists }
     ensures nodes { forest_of nodes.new ≡ changed_by prepared.change (forest_of nodes.old) }
     ensures ways { AllLeadUp nodes.old → AllLeadUp nodes.new }
     ensures notes { AreNoted nodes.old → AreNoted nodes.new }
     ensures index { IsIndex children.new.lists.entries (forest_of nodes.new) }
-    ensures node_room { spare nodes.old.places ≤ spare nodes.new.places + 1 }
+    ensures node_room { nodes.old.places.spare ≤ nodes.new.places.spare + 1 }
     ensures list_room { spare children.old.lists ≤ spare children.new.lists + 1 }
     ensures fits { (k : ℕ) (q : List ℕ) → StartsEmpty (k + 1) prepared.link → Fits (k + 1) (list_of children.old.lists.entries q) → Fits k (list_of children.new.lists.entries q) }
 {
@@ -144,12 +144,9 @@ fn find_ways_to(nodes: &mut Nodes, children: &Children, index: Option<usize>)
     ensures nodes { forest_of nodes.new ≡ forest_of nodes.old }
     ensures ways { AllLeadUp nodes.old → AllLeadUp nodes.new }
     ensures notes { AreNoted nodes.old → AreNoted nodes.new }
-    ensures room { spare nodes.old.places ≤ spare nodes.new.places }
+    ensures room { nodes.old.places.spare ≤ nodes.new.places.spare }
 {
-    let Some(index) = index else {
-        return;
-    };
-    let Some(name) = nodes.name_at(index) else {
+    let Some(name) = nodes.name_in(index) else {
         return;
     };
     let names = children.of(name);
@@ -184,12 +181,12 @@ fn join(children: &mut Children, link: Option<Link>)
 /// Makes a change of nodes. A child that had a parent and has it no more comes back, after that parent.
 fn change_nodes(nodes: &mut Nodes, change: Change) -> Option<(Text, Text)>
     requires may { MayChange change (forest_of nodes.old) }
-    requires room { 1 ≤ spare nodes.old.places }
+    requires room { 1 ≤ nodes.old.places.spare }
     ensures nodes { forest_of nodes.new ≡ changed_by change (forest_of nodes.old) }
     ensures ways { AllLeadUp nodes.old → AllLeadUp nodes.new }
     ensures notes { AreNoted nodes.old → AreNoted nodes.new }
     ensures left { result ≡ left_by change (forest_of nodes.old) }
-    ensures room { spare nodes.old.places ≤ spare nodes.new.places + 1 }
+    ensures room { nodes.old.places.spare ≤ nodes.new.places.spare + 1 }
 {
     match change {
         Change::Add { name, node } => {

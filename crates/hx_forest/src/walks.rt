@@ -1,13 +1,13 @@
 // Walks up the parents.
-ghost use Rattle.std.specs.Prelude.{◌≡◌, ◌+◌, IfOk, IfSome, Some, length, option_copied};
+ghost use Rattle.std.specs.Prelude.{◌≡◌, ◌+◌, IfOk, Some, length};
 ghost use Rattle.std.specs.Iterator.{YieldsFirstRef, item_count};
 ghost use Rattle.hx_model.specs.Forest.{depth_of, in_chain, chain_of};
 ghost use Rattle.hx_model.specs.Walks.{walk_to};
 ghost use Rattle.hx_forest.specs.Inside.{nodes_end};
-ghost use Rattle.hx_forest.specs.Ways.{forest_of, node_in, place_of, LeadsUp, AllLeadUp};
+ghost use Rattle.hx_forest.specs.Ways.{forest_of, node_in, index_at, place_in, AllLeadUp};
 
 use crate::forest::Forest;
-use crate::places::{Nodes, Place};
+use crate::places::Nodes;
 use hx_object::{NoMemory, Text};
 use std::marker::Model;
 
@@ -15,22 +15,21 @@ use std::marker::Model;
 #[derive(Drop)]
 pub struct Ancestors<'a> {
     nodes: &'a Nodes,
-    next: Option<&'a Text>,
-    /// The place of `next`, where it is there.
-    at: Option<&'a Place>,
+    /// The index of the next member.
+    at: Option<usize>,
     left: usize,
 }
 
 impl<'a> Model for Ancestors<'a> {
-    ghost use Rattle.std.specs.Prelude.{◌≡◌, List, ℕ, option_copied};
+    ghost use Rattle.std.specs.Prelude.{List, ℕ};
     ghost use Rattle.hx_forest.specs.Inside.{walk_names};
-    ghost use Rattle.hx_forest.specs.Ways.{forest_of, place_at, AllLeadUp};
+    ghost use Rattle.hx_forest.specs.Ways.{forest_of, name_in, AllLeadUp};
 
     ghost Value = { List (List ℕ) };
 
-    ghost view = { λ a. walk_names a.left (forest_of a.nodes.now) (option_copied a.next) };
+    ghost view = { λ a. walk_names a.left (forest_of a.nodes.now) (name_in a.nodes.now a.at) };
 
-    ghost invariant = { λ a. AllLeadUp a.nodes.now × (option_copied a.at ≡ place_at a.nodes.now (option_copied a.next)) };
+    ghost invariant = { λ a. AllLeadUp a.nodes.now };
 }
 
 impl<'a> Iterator for Ancestors<'a> {
@@ -44,11 +43,9 @@ impl<'a> Iterator for Ancestors<'a> {
         if self.left == 0 {
             return None;
         }
-        let member = self.next?;
-        let place = self.at?;
+        let member = self.nodes.name_in(self.at)?;
         self.left -= 1;
-        self.next = place.node.parent.as_ref();
-        self.at = self.nodes.above(place);
+        self.at = self.nodes.above(self.at);
         Some(member)
     }
 }
@@ -100,10 +97,9 @@ impl Nodes {
         requires { AllLeadUp self.now }
         ensures { result ≡ chain_of (forest_of self.now) name.now }
     {
-        let at = self.place(name);
+        let at = self.index_of(name);
         Ancestors {
             nodes: self,
-            next: Some(name),
             at,
             left: self.chain_len_at(name, at),
         }
@@ -114,13 +110,13 @@ impl Nodes {
         requires { AllLeadUp self.now }
         ensures { result ≡ length (chain_of (forest_of self.now) name.now) }
     {
-        self.chain_len_at(name, self.place(name))
+        self.chain_len_at(name, self.index_of(name))
     }
 
-    /// How many members the chain of a namespace has, whose place is `at` where it is there.
-    fn chain_len_at(&self, name: &Text, at: Option<&Place>) -> usize
+    /// How many members the chain of a namespace has that lies at an index, where it is there.
+    fn chain_len_at(&self, name: &Text, at: Option<usize>) -> usize
         requires ways { AllLeadUp self.now }
-        requires at { option_copied at ≡ place_of self.now name.now }
+        requires at { at ≡ index_at self.now (Some name.now) }
         ensures { result ≡ length (chain_of (forest_of self.now) name.now) }
     {
         match self.walk_len(at) {
@@ -154,22 +150,21 @@ impl Nodes {
         passed
     }
 
-    /// How many namespaces the walk up from a place passes until it ends. None where it goes in a cycle.
-    fn walk_len<'a>(&'a self, first: Option<&'a Place>) -> Option<usize>
-        requires ways { AllLeadUp self.now }
-        requires up { IfSome first (λ p. LeadsUp (place_of self.now) p.now) }
-        ensures { result ≡ nodes_end (length (forest_of self.now) + 1) (forest_of self.now) (node_in (option_copied first.entry)) }
+    /// How many namespaces the walk up from an index passes until it ends. None where it goes in a cycle.
+    fn walk_len(&self, first: Option<usize>) -> Option<usize>
+        requires { AllLeadUp self.now }
+        ensures { result ≡ nodes_end (length (forest_of self.now) + 1) (forest_of self.now) (node_in (place_in self.now first)) }
     {
-        let mut next = first;
+        let mut at = first;
         let mut passed = 0;
         let mut left = self.len() + 1;
         while left > 0 {
             left -= 1;
-            let Some(place) = next else {
+            if !self.is_place(at) {
                 return Some(passed);
-            };
+            }
             passed += 1;
-            next = self.above(place);
+            at = self.above(at);
         }
         None
     }
@@ -187,21 +182,17 @@ impl Nodes {
         requires { AllLeadUp self.now }
         ensures { result ≡ walk_to (length (forest_of self.now)) (forest_of self.now) (Some name.now) above.now }
     {
+        let end = self.index_of(above)?;
         let count = self.len();
-        let mut next = Some(name);
-        let mut at = self.place(name);
+        let mut at = self.index_of(name);
         for steps in 0..count {
-            let Some(member) = next else {
+            let Some(here) = at else {
                 return None;
             };
-            let Some(place) = at else {
-                return None;
-            };
-            if member.as_str() == above.as_str() {
+            if here == end {
                 return Some(steps);
             }
-            next = place.node.parent.as_ref();
-            at = self.above(place);
+            at = self.above(at);
         }
         None
     }

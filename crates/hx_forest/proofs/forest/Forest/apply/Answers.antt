@@ -19,9 +19,9 @@ loop-prepared-preserved c =
     record {
       nodes = ap (changed_by_all (changes_of rest)) c.make.ensures.nodes ∙ (rw split at c.loop-prepared.invariant.nodes);
       none = c.loop-prepared.invariant.none;
-      ready = ready_on nodes (forest_of c.make.new.nodes) before.children.lists.entries c.make.new.children.lists.entries (spare before.nodes.places) (spare before.children.lists)
-          (spare c.make.new.nodes.places) (spare c.make.new.children.lists) p rest
-          (subst (λ (ps : List Prepared). IsReady nodes before.children.lists.entries (spare before.nodes.places) (spare before.children.lists) ps) split c.loop-prepared.invariant.ready)
+      ready = ready_on nodes (forest_of c.make.new.nodes) before.children.lists.entries c.make.new.children.lists.entries before.nodes.places.spare (spare before.children.lists)
+          c.make.new.nodes.places.spare (spare c.make.new.children.lists) p rest
+          (subst (λ (ps : List Prepared). IsReady nodes before.children.lists.entries before.nodes.places.spare (spare before.children.lists) ps) split c.loop-prepared.invariant.ready)
           c.make.ensures.nodes c.make.ensures.index c.make.ensures.node_room c.make.ensures.list_room c.make.ensures.fits;
       ways = c.make.ensures.ways c.loop-prepared.invariant.ways;
       notes = c.make.ensures.notes c.loop-prepared.invariant.notes;

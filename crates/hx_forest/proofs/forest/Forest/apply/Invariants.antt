@@ -13,7 +13,7 @@ abbrev pub invariant-loop-prepared : goal.invariant-loop-prepared
 invariant-loop-prepared l = record {
   nodes : changed_by_all (changes_of (into_iter_items l.prepared-iterator)) (forest_of l.self-inside.nodes) ≡ changed_by_all l.fn.self.staged l.fn.self.nodes;
   none : l.self-inside.staged.items ≡ [];
-  ready : IsReady (forest_of l.self-inside.nodes) l.self-inside.children.lists.entries (spare l.self-inside.nodes.places) (spare l.self-inside.children.lists) (into_iter_items l.prepared-iterator);
+  ready : IsReady (forest_of l.self-inside.nodes) l.self-inside.children.lists.entries l.self-inside.nodes.places.spare (spare l.self-inside.children.lists) (into_iter_items l.prepared-iterator);
   ways : AllLeadUp l.self-inside.nodes;
   notes : AreNoted l.self-inside.nodes;
 }

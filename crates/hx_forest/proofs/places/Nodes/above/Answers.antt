@@ -1,7 +1,6 @@
-use Rattle.std.proofs.Common.{◌∙◌, ap}
-use Rattle.hx_forest.specs.Ways.{place_at}
-use Rattle.hx_forest.proofs.Ways.{up_above}
+use Rattle.std.proofs.Common.{◌∙◌, option_copied, ap, sym}
+use Rattle.hx_forest.proofs.Ways.{step_index}
 use Rattle.hx_forest.proofs.places.Nodes.above.Goals as goal
 
-pub returns-in-None-clause-up : goal.returns-in-None-clause-up
-returns-in-None-clause-up c = up_above c.args.self.now c.args.place.now.node.parent c.at_name.result (c.at_name.ensures ∙ ap (place_at c.args.self.now) c.as_ref.ensures.value) c.requires.ways
+pub returns-in-Some : goal.returns-in-Some
+returns-in-Some c = step_index c.args.self.now c.args.at c.in_ok-step.step.now c.in-Some.above c.step.ensures.unique c.requires (sym (ap option_copied c.in_ok-step.was) ∙ c.step.ensures.step) c.in-Some.ensures

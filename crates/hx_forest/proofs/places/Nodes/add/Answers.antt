@@ -1,31 +1,34 @@
-use Rattle.std.proofs.Common.{◌≡◌, ap, ◌∙◌, Some, cond, subst, ℕ, ◌<◌, ◌≤◌, arith}
+use Rattle.std.proofs.Common.{◌≡◌, ◌∙◌, Some, ap, subst, ℕ, ◌<◌, ◌≤◌, arith}
 use Rattle.std.specs.Map.{lookup}
 use Rattle.std.specs.Str.{bytes_eq}
 use Rattle.std.proofs.lemmas.Option.{same_Some}
-use Rattle.hx_forest.specs.declared.places.Place.{Place}
+use Rattle.hx_forest.specs.Places.{Place}
 use Rattle.hx_forest.specs.Ways.{place_of, number_at}
-use Rattle.hx_forest.proofs.Ways.{put_nodes, ways_add, up_by_number}
+use Rattle.hx_forest.proofs.Placing.{look_added}
+use Rattle.hx_forest.proofs.Ways.{absent_place, put_nodes, ways_add, up_by_number}
 use Rattle.hx_forest.proofs.Notes.{notes_later}
 use Rattle.hx_forest.proofs.places.Nodes.add.Goals as goal
+
+pub add-requires-clause-absent : goal.add-requires-clause-absent
+add-requires-clause-absent c = ap (λ m. lookup (bytes_eq c.args.name) m.entries) c.draw-number.ensures.places ∙ absent_place c.args.self.now c.args.name c.requires.absent
 
 pub returns-clause-nodes : goal.returns-clause-nodes
 returns-clause-nodes c =
     let name = c.args.name in
+    let old = c.args.self.now in
     let place : Place = record { node = c.args.node; number = c.draw-number.result; up = c.way_to-up.result; noted = 0 } in
-    let updates = rw c.unwrap-none.ensures at c.insert.ensures.updates in
-    put_nodes c.insert.new.self.entries c.args.self.now.places.entries name place
-    (λ q. updates.0 q ∙ ap (λ m. cond (bytes_eq name q) (Some place) (lookup (bytes_eq q) m.entries)) c.draw-number.ensures.places)
+    let found = look_added c.add.new.self.entries c.draw-number.new.self.places.entries old.places.entries name place c.add.ensures.entries (ap (λ m. m.entries) c.draw-number.ensures.places) (absent_place old name c.requires.absent) in
+    put_nodes c.add.new.self.entries old.places.entries name place found
 
 pub returns-clause-ways : goal.returns-clause-ways
 returns-clause-ways c = λ links.
     let old = c.args.self.now in
     let name = c.args.name in
     let place : Place = record { node = c.args.node; number = c.draw-number.result; up = c.way_to-up.result; noted = 0 } in
-    let updates = rw c.unwrap-none.ensures at c.insert.ensures.updates in
+    let found = look_added c.add.new.self.entries c.draw-number.new.self.places.entries old.places.entries name place c.add.ensures.entries (ap (λ m. m.entries) c.draw-number.ensures.places) (absent_place old name c.requires.absent) in
     let way : place.up.number ≡ number_at old place.node.parent = c.way_to-up.ensures ∙ ap (number_at old) c.as_ref.ensures.value in
     let up = up_by_number (place_of old) old.drawn place way links in
-    ways_add (place_of old) (place_of (record { places = c.insert.new.self; drawn = c.draw-number.new.self.drawn; stamp = c.stamp_after-self.result })) old.drawn c.draw-number.new.self.drawn name place
-    (λ q. updates.0 q ∙ ap (λ m. cond (bytes_eq name q) (Some place) (lookup (bytes_eq q) m.entries)) c.draw-number.ensures.places)
+    ways_add (place_of old) (place_of (record { places = c.add.new.self; drawn = c.draw-number.new.self.drawn; stamp = c.stamp_after-self.result })) old.drawn c.draw-number.new.self.drawn name place found
     c.draw-number.ensures.grows c.draw-number.ensures.within c.draw-number.ensures.fresh up.1 up.0 links
 
 pub returns-clause-notes : goal.returns-clause-notes
@@ -33,8 +36,7 @@ returns-clause-notes c =
     let old = c.args.self.now in
     let name = c.args.name in
     let place : Place = record { node = c.args.node; number = c.draw-number.result; up = c.way_to-up.result; noted = 0 } in
-    let updates = rw c.unwrap-none.ensures at c.insert.ensures.updates in
-    notes_later old (record { places = c.insert.new.self; drawn = c.draw-number.new.self.drawn; stamp = c.stamp_after-self.result }) name (Some place)
-    (λ q. updates.0 q ∙ ap (λ m. cond (bytes_eq name q) (Some place) (lookup (bytes_eq q) m.entries)) c.draw-number.ensures.places)
+    let found = look_added c.add.new.self.entries c.draw-number.new.self.places.entries old.places.entries name place c.add.ensures.entries (ap (λ m. m.entries) c.draw-number.ensures.places) (absent_place old name c.requires.absent) in
+    notes_later old (record { places = c.add.new.self; drawn = c.draw-number.new.self.drawn; stamp = c.stamp_after-self.result }) name (Some place) found
     (subst (λ (s : ℕ). 0 < c.stamp_after-self.result → (0 < s) × (s < c.stamp_after-self.result)) c.draw-number.ensures.stamp c.stamp_after-self.ensures)
     (λ p same pos. subst (λ (x : Place). x.noted ≤ old.stamp) (same_Some place p same) (omega arith))

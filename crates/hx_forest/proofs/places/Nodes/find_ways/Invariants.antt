@@ -1,5 +1,4 @@
 use Rattle.std.proofs.Common.{◌≡◌, ◌≤◌}
-use Rattle.indexmap.specs.IndexMap.{spare}
 use Rattle.hx_forest.specs.Ways.{forest_of, AllLeadUp}
 use Rattle.hx_forest.specs.Notes.{AreNoted}
 use Rattle.hx_forest.proofs.places.Nodes.find_ways.Given as goal
@@ -10,5 +9,5 @@ invariant-loop-name l = record {
   nodes : forest_of l.self ≡ forest_of l.initial.self;
   ways : AllLeadUp l.initial.self → AllLeadUp l.self;
   notes : AreNoted l.initial.self → AreNoted l.self;
-  room : spare l.initial.self.places ≤ spare l.self.places;
+  room : l.initial.self.places.spare ≤ l.self.places.spare;
 }

@@ -1,10 +1,7 @@
-use Rattle.std.proofs.Common.{◌∙◌, option_copied, option_map, ap, sym}
-use Rattle.hx_forest.specs.declared.places.Place.{Place}
-use Rattle.hx_forest.proofs.Ways.{node_there}
+use Rattle.std.proofs.Common.{◌∙◌, Some, ap}
+use Rattle.hx_forest.specs.Ways.{node_in, place_in}
+use Rattle.hx_forest.proofs.Ways.{node_at_name}
 use Rattle.hx_forest.proofs.places.Nodes.node.Goals as goal
 
-pub returns-in-Some : goal.returns-in-Some
-returns-in-Some c = sym (node_there c.args.self.now c.args.name.now ∙ ap (option_map (λ (p : Place). p.node)) (sym c.place.ensures ∙ ap option_copied c.in-Some.is))
-
-pub returns-in-None : goal.returns-in-None
-returns-in-None c = sym (node_there c.args.self.now c.args.name.now ∙ ap (option_map (λ (p : Place). p.node)) (sym c.place.ensures ∙ ap option_copied c.in-None.is))
+pub returns : goal.returns
+returns c = c.node_in.ensures ∙ ap (λ o. node_in (place_in c.args.self.now o)) c.index_of.ensures ∙ node_at_name c.args.self.now (Some c.args.name.now)

@@ -1,47 +1,22 @@
-use Rattle.std.proofs.Common.{◌≡◌, ap, sym, refl, ◌∙◌, Some, is_some, subst, arith}
-use Rattle.std.specs.Option.{option_copied_mut}
-use Rattle.std.proofs.lemmas.Option.{same_Some}
-use Rattle.hx_forest.specs.declared.places.Place.{Place}
-use Rattle.hx_forest.specs.Ways.{place_of, forest_of, LeadUp}
-use Rattle.hx_forest.specs.Notes.{IsNoted, AreNoted}
-use Rattle.hx_forest.proofs.Ways.{same_nodes, ways_set}
-use Rattle.hx_forest.proofs.Notes.{notes_kept}
+use Rattle.std.proofs.Common.{refl, arith}
+use Rattle.hx_forest.specs.Places.{with_noted}
+use Rattle.hx_forest.proofs.Ways.{ways_changed, nodes_same}
+use Rattle.hx_forest.proofs.Notes.{kept_changed}
 use Rattle.hx_forest.proofs.places.Nodes.set_noted.Goals as goal
 
-pub returns-in-Some-clause-nodes : goal.returns-in-Some-clause-nodes
-returns-in-Some-clause-nodes c =
+pub returns-clause-nodes : goal.returns-clause-nodes
+returns-clause-nodes c =
     let old = c.args.self.now in
-    let name = c.args.name.now in
-    let place = c.in-Some.place.now in
-    let found : place_of old name ≡ Some place = sym c.get_mut.ensures.value ∙ ap option_copied_mut c.in-Some.is in
-    let new : Place = record place { noted = old.stamp } in
-    let updates = (c.get_mut.follows.holds new).3 (ap is_some found) in
-    same_nodes (c.get_mut.follows.lender new).entries old.places.entries name place new found refl updates.0
+    nodes_same old (record old { places = c.set_noted.new.self }) c.requires.0 c.args.at (with_noted old.stamp) c.requires.1 c.set_noted.ensures.entries (λ p. refl)
 
-pub returns-in-Some-clause-ways : goal.returns-in-Some-clause-ways
-returns-in-Some-clause-ways c = λ links.
+pub returns-clause-ways : goal.returns-clause-ways
+returns-clause-ways c = λ links.
     let old = c.args.self.now in
-    let name = c.args.name.now in
-    let place = c.in-Some.place.now in
-    let found : place_of old name ≡ Some place = sym c.get_mut.ensures.value ∙ ap option_copied_mut c.in-Some.is in
-    let new : Place = record place { noted = old.stamp } in
-    let updates = (c.get_mut.follows.holds new).3 (ap is_some found) in
-    ways_set (place_of old) (place_of (record { places = c.get_mut.follows.lender new; drawn = old.drawn; stamp = old.stamp })) old.drawn name place new updates.0 found refl (links.ways name place found) (links.ups name place found) links
+    ways_changed old (record old { places = c.set_noted.new.self }) c.requires.0 c.args.at (with_noted old.stamp) c.requires.1 c.set_noted.ensures.entries refl (λ p. refl)
+    (λ p there. (links.ways c.requires.0 p there, links.ups c.requires.0 p there)) links
 
-pub returns-in-Some-clause-notes : goal.returns-in-Some-clause-notes
-returns-in-Some-clause-notes c = λ notes.
+pub returns-clause-notes : goal.returns-clause-notes
+returns-clause-notes c = λ notes.
     let old = c.args.self.now in
-    let name = c.args.name.now in
-    let place = c.in-Some.place.now in
-    let found : place_of old name ≡ Some place = sym c.get_mut.ensures.value ∙ ap option_copied_mut c.in-Some.is in
-    let new : Place = record place { noted = old.stamp } in
-    let updates = (c.get_mut.follows.holds new).3 (ap is_some found) in
-    let nodes = same_nodes (c.get_mut.follows.lender new).entries old.places.entries name place new found refl updates.0 in
-    notes_kept old (record { places = c.get_mut.follows.lender new; drawn = old.drawn; stamp = old.stamp }) name (Some new) updates.0 refl nodes
-    (λ p same. subst (IsNoted old.stamp (forest_of old) name) (same_Some new p same) (λ pos. (omega arith, λ _. c.requires))) notes
-
-pub returns-in_default-clause-ways : goal.returns-in_default-clause-ways
-returns-in_default-clause-ways c = subst (λ m. LeadUp (place_of (record { places = m; drawn = c.args.self.now.drawn; stamp = c.args.self.now.stamp })) c.args.self.now.drawn) (sym c.get_mut.follows.holds-at-none)
-
-pub returns-in_default-clause-notes : goal.returns-in_default-clause-notes
-returns-in_default-clause-notes c = subst (λ m. AreNoted (record { places = m; drawn = c.args.self.now.drawn; stamp = c.args.self.now.stamp })) (sym c.get_mut.follows.holds-at-none)
+    kept_changed old (record old { places = c.set_noted.new.self }) c.requires.0 c.args.at (with_noted old.stamp) c.requires.1 c.set_noted.ensures.entries refl (returns-clause-nodes c)
+    (λ p there pos. (omega arith, λ _. c.requires.2)) notes

@@ -1,11 +1,24 @@
-use Rattle.std.proofs.Common.{rules, ◌≡◌, ◌+◌, ◌-◌, ◌<◌, true, false, None, Some, length, is_some, option_copied, sym, ap, ◌∙◌, arith}
-use Rattle.std.specs.Str.{bytes_eq}
-use Rattle.hx_model.specs.Forest.{is_there}
+use Rattle.std.proofs.Common.{◌≡◌, ◌+◌, ◌-◌, ◌<◌, Some, length, sym, ap, ◌∙◌, arith}
 use Rattle.hx_model.specs.Walks.{walk_to}
-use Rattle.hx_forest.specs.Ways.{forest_of, node_in, place_at, place_of}
-use Rattle.hx_forest.proofs.Ways.{node_there}
-use Rattle.hx_forest.proofs.Stepping.{to_on, to_out, to_here, counted_on, counted_one}
+use Rattle.hx_forest.specs.Ways.{forest_of, index_at, name_in, parent_in}
+use Rattle.hx_forest.proofs.Stepping.{counted_on, counted_one, counted_none}
+use Rattle.hx_forest.proofs.Indices.{to_begin, to_nowhere, to_found, to_index}
 use Rattle.hx_forest.proofs.places.Nodes.steps_to.Goals as goal
+
+pub returns-in_err-end : goal.returns-in_err-end
+returns-in_err-end c =
+    let nodes = c.args.self.now in
+    c.from_residual.ensures ∙ sym (to_nowhere (length (forest_of nodes)) nodes (Some c.args.name.now) c.args.above.now (sym c.index_of.ensures ∙ c.in_err-end.was))
+
+pub loop-steps-init : goal.loop-steps-init
+loop-steps-init c =
+    let nodes = c.args.self.now in
+    let f = forest_of nodes in
+    let above = c.args.above.now in
+    let all : length f - 0 ≡ length f = omega arith in
+    counted_none (walk_to (length f - 0) f (name_in nodes c.index_of-at.result) above)
+    ∙ (λ i. walk_to (all i) f (name_in nodes (c.index_of-at.ensures i)) above)
+    ∙ to_begin (length f) nodes (Some c.args.name.now) above
 
 pub loop-steps-preserved : goal.loop-steps-preserved
 loop-steps-preserved c =
@@ -13,42 +26,24 @@ loop-steps-preserved c =
     let f = forest_of nodes in
     let above = c.args.above.now in
     let steps = c.loop-steps.steps in
-    let member = c.in-Some.member.now in
-    let place = c.in-Some-at.place.now in
-    let next = option_copied c.loop-steps.next in
-    let here : place_of nodes member ≡ Some place = ap (λ o. place_at nodes (option_copied o)) (sym c.in-Some.is) ∙ sym c.loop-steps.invariant.at ∙ ap option_copied c.in-Some-at.is in
+    let here = c.in-Some.here in
     let some_left : 0 < length f - steps = omega (arith, c.loop-steps-test.true, c.len-count.ensures.len) in
     let one_more : length f - (steps + 1) ≡ length f - steps - 1 = omega arith in
-    let other : bytes_eq member above ≡ false = search rules in
-    let on = to_on (length f - steps) f next member above place.node some_left (ap option_copied c.in-Some.is) (node_there nodes member ∙ ap node_in here) other in
-    record {
-      whole = (λ i. counted_on (steps + 1) (walk_to (one_more i) f (c.as_ref-next.ensures.value i) above))
-          ∙ counted_one steps (walk_to (length f - steps - 1) f place.node.parent above)
-          ∙ ap (counted_on steps) (sym on) ∙ c.loop-steps.invariant.whole;
-      at = c.above-at.ensures.value ∙ ap (place_at nodes) (sym c.as_ref-next.ensures.value);
-      up = c.above-at.ensures.up;
-    }
+    let at : index_at nodes (Some above) ≡ Some c.in_ok-end.end = sym c.index_of.ensures ∙ c.in_ok-end.was in
+    let next : c.above-at.result ≡ index_at nodes (parent_in nodes (Some here)) = c.above-at.ensures in
+    let on = to_index (length f - steps) nodes here c.in_ok-end.end c.above-at.result above some_left c.len-count.ensures.unique at c.if-here-end.false next in
+    ap (λ k. counted_on (steps + 1) (walk_to k f (name_in nodes c.above-at.result) above)) one_more
+    ∙ counted_one steps (walk_to (length f - steps - 1) f (name_in nodes c.above-at.result) above)
+    ∙ ap (counted_on steps) (sym (ap (λ o. walk_to (length f - steps) f (name_in nodes o) above) c.in-Some.is ∙ on)) ∙ c.loop-steps.invariant
 
-pub returns-in_default-at : goal.returns-in_default-at
-returns-in_default-at c =
-    let nodes = c.args.self.now in
-    let f = forest_of nodes in
-    let steps = c.loop-steps.steps in
-    let member = c.in-Some.member.now in
-    let none : place_of nodes member ≡ None = ap (λ o. place_at nodes (option_copied o)) (sym c.in-Some.is) ∙ sym c.loop-steps.invariant.at ∙ ap option_copied c.in_default-at.is in
-    let out : is_there f member ≡ false = ap is_some (node_there nodes member ∙ ap node_in none) in
-    sym (ap (counted_on steps) (to_out (length f - steps) f (option_copied c.loop-steps.next) member c.args.above.now (ap option_copied c.in-Some.is) out)) ∙ c.loop-steps.invariant.whole
-
-pub returns-then-eq : goal.returns-then-eq
-returns-then-eq c =
+pub returns-then-here-end : goal.returns-then-here-end
+returns-then-here-end c =
     let nodes = c.args.self.now in
     let f = forest_of nodes in
     let above = c.args.above.now in
     let steps = c.loop-steps.steps in
-    let member = c.in-Some.member.now in
-    let here : place_of nodes member ≡ Some c.in-Some-at.place.now = ap (λ o. place_at nodes (option_copied o)) (sym c.in-Some.is) ∙ sym c.loop-steps.invariant.at ∙ ap option_copied c.in-Some-at.is in
-    let there : is_there f member ≡ true = ap is_some (node_there nodes member ∙ ap node_in here) in
     let some_left : 0 < length f - steps = omega (arith, c.loop-steps-test.true, c.len-count.ensures.len) in
-    let same : bytes_eq member above ≡ true = search rules in
+    let at : index_at nodes (Some above) ≡ Some c.in-Some.here = sym c.index_of.ensures ∙ c.in_ok-end.was ∙ ap Some (sym c.if-here-end.true) in
     let whole : steps ≡ steps + 0 = omega arith in
-    ap Some whole ∙ sym (ap (counted_on steps) (to_here (length f - steps) f (option_copied c.loop-steps.next) member above some_left (ap option_copied c.in-Some.is) there same)) ∙ c.loop-steps.invariant.whole
+    ap Some whole
+    ∙ sym (ap (counted_on steps) (ap (λ o. walk_to (length f - steps) f (name_in nodes o) above) c.in-Some.is ∙ to_found (length f - steps) nodes c.in-Some.here above some_left at)) ∙ c.loop-steps.invariant

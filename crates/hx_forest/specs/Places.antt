@@ -1,0 +1,80 @@
+-- The places of namespaces, in the order in which they lie.
+--     Place, PlacesView           a node with a step; all of them by their names, and how many more fit without taking memory
+--     place_with, step_of         a place, and the step of it
+--     places_from                 the places of steps and nodes in the same order
+--     index_in, entry_in          where a name lies, and what lies there
+--     changed_at                  a place is another one
+use Rattle.std.specs.Prelude.{ℕ, zero, suc, true, cond, List, [], ◌∷◌, Option, Some, None, option_map, option_and_then, slice_get, refl}
+use Rattle.std.specs.Coded.{Coded, code_by, coded×, coded_list, coded_ℕ}
+use Rattle.std.specs.Str.{bytes_eq}
+use Rattle.hx_model.specs.contracts.node.Node as node
+use Rattle.hx_model.specs.declared.node.Node.{Node}
+use Rattle.hx_forest.specs.contracts.steps.Step as step
+use Rattle.hx_forest.specs.declared.steps.Step.{Step}
+use Rattle.hx_forest.specs.declared.steps.Way.{Way}
+
+-- a node with a number that no other place has had, the way to the place of its parent, and the stamp of its note
+pub record Place : Type 0 where
+  pub node : Node
+  pub number : ℕ
+  pub up : Way
+  pub noted : ℕ
+
+-- the places by their names, and how many more fit without taking memory
+pub record PlacesView : Type 0 where
+  pub entries : List (List ℕ × Place)
+  pub spare : ℕ
+
+-- a place of a step and a node
+abbrev pub place_with : Step → Node → Place
+place_with s n = record { node = n; number = s.number; up = s.up; noted = s.noted }
+
+-- the step of it
+abbrev pub step_of : Place → Step
+step_of p = record { number = p.number; up = p.up; noted = p.noted }
+
+-- both, as a pair
+abbrev pub place_code : Coded Place
+place_code = code_by (Step × Node) (coded× step.the_row.coded node.the_row.coded)
+    (λ p. (step_of p, p.node)) (λ q. place_with q.0 q.1) (λ _. refl)
+
+abbrev pub places_code : Coded PlacesView
+places_code = code_by (List (List ℕ × Place) × ℕ) (coded× (coded_list (coded× (coded_list coded_ℕ) place_code)) coded_ℕ)
+    (λ v. (v.entries, v.spare)) (λ p. record { entries = p.0; spare = p.1 }) (λ _. refl)
+
+-- the places of steps and nodes in the same order
+abbrev pub places_from : List (List ℕ × Step) → List Node → List (List ℕ × Place)
+places_from [] ns = []
+places_from (e ∷ es) [] = []
+places_from (e ∷ es) (n ∷ ns) = (e.0, place_with e.1 n) ∷ places_from es ns
+
+-- where a name lies
+abbrev pub index_in : List (List ℕ × Place) → List ℕ → Option ℕ
+index_in [] n = None
+index_in (e ∷ es) n = cond (bytes_eq n e.0) (Some 0) (option_map (λ i. suc i) (index_in es n))
+
+-- what lies at an index
+abbrev pub entry_in : List (List ℕ × Place) → Option ℕ → Option (List ℕ × Place)
+entry_in es at = option_and_then (slice_get es) at
+
+-- the place at an index is another one
+abbrev pub changed_at : (Place → Place) → ℕ → List (List ℕ × Place) → List (List ℕ × Place)
+changed_at change at [] = []
+changed_at change zero (e ∷ es) = (e.0, change e.1) ∷ es
+changed_at change (suc at) (e ∷ es) = e ∷ changed_at change at es
+
+-- with another way up
+abbrev pub with_up : Way → Place → Place
+with_up up p = record p { up = up }
+
+-- with another stamp
+abbrev pub with_noted : ℕ → Place → Place
+with_noted stamp p = record p { noted = stamp }
+
+-- on its way out
+abbrev pub terminating : Place → Place
+terminating p = record p { node = record (p.node) { terminating = true } }
+
+-- with another parent
+abbrev pub below : Option (List ℕ) → Place → Place
+below parent p = record p { node = record (p.node) { parent = parent } }

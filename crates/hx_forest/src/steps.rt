@@ -1,0 +1,190 @@
+// The places of namespaces: what a step up reads lies by itself.
+ghost use Rattle.std.specs.Prelude.{◌≡◌, ◌+◌, ◌<◌, ◌≤◌, ◌^◌, ◌++◌, ℕ, List, None, Some, cond, [], ◌∷◌, length, option_map, option_and_then, OnOk, option_copied};
+ghost use Rattle.std.specs.List.{IsDistinct};
+ghost use Rattle.std.specs.Map.{keys_of, lookup};
+ghost use Rattle.std.specs.Str.{bytes_eq};
+ghost use Rattle.hx_forest.specs.Places.{place_with, step_of, index_in, entry_in, changed_at, with_up, with_noted, terminating, below};
+
+use crate::children::{NameMap, map_by_name};
+use hx_model::Node;
+use hx_object::{NoMemory, Text};
+use std::alloc::Global;
+use std::hash::RandomState;
+use std::marker::Model;
+use std::mem;
+
+/// Where the place of a parent was when it was looked up, and its number. The number 0 is that of no place.
+#[derive(Clone, Copy)]
+pub(crate) struct Way {
+    pub(crate) index: usize,
+    pub(crate) number: u64,
+}
+
+/// What a walk up reads of a place: a number that no other place has had, and the way to the place of the parent.
+#[derive(Clone, Copy)]
+pub(crate) struct Step {
+    pub(crate) number: u64,
+    pub(crate) up: Way,
+    /// The stamp that the tree had when the namespace was last noted not to be halted, or 0.
+    pub(crate) noted: u64,
+}
+
+/// Places by the names of their namespaces. The steps lie in a vector of their own, and the nodes in the same order in another.
+pub(crate) struct Places {
+    steps: NameMap<Step>,
+    nodes: Vec<Node>,
+}
+
+impl Drop for Places {
+    fn drop(self) {
+        let Places { steps: _, nodes: _ } = self;
+    }
+}
+
+impl Model for Places {
+    ghost use Rattle.std.specs.Prelude.{◌≡◌, ◌-◌, length, min, vec_len};
+    ghost use Rattle.std.specs.List.{IsDistinct};
+    ghost use Rattle.std.specs.Map.{keys_of};
+    ghost use Rattle.std.specs.Str.{bytes_eq};
+    ghost use Rattle.std.specs.Vec.{vec_capacity};
+    ghost use Rattle.indexmap.specs.IndexMap.{spare};
+    ghost use Rattle.hx_forest.specs.Places.{PlacesView, places_code, places_from};
+
+    ghost Value = { PlacesView };
+
+    ghost coded = { places_code };
+
+    ghost view = { λ p. record { entries = places_from p.steps.entries p.nodes.items; spare = min (spare p.steps) (vec_capacity p.nodes - vec_len p.nodes) } };
+
+    ghost invariant = { λ p. (length p.steps.entries ≡ length p.nodes.items) × IsDistinct bytes_eq (keys_of p.steps.entries) };
+}
+
+impl Places {
+    /// No places. It takes no memory.
+    pub(crate) fn new(alloc: Global, keys: RandomState) -> Places
+        ensures { result.entries ≡ [] }
+    {
+        Places {
+            steps: map_by_name(alloc, keys),
+            nodes: Vec::new(alloc),
+        }
+    }
+
+    pub(crate) fn allocator(&self) -> Global {
+        *self.steps.allocator()
+    }
+
+    /// How many there are.
+    pub(crate) fn len(&self) -> usize
+        ensures len { result ≡ length self.now.entries }
+        ensures small { result < 2 ^ 63 }
+        ensures unique { IsDistinct bytes_eq (keys_of self.now.entries) }
+    {
+        self.steps.len()
+    }
+
+    /// Makes room for `more`. Where no memory is left, the room stays.
+    pub(crate) fn reserve(&mut self, more: usize) -> Result<(), NoMemory>
+        ensures entries { self.new.entries ≡ self.old.entries }
+        ensures room { OnOk result (more ≤ self.new.spare) }
+    {
+        self.steps.reserve(more)?;
+        Ok(self.nodes.reserve(more)?)
+    }
+
+    /// The index of a namespace.
+    pub(crate) fn index_of(&self, name: &Text) -> Option<usize>
+        ensures { result ≡ index_in self.now.entries name.now }
+    {
+        self.steps.get_index_of(name)
+    }
+
+    /// The namespace at an index.
+    pub(crate) fn name(&self, at: Option<usize>) -> Option<&Text>
+        ensures name { option_copied result ≡ option_map (λ e. e.0) (entry_in self.now.entries at) }
+        ensures unique { IsDistinct bytes_eq (keys_of self.now.entries) }
+    {
+        let (name, _) = self.steps.get_index(at?)?;
+        Some(name)
+    }
+
+    /// The step at an index.
+    pub(crate) fn step(&self, at: Option<usize>) -> Option<&Step>
+        ensures step { option_copied result ≡ option_map (λ e. step_of e.1) (entry_in self.now.entries at) }
+        ensures unique { IsDistinct bytes_eq (keys_of self.now.entries) }
+    {
+        let (_, step) = self.steps.get_index(at?)?;
+        Some(step)
+    }
+
+    /// The node at an index.
+    pub(crate) fn node(&self, at: Option<usize>) -> Option<&Node>
+        ensures { option_copied result ≡ option_map (λ e. e.1.node) (entry_in self.now.entries at) }
+    {
+        self.nodes.get(at?)
+    }
+
+    /// Adds a place at the end. It takes no memory.
+    pub(crate) fn add(&mut self, name: Text, step: Step, node: Node)
+        requires absent { lookup (bytes_eq name) self.old.entries ≡ None }
+        requires room { 1 ≤ self.old.spare }
+        ensures entries { self.new.entries ≡ self.old.entries ++ (name, place_with step node) ∷ [] }
+        ensures room { self.old.spare ≤ self.new.spare + 1 }
+    {
+        let _none = self.steps.insert(name, step).unwrap();
+        self.nodes.push(node).unwrap();
+    }
+
+    /// Takes a place out, and puts the last one where it lay. The node comes back.
+    pub(crate) fn remove(&mut self, name: &Text) -> Option<Node>
+        ensures node { result ≡ option_map (λ p. p.node) (lookup (bytes_eq name.now) self.old.entries) }
+        ensures entries { (q : List ℕ) → lookup (bytes_eq q) self.new.entries ≡ cond (bytes_eq name.now q) None (lookup (bytes_eq q) self.old.entries) }
+        ensures room { self.old.spare ≤ self.new.spare }
+    {
+        let (at, _, _) = self.steps.swap_remove_full(name)?;
+        Some(self.nodes.swap_remove(at))
+    }
+
+    /// Gives the place at an index another way up.
+    pub(crate) fn set_up(&mut self, at: usize, up: Way)
+        ensures entries { self.new.entries ≡ changed_at (with_up up) at self.old.entries }
+        ensures room { self.old.spare ≤ self.new.spare }
+    {
+        let Some(step) = self.steps.get_index_mut(at) else {
+            return;
+        };
+        step.up = up;
+    }
+
+    /// Gives the place at an index another stamp.
+    pub(crate) fn set_noted(&mut self, at: usize, stamp: u64)
+        ensures entries { self.new.entries ≡ changed_at (with_noted stamp) at self.old.entries }
+        ensures room { self.old.spare ≤ self.new.spare }
+    {
+        let Some(step) = self.steps.get_index_mut(at) else {
+            return;
+        };
+        step.noted = stamp;
+    }
+
+    /// Marks the node at an index as terminating.
+    pub(crate) fn set_terminating(&mut self, at: usize)
+        ensures entries { self.new.entries ≡ changed_at terminating at self.old.entries }
+        ensures room { self.old.spare ≤ self.new.spare }
+    {
+        let Some(node) = self.nodes.get_mut(at) else {
+            return;
+        };
+        node.terminating = true;
+    }
+
+    /// Gives the node at an index another parent, or none, and gives back the one that it had.
+    pub(crate) fn set_parent(&mut self, at: usize, parent: Option<Text>) -> Option<Text>
+        ensures entries { self.new.entries ≡ changed_at (below parent) at self.old.entries }
+        ensures old { result ≡ option_and_then (λ p. p.node.parent) (option_map (λ e. e.1) (entry_in self.old.entries (Some at))) }
+        ensures room { self.old.spare ≤ self.new.spare }
+    {
+        let node = self.nodes.get_mut(at)?;
+        mem::replace(&mut node.parent, parent)
+    }
+}
