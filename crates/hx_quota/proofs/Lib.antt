@@ -31,3 +31,4 @@ pub mod CountingAdded
 pub mod CountingRemoved
 pub mod DeltasAmong
 pub mod Staged
+pub mod Rows

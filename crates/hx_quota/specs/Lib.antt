@@ -4,3 +4,4 @@ pub mod Limiting
 pub mod Inside
 pub mod SubtreeUsage
 pub mod Anew
+pub mod SumRows

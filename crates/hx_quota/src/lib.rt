@@ -16,6 +16,7 @@ mod planting;
 mod shifting;
 mod staging;
 mod subtrees;
+mod sum_table;
 mod walking;
 mod walks;
 
