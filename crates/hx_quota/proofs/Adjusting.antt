@@ -14,7 +14,7 @@ use Rattle.hx_model.specs.declared.resource.Resource.{Resource}
 use Rattle.hx_model.specs.declared.resource.Resource.TheVariants.{Pods, RequestsCpu, RequestsMemory, LimitsCpu, LimitsMemory, RequestsStorage, CountRoles, CountRoleBindings, CountConfigMaps, CountSecrets, CountNetworkPolicies, CountLimitRanges, CountPods, CountServices, CountClaims}
 use Rattle.hx_model.proofs.Climbing.{is_same, same_itself}
 use Rattle.hx_model.proofs.Parents.{swap_same}
-use Rattle.hx_quota.specs.declared.places.Place.{Place}
+use Rattle.hx_quota.specs.PlaceRows.{Place}
 use Rattle.hx_quota.specs.Counters.{place_of}
 use Rattle.hx_quota.specs.Inside.{Places, place_at, adjusted, MayAdjust, IsAdjusted}
 

@@ -19,7 +19,7 @@ use Rattle.hx_model.proofs.Climbing.{is_same, same_itself}
 use Rattle.hx_model.proofs.Parents.{swap_same}
 use Rattle.hx_quota.specs.declared.change.CounterChange.{CounterChange}
 use Rattle.hx_quota.specs.declared.change.CounterChange.TheVariants.{Move}
-use Rattle.hx_quota.specs.declared.entry.Entry.{Entry}
+use Rattle.hx_quota.specs.Counters.{Entry}
 use Rattle.hx_quota.specs.Counters.{Entries, entry_of, node_for, own_of, with_entry, new_entry, with_parent}
 use Rattle.hx_quota.specs.Counting.{Counts, if_there, parent_there, own_charge, changed, changed_all, MayChange, MayChangeAll, under_parent, taken_in, changes_of_tree}
 use Rattle.hx_quota.proofs.CountingMoves.{changed_both, may_both, steps, HasTree, counted, has_moved, has_alike, child_parent, child_there, among_children, not_among}

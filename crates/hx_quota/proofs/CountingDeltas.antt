@@ -21,7 +21,7 @@ use Rattle.hx_model.specs.declared.resource.Resource.{Resource}
 use Rattle.hx_model.specs.declared.resource.Resource.TheVariants.{Pods, RequestsCpu, RequestsMemory, LimitsCpu, LimitsMemory, RequestsStorage, CountRoles, CountRoleBindings, CountConfigMaps, CountSecrets, CountNetworkPolicies, CountLimitRanges, CountPods, CountServices, CountClaims}
 use Rattle.hx_model.proofs.Parents.{out_head, out_tail}
 use Rattle.hx_quota.specs.declared.entry.Delta.{Delta}
-use Rattle.hx_quota.specs.declared.entry.Entry.{Entry}
+use Rattle.hx_quota.specs.Counters.{Entry}
 use Rattle.hx_quota.specs.Counters.{Entries, entry_of, place_of, own_of, is_of, shifted, total_of, with_shifted, AreApart, HaveOld, AllFit}
 use Rattle.hx_quota.specs.Counting.{is_recharged, delta_by, deltas_of}
 use Rattle.hx_quota.proofs.Cutting.{sum-changed}

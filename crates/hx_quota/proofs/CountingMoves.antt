@@ -23,7 +23,7 @@ use Rattle.hx_model.proofs.Parents.{is_in_filter}
 use Rattle.hx_model.proofs.Walking.{names_have}
 use Rattle.hx_quota.specs.declared.change.CounterChange.{CounterChange}
 use Rattle.hx_quota.specs.declared.change.CounterChange.TheVariants.{Add, Move, Shift, Remove}
-use Rattle.hx_quota.specs.declared.entry.Entry.{Entry}
+use Rattle.hx_quota.specs.Counters.{Entry}
 use Rattle.hx_quota.specs.Counters.{Entries, entry_of, tree_of, own_of, own_in, with_entry, new_entry, without_entry, with_parent, AllFit}
 use Rattle.hx_quota.specs.Counting.{Counts, own_charge, parent_there, changed, changed_all, MayChange, MayChangeAll}
 use Rattle.hx_quota.proofs.Entries.{ascends, changed_entry, ascends-with_entry, ascends-with_changed, ascends-without_entry}

@@ -30,7 +30,7 @@ use Rattle.hx_model.proofs.Objects.{is_same_id, object_at-put, object_at-put_its
 use Rattle.hx_model.proofs.Rising.{sum_less}
 use Rattle.hx_model.proofs.Writes.{ascends_after}
 use Rattle.hx_quota.specs.declared.entry.Delta.{Delta}
-use Rattle.hx_quota.specs.declared.entry.Entry.{Entry}
+use Rattle.hx_quota.specs.Counters.{Entry}
 use Rattle.hx_quota.specs.Counters.{Entries, entry_of, own_of, with_changed}
 use Rattle.hx_quota.specs.Counting.{Counts, AreRegular, charge_in, own_charge, deltas_of}
 use Rattle.hx_quota.proofs.CountingDeltas.{shifted_at, shift_deltas, apart_deltas, deltas_none, none_deltas}

@@ -21,7 +21,7 @@ use Rattle.hx_model.proofs.Parents.{swap_same}
 use Rattle.hx_model.proofs.Walking.{both}
 use Rattle.hx_quota.specs.declared.change.CounterChange.{CounterChange}
 use Rattle.hx_quota.specs.declared.change.CounterChange.TheVariants.{Move, Remove}
-use Rattle.hx_quota.specs.declared.entry.Entry.{Entry}
+use Rattle.hx_quota.specs.Counters.{Entry}
 use Rattle.hx_quota.specs.Counters.{Entries, entry_of, node_for, tree_of, own_of, without_entry, with_parent}
 use Rattle.hx_quota.specs.Counting.{Counts, if_there, parent_there, own_charge, changed, changed_all, MayChange, MayChangeAll, let_go, changes_of_tree}
 use Rattle.hx_quota.proofs.CountingMoves.{changed_both, may_both, steps, HasTree, has_counted, counted, has_moved, has_alike, child_there, among_children, not_among}

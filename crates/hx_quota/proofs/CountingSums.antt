@@ -32,7 +32,7 @@ use Rattle.hx_model.proofs.Admitting.{charged_plain}
 use Rattle.hx_model.proofs.Climbing.{is_same, same_itself}
 use Rattle.hx_model.proofs.Objects.{is_same_id}
 use Rattle.hx_model.proofs.Parents.{swap_same}
-use Rattle.hx_quota.specs.declared.entry.Entry.{Entry}
+use Rattle.hx_quota.specs.Counters.{Entry}
 use Rattle.hx_quota.specs.Counters.{Entries, entry_of, tree_of, own_of, part_of, used_in, without_entry}
 use Rattle.hx_quota.specs.Counting.{Counts, AreRegular, charge_in, own_charge}
 use Rattle.hx_quota.proofs.CountingChains.{chains}

@@ -15,7 +15,7 @@ use Rattle.hx_model.specs.Moves.{chain_from}
 use Rattle.hx_model.proofs.Climbing.{Above, itself, through, chain_above, is_same, same_itself, none_there}
 use Rattle.hx_model.proofs.Opening.{chain_first}
 use Rattle.hx_model.proofs.Walking.{chain_there}
-use Rattle.hx_quota.specs.declared.places.Place.{Place}
+use Rattle.hx_quota.specs.PlaceRows.{Place}
 use Rattle.hx_quota.specs.Counters.{Entries, tree_of}
 use Rattle.hx_quota.specs.Inside.{Places, place_at, ordered, AreClosed, IsFree, ends_by, ends_up, AllEnd}
 use Rattle.hx_quota.specs.Anew.{all_ended}

@@ -16,7 +16,7 @@ use Rattle.std.proofs.lemmas.Map.Lookups.{exact_bytes}
 use Rattle.hx_object.specs.Texts.{bytes_cmp}
 use Rattle.hx_model.proofs.Climbing.{is_same, same_itself}
 use Rattle.hx_model.proofs.Objects.{same_test, swap_tests}
-use Rattle.hx_quota.specs.declared.entry.Entry.{Entry}
+use Rattle.hx_quota.specs.Counters.{Entry}
 use Rattle.hx_quota.specs.Counters.{Entries, entry_of, with_entry, without_entry, with_changed}
 use Rattle.hx_quota.specs.Inside.{entries_from}
 

@@ -6,7 +6,7 @@ use Rattle.hx_object.specs.declared.object.Limit.{Limit}
 use Rattle.hx_model.specs.Charges.{resource_named}
 use Rattle.hx_model.specs.declared.resource.Resource.TheVariants.{Pods, RequestsCpu, CountClaims}
 use Rattle.hx_quota.specs.declared.entry.Delta.{Delta}
-use Rattle.hx_quota.specs.declared.entry.Entry.{Entry}
+use Rattle.hx_quota.specs.Counters.{Entry}
 use Rattle.hx_quota.specs.declared.limiting.QuotaRow.{QuotaRow}
 use Rattle.hx_quota.specs.Counters.{Entries, own_in, used_in, total_of, with_entry, new_entry, without_entry, with_parent, with_shifted}
 use Rattle.hx_quota.specs.Limiting.{first_over}

@@ -9,7 +9,7 @@ use Rattle.hx_model.specs.Forest.{Forest, in_chain}
 use Rattle.hx_model.specs.declared.resource.Resource.{Resource}
 use Rattle.hx_model.specs.declared.resource.Resource.TheVariants.{Pods, RequestsCpu, RequestsMemory, LimitsCpu, LimitsMemory, RequestsStorage, CountRoles, CountRoleBindings, CountConfigMaps, CountSecrets, CountNetworkPolicies, CountLimitRanges, CountPods, CountServices, CountClaims}
 use Rattle.hx_model.proofs.Climbing.{same_itself}
-use Rattle.hx_quota.specs.declared.entry.Entry.{Entry}
+use Rattle.hx_quota.specs.Counters.{Entry}
 use Rattle.hx_quota.specs.Counters.{Entries, entry_of, own_of, part_of, total_of, with_entry, new_entry, without_entry, with_changed, with_parent, AllFit}
 use Rattle.hx_quota.proofs.Entries.{changed_entry}
 use Rattle.hx_quota.proofs.Sums.{sum-with_entry, sum-without_entry, sum-same, part-le}

@@ -3,18 +3,22 @@
 --     IsUnderway                       the sums along a chain are adjusted, but for those of names that are left
 --     begun, more_of, ended            it is so at first, after a step, and at the end
 --     shorter_left, may_step           less is left after a step;  the next sums may be adjusted
---     parent_is, index_chain, index_walks, all_named, name_found, own_is   what is found by an index
+--     parent_index, index_chain, index_walks, all_named, name_found, own_is   what is found by an index
+--     ends_next                        whether walks from a place and from those behind it end
+--     sum_on, sum_on_le                what the first of some entries add, and one more
 --     may_add, added                   what a namespace has may be added, and then one more of the first places is in the sums
 --     cleared_end, cleared_none        where no place has sums
 --     all_added                        where all are in the sums, these are those of subtrees
-use Rattle.std.specs.Prelude.{is_some, option_and_then, slice_get, slice_index, sum_by, take, get_or, position, IfSome}
+use Rattle.std.specs.Prelude.{is_some, option_and_then, slice_get, slice_index, sum_by, take, drop, get_or, position, IfSome}
 use Rattle.std.proofs.Common.{◌≡◌, ℕ, zero, suc, ◌+◌, ◌-◌, ◌<◌, ◌≤◌, ◌^◌, Bool, true, false, cond, not, ◌&&◌, Option, Some, None, option_map, List, [], ◌∷◌, length, replicate, refl, sym, ap, ◌∙◌, subst, arith, true≢false}
-use Rattle.std.specs.List.{IsDistinct}
+use Rattle.std.specs.List.{IsDistinct, list_all}
 use Rattle.std.specs.Map.{keys_of}
 use Rattle.std.specs.Option.{option_map_or}
 use Rattle.std.specs.Str.{bytes_eq}
 use Rattle.std.proofs.lemmas.List.{take_all}
 use Rattle.std.proofs.lemmas.List.Sums.{sum_by_more, sum_by_more_le}
+use Rattle.std.proofs.lemmas.Cmp.{nat_list_eq_equiv}
+use Rattle.std.proofs.lemmas.Map.Entries.{lookup_from_place}
 use Rattle.std.proofs.lemmas.Option.{none-some, same_Some, slice_get_within, slice_get-get_or, get_or_from_slice_get}
 use Rattle.hx_model.specs.Forest.{Forest, is_in, is_there, parent_of, chain_of, in_chain}
 use Rattle.hx_model.specs.Moves.{chain_from}
@@ -23,10 +27,10 @@ use Rattle.hx_model.specs.declared.node.Node.{Node}
 use Rattle.hx_model.specs.declared.resource.Resource.{Resource}
 use Rattle.hx_model.proofs.Climbing.{is_same, same_itself}
 use Rattle.hx_model.proofs.Walking.{chain_missing}
-use Rattle.hx_quota.specs.declared.entry.Entry.{Entry}
-use Rattle.hx_quota.specs.declared.places.Place.{Place}
+use Rattle.hx_quota.specs.Counters.{Entry}
+use Rattle.hx_quota.specs.PlaceRows.{Place}
 use Rattle.hx_quota.specs.Counters.{Entries, node_for, new_entry, tree_of, own_of, part_of, place_of, AllFit}
-use Rattle.hx_quota.specs.Inside.{Places, entries_from, entries_in, ordered, place_at, adjusted, MayAdjust, IsAdjusted, IsSummed, AllEnd}
+use Rattle.hx_quota.specs.Inside.{Places, entries_from, entries_in, ordered, place_at, adjusted, MayAdjust, IsAdjusted, IsSummed, AllEnd, ends_by, ends_up}
 use Rattle.hx_quota.specs.Anew.{all_ended, name_at, chain_at, chain_behind, walk_from, with_sums, cleared, HasFirst}
 use Rattle.hx_quota.proofs.Adjusting.{is_done, here_left, next_distinct, next_inside, may_now, adjusted_one, may_by, was_there}
 use Rattle.hx_quota.proofs.Deltas.{in_place}
@@ -162,14 +166,21 @@ module _ (take give : List ℕ) (was now : Places) (names : List (List ℕ)) (al
 
 -- ---- indices and names
 
-pub parent_is : (places : Places) (at : ℕ) (n : List ℕ) (p : Place) → slice_get places at ≡ Some (n, p) → place_at places n ≡ Some p → p.entry.parent ≡ option_and_then (parent_of (tree_of (ordered places))) (name_at (entries_in places) at)
+parent_is : (places : Places) (at : ℕ) (n : List ℕ) (p : Place) → slice_get places at ≡ Some (n, p) → place_at places n ≡ Some p → p.entry.parent ≡ option_and_then (parent_of (tree_of (ordered places))) (name_at (entries_in places) at)
 parent_is places at n p is found =
     sym (ap (λ (o : Option (List ℕ)). option_and_then (parent_of (tree_of (ordered places))) o) (name_of (entries_in places) places refl at n p is)
     ∙ ap (λ (o : Option Node). option_and_then (λ node. node.parent) o) (node_of-tree (ordered places) n ∙ ap (λ (o : Option Entry). option_map node_for o) (entry_at places n ∙ ap entry_in found)))
 
-pub no_parent : (places : Places) (at : ℕ) → slice_get places at ≡ None → None ≡ option_and_then (parent_of (tree_of (ordered places))) (name_at (entries_in places) at)
+no_parent : (places : Places) (at : ℕ) → slice_get places at ≡ None → None ≡ option_and_then (parent_of (tree_of (ordered places))) (name_at (entries_in places) at)
 no_parent places at none =
     sym (ap (λ (o : Option Pair). option_and_then (parent_of (tree_of (ordered places))) (option_map (λ e. e.0) o)) (entry_index places at ∙ ap (λ (o : Option (List ℕ × Place)). option_map (λ x. (x.0, x.1.entry)) o) none))
+
+pub parent_index : (places : Places) (at : ℕ) → IsDistinct bytes_eq (keys_of places) → option_and_then (λ (e : List ℕ × Place). e.1.entry.parent) (slice_get places at) ≡ option_and_then (parent_of (tree_of (ordered places))) (name_at (entries_in places) at)
+parent_index places at distinct = by (slice_get places at) refl
+  where
+    by : (o : Option (List ℕ × Place)) → slice_get places at ≡ o → option_and_then (λ (e : List ℕ × Place). e.1.entry.parent) o ≡ option_and_then (parent_of (tree_of (ordered places))) (name_at (entries_in places) at)
+    by None is = no_parent places at is
+    by (Some e) is = parent_is places at e.0 e.1 is (lookup_from_place nat_list_eq_equiv places at e.0 e.1 distinct is)
 
 key_index : (places : Places) (i : ℕ) → name_at (entries_in places) i ≡ slice_get (keys_of places) i
 key_index [] i = refl
@@ -216,13 +227,30 @@ pub name_found : (o : Option (List ℕ)) (n : List ℕ) → option_map_or (λ m.
 name_found None n h = absurd (true≢false (sym h))
 name_found (Some m) n h = ap Some (is_same m n h)
 
-pub own_is : (places : Places) (at : ℕ) (m : List ℕ) (p : Place) → slice_get places at ≡ Some (m, p) → (n : List ℕ) (entry : Entry) → slice_get (entries_in places) at ≡ Some (n, entry) → p.entry.own ≡ entry.own
-own_is places at m p is n entry found =
-    ap (λ (e : Pair). e.1.own) (same_Some {A = Pair} (m, p.entry) (n, entry) (sym (entry_index places at ∙ ap (λ (o : Option (List ℕ × Place)). option_map (λ x. (x.0, x.1.entry)) o) is) ∙ found))
+pub own_is : (es : Rows) (at : ℕ) (o : Option (List ℕ)) → o ≡ option_map (λ (e : Pair). e.1.own) (slice_get es at) → (n : List ℕ) (entry : Entry) → slice_get es at ≡ Some (n, entry) → o ≡ Some entry.own
+own_is es at o is n entry found = is ∙ ap (λ (w : Option Pair). option_map (λ e. e.1.own) w) found
 
-pub own_none : (places : Places) (at : ℕ) → slice_get places at ≡ None → (own : List ℕ) (n : List ℕ) (entry : Entry) → slice_get (entries_in places) at ≡ Some (n, entry) → own ≡ entry.own
-own_none places at none own n entry found =
-    absurd (none-some {A = Pair} (n, entry) (sym (entry_index places at ∙ ap (λ (o : Option (List ℕ × Place)). option_map (λ x. (x.0, x.1.entry)) o) none) ∙ found))
+-- whether the walks from the places at an index and behind it end
+pub ends_next : (f : Forest) (places : Places) (at : ℕ) (b : Bool) → at < length places → b ≡ ends_by (length f) f (name_at (entries_in places) at)
+    → list_all (λ (e : List ℕ × Place). ends_up f e.0) (drop at places) ≡ (b && list_all (λ (e : List ℕ × Place). ends_up f e.0) (drop (at + 1) places))
+ends_next f places at b within is = from places at within is ∙ (let on : suc at ≡ at + 1 = omega arith in ap (λ k. b && list_all (λ (e : List ℕ × Place). ends_up f e.0) (drop k places)) on)
+  where
+    from : (xs : Places) (k : ℕ) → k < length xs → b ≡ ends_by (length f) f (name_at (entries_in xs) k)
+        → list_all (λ (e : List ℕ × Place). ends_up f e.0) (drop k xs) ≡ (b && list_all (λ (e : List ℕ × Place). ends_up f e.0) (drop (suc k) xs))
+    from [] k lies at_first = absurd (omega (arith, lies))
+    from (e ∷ xs) zero lies at_first = ap (λ c. c && list_all (λ (x : List ℕ × Place). ends_up f x.0) xs) (sym at_first)
+    from (e ∷ xs) (suc k) lies at_first = from xs k (omega (arith, lies)) at_first
+
+-- what the first of some entries add, and one more of them
+module _ (part : Pair → ℕ) (es : Rows) (at : ℕ) (within : at < length es) where
+  row_at : slice_get es at ≡ Some (get_or es at ([], new_entry))
+  row_at = slice_get-get_or es at ([], new_entry) within
+
+  pub sum_on : sum_by part (take (at + 1) es) ≡ sum_by part (take at es) + option_map_or part (slice_get es at) 0
+  sum_on = sum_by_more part es at ([], new_entry) within ∙ sym (ap (λ (o : Option Pair). sum_by part (take at es) + option_map_or part o 0) row_at)
+
+  pub sum_on_le : sum_by part (take at es) + option_map_or part (slice_get es at) 0 ≤ sum_by part es
+  sum_on_le = subst (λ (o : Option Pair). sum_by part (take at es) + option_map_or part o 0 ≤ sum_by part es) (sym row_at) (sum_by_more_le part es at ([], new_entry) within)
 
 -- ---- namespace by namespace
 

@@ -1,27 +1,26 @@
 -- Places by their indices.
 --     entry_index, found_index      the entry at an index is that of the place, which is found under its name
---     entries_with, place_with      entries and places where one has other sums
---     value_with, none_with         the same of a value that is written at its index
---     sums_at_value, no_value       what is found there
+--     entries_with, place_changed, place_with      entries and places where one is changed, and where it has other sums
+--     kept_sums                     sums that stay
+--     place_added                   a place that is added
 --     index_found                   the index of a name has that name
 --     cleared_to, clear_one, clear_all, cleared_first      places without sums, from the first one on
 use Rattle.std.specs.Prelude.{slice_get, slice_index, position, find, get_or}
-use Rattle.std.proofs.Common.{◌≡◌, ℕ, zero, suc, ◌<◌, Bool, true, false, cond, Some, None, option_map, List, [], ◌∷◌, length, replicate, refl, sym, ap, ◌∙◌, subst, true≢false}
+use Rattle.std.proofs.Common.{◌≡◌, ℕ, zero, suc, ◌<◌, Bool, true, false, cond, Some, None, option_map, List, [], ◌∷◌, ◌++◌, length, replicate, refl, sym, ap, ◌∙◌, subst, true≢false}
 use Rattle.std.specs.List.{AllByRecursion, IsDistinct, position_or_len}
-use Rattle.std.specs.Map.{keys_of, values_of}
+use Rattle.std.specs.Map.{keys_of}
 use Rattle.std.specs.Str.{bytes_eq}
 use Rattle.std.proofs.lemmas.Cmp.{nat_list_eq_equiv}
 use Rattle.std.proofs.lemmas.List.Folds.{find_at}
 use Rattle.std.proofs.lemmas.Map.Entries.{lookup_from_place}
 use Rattle.std.proofs.lemmas.Map.Keys.{IsDistinct-head, IsDistinct-tail}
 use Rattle.std.proofs.lemmas.Option.{none-some, same_Some, cond_some, slice_get-get_or}
-use Rattle.indexmap.specs.IndexMap.{set_value_at}
 use Rattle.hx_model.proofs.Climbing.{is_same, same_itself}
 use Rattle.hx_model.proofs.Objects.{same_test, swap_tests}
-use Rattle.hx_quota.specs.declared.places.Place.{Place}
+use Rattle.hx_quota.specs.PlaceRows.{Place}
 use Rattle.hx_quota.specs.Counters.{place_of}
-use Rattle.hx_quota.specs.Inside.{Places, place_at, entries_in}
-use Rattle.hx_quota.specs.Anew.{with_sums, cleared, HasFirst}
+use Rattle.hx_quota.specs.Inside.{Places, place_at, entries_in, SameSums}
+use Rattle.hx_quota.specs.Anew.{changed_at, with_sums, cleared, HasFirst}
 use Rattle.hx_quota.proofs.Fitting.{has_nothing}
 use Rattle.hx_quota.proofs.Placed.{same_keys}
 
@@ -48,43 +47,46 @@ apart_index a [] i m p apart is = absurd (none-some {A = Row} (m, p) is)
 apart_index a (e ∷ places) zero m p apart is = ap (λ (x : Row). bytes_eq a x.0) (sym (same_Some {A = Row} e (m, p) is)) ∙ apart.0
 apart_index a (e ∷ places) (suc i) m p apart is = apart_index a places i m p apart.1 is
 
-place_at_with : (at : ℕ) (sums : List ℕ) (places : Places) (m : List ℕ) (p : Place) → IsDistinct bytes_eq (keys_of places) → slice_get places at ≡ Some (m, p)
-    → (q : List ℕ) → place_at (with_sums at sums places) q ≡ cond (bytes_eq m q) (Some (record p { sums = sums })) (place_at places q)
-place_at_with at sums [] m p distinct is q = absurd (none-some {A = Row} (m, p) is)
-place_at_with zero sums (e ∷ places) m p distinct is q =
+pub place_changed : (at : ℕ) (change : Place → Place) (places : Places) (m : List ℕ) (p : Place) → IsDistinct bytes_eq (keys_of places) → slice_get places at ≡ Some (m, p)
+    → (q : List ℕ) → place_at (changed_at at change places) q ≡ cond (bytes_eq m q) (Some (change p)) (place_at places q)
+place_changed at change [] m p distinct is q = absurd (none-some {A = Row} (m, p) is)
+place_changed zero change (e ∷ places) m p distinct is q =
     let same : e ≡ (m, p) = same_Some {A = Row} e (m, p) is in
     let flip : bytes_eq q e.0 ≡ bytes_eq m q = nat_list_eq_equiv.symm q e.0 ∙ ap (λ (x : Row). bytes_eq x.0 q) same in
-    (λ i. cond (flip i) (Some (record ((same i).1) { sums = sums })) (place_at places q))
-    ∙ same_test (bytes_eq m q) (bytes_eq q e.0) (Some (record p { sums = sums })) (Some e.1) (place_at places q) (sym flip)
-place_at_with (suc at) sums (e ∷ places) m p distinct is q =
-    ap (cond (bytes_eq q e.0) (Some e.1)) (place_at_with at sums places m p (IsDistinct-tail bytes_eq e.0 (keys_of places) distinct) is q)
-    ∙ swap_tests (bytes_eq m q) (bytes_eq q e.0) (Some (record p { sums = sums })) (Some e.1) (place_at places q) (λ here there.
+    (λ i. cond (flip i) (Some (change ((same i).1))) (place_at places q))
+    ∙ same_test (bytes_eq m q) (bytes_eq q e.0) (Some (change p)) (Some e.1) (place_at places q) (sym flip)
+place_changed (suc at) change (e ∷ places) m p distinct is q =
+    ap (cond (bytes_eq q e.0) (Some e.1)) (place_changed at change places m p (IsDistinct-tail bytes_eq e.0 (keys_of places) distinct) is q)
+    ∙ swap_tests (bytes_eq m q) (bytes_eq q e.0) (Some (change p)) (Some e.1) (place_at places q) (λ here there.
     true≢false (sym (ap (bytes_eq e.0) (is_same m q here ∙ is_same q e.0 there) ∙ same_itself e.0) ∙ apart_index e.0 places at m p (IsDistinct-head bytes_eq e.0 (keys_of places) distinct) is))
 
 pub place_with : (at : ℕ) (sums : List ℕ) (places : Places) (m : List ℕ) (p : Place) → IsDistinct bytes_eq (keys_of (entries_in places)) → slice_get places at ≡ Some (m, p)
     → (q : List ℕ) → place_at (with_sums at sums places) q ≡ cond (bytes_eq m q) (Some (record p { sums = sums })) (place_at places q)
-place_with at sums places m p distinct is q = place_at_with at sums places m p (subst (λ (ks : List (List ℕ)). IsDistinct bytes_eq ks) (same_keys places) distinct) is q
+place_with at sums places m p distinct is q = place_changed at (λ (x : Place). record x { sums = sums }) places m p (subst (λ (ks : List (List ℕ)). IsDistinct bytes_eq ks) (same_keys places) distinct) is q
 
-pub value_with : (at : ℕ) (sums : List ℕ) (places : Places) (p : Place) → slice_get (values_of places) at ≡ Some p → set_value_at places at (record p { sums = sums }) ≡ with_sums at sums places
-value_with at sums [] p is = refl
-value_with zero sums (e ∷ places) p is = ap (λ (x : Place). (e.0, record x { sums = sums }) ∷ places) (sym (same_Some e.1 p is))
-value_with (suc at) sums (e ∷ places) p is = ap (λ xs. e ∷ xs) (value_with at sums places p is)
+-- sums that stay where one place is changed
+pub kept_sums : (old new : Places) (n : List ℕ) (p w : Place) → place_at old n ≡ Some p → w.sums ≡ p.sums → ((q : List ℕ) → place_at new q ≡ cond (bytes_eq n q) (Some w) (place_at old q))
+    → (q : List ℕ) (x : Place) → place_at new q ≡ Some x → SameSums (place_at old q) x
+kept_sums old new n p w there same is q x found = by (bytes_eq n q) refl (sym (is q) ∙ found)
+  where
+    by : (b : Bool) → bytes_eq n q ≡ b → cond b (Some w) (place_at old q) ≡ Some x → SameSums (place_at old q) x
+    by true here h = (p, ap (place_at old) (sym (is_same n q here)) ∙ there, ap (λ (y : Place). y.sums) (sym (same_Some w x h)) ∙ same)
+    by false out h = (x, h, refl)
 
-pub none_with : (at : ℕ) (sums : List ℕ) (places : Places) → slice_get (values_of places) at ≡ None → places ≡ with_sums at sums places
-none_with at sums [] none = refl
-none_with zero sums (e ∷ places) none = absurd (none-some e.1 (sym none))
-none_with (suc at) sums (e ∷ places) none = ap (λ xs. e ∷ xs) (none_with at sums places none)
+-- a place that is added
+pub place_added : (places : Places) (n : List ℕ) (p : Place) → place_at places n ≡ None → (q : List ℕ) → place_at (places ++ (n, p) ∷ []) q ≡ cond (bytes_eq n q) (Some p) (place_at places q)
+place_added [] n p none q = ap (λ b. cond b (Some p) None) (nat_list_eq_equiv.symm q n)
+place_added (e ∷ places) n p none q =
+    ap (cond (bytes_eq q e.0) (Some e.1)) (place_added places n p (past (bytes_eq n e.0) none) q)
+    ∙ swap_tests (bytes_eq n q) (bytes_eq q e.0) (Some p) (Some e.1) (place_at places q) (λ here there. true≢false (sym (ap (bytes_eq n) (sym (is_same n q here ∙ is_same q e.0 there)) ∙ same_itself n) ∙ other (bytes_eq n e.0) none))
+  where
+    past : (b : Bool) → cond b (Some e.1) (place_at places n) ≡ None → place_at places n ≡ None
+    past true h = absurd (none-some e.1 (sym h))
+    past false h = h
 
--- the sums of a value that is found at its index
-pub sums_at_value : (at : ℕ) (places : Places) (p : Place) → slice_get (values_of places) at ≡ Some p → Some p.sums ≡ option_map (λ (e : Row). e.1.sums) (slice_get places at)
-sums_at_value at [] p is = absurd (none-some p is)
-sums_at_value zero (e ∷ places) p is = ap (λ (x : Place). Some x.sums) (sym (same_Some e.1 p is))
-sums_at_value (suc at) (e ∷ places) p is = sums_at_value at places p is
-
-pub no_value : (at : ℕ) (places : Places) → slice_get (values_of places) at ≡ None → slice_get places at ≡ None
-no_value at [] none = refl
-no_value zero (e ∷ places) none = absurd (none-some e.1 (sym none))
-no_value (suc at) (e ∷ places) none = no_value at places none
+    other : (b : Bool) → cond b (Some e.1) (place_at places n) ≡ None → b ≡ false
+    other true h = absurd (none-some e.1 (sym h))
+    other false h = refl
 
 -- ---- the index of a name
 

@@ -7,7 +7,7 @@ use Rattle.std.proofs.lemmas.Option.{none-some, same_Some}
 use Rattle.hx_model.specs.Forest.{is_there, subtree_of}
 use Rattle.hx_model.specs.declared.resource.Resource.{Resource}
 use Rattle.hx_model.proofs.Climbing.{is_same}
-use Rattle.hx_quota.specs.declared.places.Place.{Place}
+use Rattle.hx_quota.specs.PlaceRows.{Place}
 use Rattle.hx_quota.specs.Counters.{Entries, entry_of, tree_of, own_in, place_of, used_in, with_entry, new_entry, without_entry, with_parent}
 use Rattle.hx_quota.specs.Inside.{Places, place_at, entries_in, ordered, AllEnd, HasUsage, SameSums, IsFree, IsSummed}
 use Rattle.hx_quota.proofs.Ending.{closed_all}

@@ -15,6 +15,7 @@ pub mod Shifted
 pub mod Taken
 pub mod Ending
 pub mod Indexed
+pub mod Joined
 pub mod Formed
 pub mod Reached
 pub mod Rounds

@@ -6,8 +6,8 @@
 use Rattle.std.proofs.Common.{◌≡◌, ℕ, Bool, true, false, cond, Option, Some, None, option_map, List, [], ◌∷◌, length, suc, refl, sym, ap, ◌∙◌}
 use Rattle.std.specs.Map.{keys_of, lookup}
 use Rattle.std.specs.Str.{bytes_eq}
-use Rattle.hx_quota.specs.declared.entry.Entry.{Entry}
-use Rattle.hx_quota.specs.declared.places.Place.{Place}
+use Rattle.hx_quota.specs.Counters.{Entry}
+use Rattle.hx_quota.specs.PlaceRows.{Place}
 use Rattle.hx_quota.specs.Counters.{entry_of, with_entry, without_entry, with_changed}
 use Rattle.hx_quota.specs.Inside.{Places, entries_in, ordered, place_at, IsAdjusted}
 use Rattle.hx_quota.proofs.Entries.{ascends-entries, same_entries, entry_of-entries, entries-put, entries-cut, entries-changed}

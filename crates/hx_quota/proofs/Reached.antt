@@ -10,7 +10,7 @@ use Rattle.std.proofs.lemmas.Option.{none-some}
 use Rattle.hx_model.specs.Forest.{is_there, parent_of, chain_of, tail_of}
 use Rattle.hx_model.specs.Moves.{chain_from}
 use Rattle.hx_model.proofs.Opening.{chain_first}
-use Rattle.hx_quota.specs.declared.places.Place.{Place}
+use Rattle.hx_quota.specs.PlaceRows.{Place}
 use Rattle.hx_quota.specs.Counters.{tree_of}
 use Rattle.hx_quota.specs.Inside.{Places, entries_in, ordered, place_at, AllEnd}
 use Rattle.hx_quota.specs.Anew.{chain_at, chain_behind}

@@ -12,9 +12,9 @@ use Rattle.hx_model.specs.declared.resource.Resource.{Resource}
 use Rattle.hx_model.proofs.Climbing.{is_same, same_itself}
 use Rattle.hx_model.proofs.Walking.{chain_there}
 use Rattle.hx_quota.specs.declared.entry.Delta.{Delta}
-use Rattle.hx_quota.specs.declared.entry.Entry.{Entry}
+use Rattle.hx_quota.specs.Counters.{Entry}
 use Rattle.hx_quota.specs.declared.places.Change.{Change}
-use Rattle.hx_quota.specs.declared.places.Place.{Place}
+use Rattle.hx_quota.specs.PlaceRows.{Place}
 use Rattle.hx_quota.specs.Counters.{Entries, entry_of, tree_of, own_of, place_of, part_of, used_in, total_of, without_entry, with_changed, with_shifted, IsChain, IsAbove, AllFit}
 use Rattle.hx_quota.specs.Inside.{Places, place_at, entries_in, ordered, adjusted, AllEnd, MayAdjust, IsAdjusted, HasShifted, IsSummed}
 use Rattle.hx_quota.proofs.Adjusting.{may_by, was_there}

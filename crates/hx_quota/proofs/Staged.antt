@@ -35,7 +35,7 @@ use Rattle.hx_store.specs.Changes.{id_of, object_of}
 use Rattle.hx_quota.specs.declared.change.CounterChange.{CounterChange}
 use Rattle.hx_quota.specs.declared.change.CounterChange.TheVariants.{Shift}
 use Rattle.hx_quota.specs.declared.entry.Delta.{Delta}
-use Rattle.hx_quota.specs.declared.entry.Entry.{Entry}
+use Rattle.hx_quota.specs.Counters.{Entry}
 use Rattle.hx_quota.specs.Counters.{Entries, CountersView, entry_of, place_of, own_of, own_in, with_shifted, sums_of, used_in, AllFit}
 use Rattle.hx_quota.specs.Counting.{AreRegular, own_charge, changed, changed_all, MayChangeAll, changes_of_tree, deltas_of}
 use Rattle.hx_quota.specs.SubtreeUsage.{Tells, IsCounted, HasTotals, IsReady, is_any, is_charged_kind, are_uncharged, is_staying, MayShift, IsHoused, AreOnce}

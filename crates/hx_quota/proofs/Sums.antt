@@ -13,7 +13,7 @@ use Rattle.std.proofs.lemmas.List.Sums.{sum_by-cons}
 use Rattle.std.proofs.lemmas.Option.{same_Some}
 use Rattle.std.proofs.lemmas.Map.Keys.{IsDistinct-head, IsDistinct-tail}
 use Rattle.hx_object.specs.Texts.{bytes_cmp}
-use Rattle.hx_quota.specs.declared.entry.Entry.{Entry}
+use Rattle.hx_quota.specs.Counters.{Entry}
 use Rattle.hx_quota.specs.Counters.{Entries, entry_of, with_entry, without_entry, with_changed}
 use Rattle.hx_quota.specs.Inside.{entries_from}
 use Rattle.hx_quota.proofs.Entries.{same_name-cmp, entry_of-entries}

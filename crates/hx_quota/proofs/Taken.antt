@@ -6,7 +6,7 @@ use Rattle.std.proofs.Common.{◌≡◌, ℕ, ◌+◌, ◌-◌, ◌<◌, ◌≤�
 use Rattle.hx_model.specs.Forest.{is_in, is_there, parent_of}
 use Rattle.hx_model.specs.Moves.{chain_from}
 use Rattle.hx_model.specs.declared.resource.Resource.{Resource}
-use Rattle.hx_quota.specs.declared.places.Place.{Place}
+use Rattle.hx_quota.specs.PlaceRows.{Place}
 use Rattle.hx_quota.specs.Counters.{Entries, tree_of, place_of, used_in, total_of, with_parent, AllFit}
 use Rattle.hx_quota.specs.Inside.{Places, place_at, ordered, IsFree, MayAdjust, IsAdjusted, IsSummed}
 use Rattle.hx_quota.proofs.Adjusting.{may_by, was_there}

@@ -7,7 +7,7 @@ use Rattle.std.specs.Prelude.{is_some, slice_index}
 use Rattle.std.specs.Option.{option_map_or}
 use Rattle.hx_model.specs.declared.resource.Resource.{Resource}
 use Rattle.hx_quota.specs.declared.entry.Delta.{Delta}
-use Rattle.hx_quota.specs.declared.entry.Entry.{Entry}
+use Rattle.hx_quota.specs.Counters.{Entry}
 use Rattle.hx_quota.specs.Counters.{Entries, entry_of, own_in, own_of, place_of, total_of, shifted, with_entry, new_entry, without_entry, with_shifted, HaveOld, AllFit}
 use Rattle.hx_quota.specs.Counting.{AreRegular}
 use Rattle.hx_quota.specs.Inside.{OwnFit}

@@ -16,7 +16,7 @@ use Rattle.hx_model.proofs.Climbing.{Above, itself, through, above_chain, is_sam
 use Rattle.hx_model.proofs.Parents.{in_below, swap_same}
 use Rattle.hx_model.proofs.Walking.{chain_there}
 use Rattle.hx_quota.specs.declared.entry.Delta.{Delta}
-use Rattle.hx_quota.specs.declared.entry.Entry.{Entry}
+use Rattle.hx_quota.specs.Counters.{Entry}
 use Rattle.hx_quota.specs.Counters.{Entries, entry_of, node_for, tree_of, own_of, own_in, part_of, used_in, with_entry, new_entry, without_entry, with_changed}
 use Rattle.hx_quota.specs.Inside.{AreClosed}
 use Rattle.hx_quota.proofs.Attaching.{IsNew, chain_new}

@@ -3,7 +3,9 @@
 --     name_at, chain_at     the name at an index of entries, and its chain
 --     chain_behind          that of its parent
 --     walk_from, walk_behind      whether a walk up from an index passes a name, and one from its parent
---     with_sums, cleared    places with other sums at an index, and with none
+--     changed_at            places with a change at an index:
+--     with_sums, with_parent_at, with_shifted_at      other sums, another parent, own sums after deltas
+--     cleared               places with no sums
 --     HasAdjusted           the sums at an index are adjusted
 --     HasFirst              the sums of places are those of subtrees, as far as the first places are in them
 use Rattle.std.specs.Prelude.{◌≡◌, ℕ, zero, suc, ◌<◌, Bool, List, [], ◌∷◌, map, replicate, sum_by, take, Option, Some, option_and_then, option_map, slice_get, slice_index}
@@ -12,10 +14,9 @@ use Rattle.hx_model.specs.Forest.{parent_of}
 use Rattle.hx_model.specs.Moves.{chain_from}
 use Rattle.hx_model.specs.Walks.{walk_has}
 use Rattle.hx_model.specs.declared.resource.Resource.{Resource}
-use Rattle.hx_quota.specs.declared.entry.Entry.{Entry}
-use Rattle.hx_quota.specs.declared.places.Place.{Place}
-use Rattle.hx_quota.specs.Counters.{tree_of, part_of, place_of}
-use Rattle.hx_quota.specs.Inside.{Places, adjusted, entries_from, entries_in, ordered, place_at, ends_up}
+use Rattle.hx_quota.specs.declared.entry.Delta.{Delta}
+use Rattle.hx_quota.specs.Counters.{Entry, tree_of, part_of, place_of, shifted}
+use Rattle.hx_quota.specs.Inside.{Place, Places, adjusted, entries_from, entries_in, ordered, place_at, ends_up}
 
 -- the name at an index
 abbrev pub name_at : List (List ℕ × Entry) → ℕ → Option (List ℕ)
@@ -37,11 +38,23 @@ walk_from left places at a = walk_has left (tree_of (ordered places)) (option_an
 abbrev pub walk_behind : ℕ → Places → ℕ → List ℕ → Bool
 walk_behind left places at a = walk_has left (tree_of (ordered places)) (option_and_then (parent_of (tree_of (ordered places))) (name_at (entries_in places) at)) a
 
+-- with the place at an index changed
+abbrev pub changed_at : ℕ → (Place → Place) → Places → Places
+changed_at at change [] = []
+changed_at zero change (e ∷ places) = (e.0, change e.1) ∷ places
+changed_at (suc at) change (e ∷ places) = e ∷ changed_at at change places
+
 -- with other sums at an index
 abbrev pub with_sums : ℕ → List ℕ → Places → Places
-with_sums at sums [] = []
-with_sums zero sums (e ∷ places) = (e.0, record (e.1) { sums = sums }) ∷ places
-with_sums (suc at) sums (e ∷ places) = e ∷ with_sums at sums places
+with_sums at sums places = changed_at at (λ (p : Place). record p { sums = sums }) places
+
+-- with another parent of the namespace at an index, or none, and where it lies
+abbrev pub with_parent_at : ℕ → Option (List ℕ) → ℕ → Places → Places
+with_parent_at at parent up places = changed_at at (λ (p : Place). record p { up = up; entry = record (p.entry) { parent = parent } }) places
+
+-- with own sums shifted at an index
+abbrev pub with_shifted_at : ℕ → List Delta → Places → Places
+with_shifted_at at deltas places = changed_at at (λ (p : Place). record p { entry = record (p.entry) { own = shifted deltas p.entry.own } }) places
 
 -- the sums at an index are adjusted
 pub record HasAdjusted (take give : List ℕ) (at : ℕ) (old new : Places) : Type 0 where

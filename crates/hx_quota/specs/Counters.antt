@@ -1,4 +1,5 @@
 -- What namespaces have of the resources that quotas limit, in thousandths: each by itself, and with all below it.
+--     Entry                        a namespace's parent, and what it has by itself
 --     Entries                      each namespace's entry under its name, in ascending order of names
 --     CountersView                 the entries, and how many more fit without taking memory
 --     entry_of es n                the entry of a namespace, where it is there
@@ -16,7 +17,7 @@
 --     IsChain, IsBehind, IsAbove   names are a chain, what is behind its first member, and the chain of a parent
 --     AreApart, HaveOld            no two deltas are of one resource, and what they replace is there
 use Rattle.std.specs.Prelude.{◌≡◌, ℕ, ◌+◌, ◌-◌, ◌<◌, ◌≤◌, ◌^◌, Bool, false, not, nat_eq, List, [], ◌∷◌, map, filter, replicate, sum_by, slice_index, slice_set, Option, Some, None, if◌then◌else◌, refl}
-use Rattle.std.specs.Coded.{Coded, code_by, coded×, coded_list, coded_ℕ}
+use Rattle.std.specs.Coded.{Coded, code_by, coded×, coded_list, coded_option, coded_ℕ}
 use Rattle.std.specs.List.{list_any, AllByRecursion}
 use Rattle.std.specs.Option.{option_map_or}
 use Rattle.std.specs.Map.{lookup}
@@ -27,9 +28,17 @@ use Rattle.hx_model.specs.Forest.{Forest, chain_of, in_chain}
 use Rattle.hx_model.specs.declared.node.Node.{Node}
 use Rattle.hx_model.specs.declared.resource.Resource.{Resource}
 use Rattle.hx_model.specs.declared.resource.Resource.TheVariants.{Pods, RequestsCpu, RequestsMemory, LimitsCpu, LimitsMemory, RequestsStorage, CountRoles, CountRoleBindings, CountConfigMaps, CountSecrets, CountNetworkPolicies, CountLimitRanges, CountPods, CountServices, CountClaims}
-use Rattle.hx_quota.specs.contracts.entry.Entry as entry
-use Rattle.hx_quota.specs.declared.entry.Entry.{Entry}
 use Rattle.hx_quota.specs.declared.entry.Delta.{Delta}
+
+-- a namespace's parent, and what it has of each resource by itself, in the order of the resources
+pub record Entry : Type 0 where
+  pub parent : Option (List ℕ)
+  pub own : List ℕ
+
+-- both, as a pair
+abbrev pub entry_code : Coded Entry
+entry_code = code_by (Option (List ℕ) × List ℕ) (coded× (coded_option (coded_list coded_ℕ)) (coded_list coded_ℕ))
+    (λ e. (e.parent, e.own)) (λ p. record { parent = p.0; own = p.1 }) (λ _. refl)
 
 abbrev pub Entries : Type 0
 Entries = List (List ℕ × Entry)
@@ -41,7 +50,7 @@ pub record CountersView : Type 0 where
 
 -- both, as a pair
 abbrev pub view_code : Coded CountersView
-view_code = code_by (Entries × ℕ) (coded× (coded_list (coded× (coded_list coded_ℕ) entry.the_row.coded)) coded_ℕ)
+view_code = code_by (Entries × ℕ) (coded× (coded_list (coded× (coded_list coded_ℕ) entry_code)) coded_ℕ)
     (λ v. (v.entries, v.spare)) (λ p. record { entries = p.0; spare = p.1 }) (λ _. refl)
 
 -- the entry of a namespace

@@ -2,7 +2,6 @@
 --     entries_from          the entries in order, of entries in any order
 --     entries_in, ordered   the entries of places, and those in order
 --     entries_of            those of a ledger
---     place_at              the place of a name
 --     OwnFit                what a namespace has by itself fits
 --     MayShift              deltas may be made one after the other
 --     adjusted              a sum of which something is taken and to which something is added
@@ -20,25 +19,20 @@
 --     HasUsage              the sums of places are those of subtrees
 --     IsSummed, IsKept      the sums of places are those of their subtrees, unless that is lost
 use Rattle.std.specs.Prelude.{◌≡◌, ℕ, zero, suc, ◌+◌, ◌-◌, ◌<◌, ◌≤◌, ◌^◌, Bool, true, false, not, ◌&&◌, List, [], ◌∷◌, length, map, Option, Some, None, slice_index, slice_set, if◌then◌else◌}
-use Rattle.std.specs.Map.{lookup}
 use Rattle.std.specs.Option.{option_map_or}
 use Rattle.std.specs.Str.{bytes_eq}
 use Rattle.hx_model.specs.Forest.{Forest, is_there, parent_of, in_chain}
 use Rattle.hx_model.specs.declared.resource.Resource.{Resource}
-use Rattle.hx_quota.specs.declared.entry.Entry.{Entry}
 use Rattle.hx_quota.specs.declared.entry.Delta.{Delta}
-use Rattle.hx_quota.specs.declared.places.Place.{Place}
 use Rattle.hx_quota.specs.declared.places.Change.{Change}
 use Rattle.hx_quota.specs.declared.ledger.Ledger.{Ledger}
-use Rattle.hx_quota.specs.Counters.{Entries, tree_of, with_entry, place_of, used_in, shifted}
+pub use Rattle.hx_quota.specs.PlaceRows.{Place, Places, place_at}
+use Rattle.hx_quota.specs.Counters.{Entry, Entries, tree_of, with_entry, place_of, used_in, shifted}
 
 -- the entries in order: of two with one name the first one counts
 abbrev pub entries_from : List (List ℕ × Entry) → Entries
 entries_from [] = []
 entries_from (e ∷ es) = with_entry e.0 e.1 (entries_from es)
-
-abbrev pub Places : Type 0
-Places = List (List ℕ × Place)
 
 -- the entries of places
 abbrev pub entries_in : Places → List (List ℕ × Entry)
@@ -51,10 +45,6 @@ ordered places = entries_from (entries_in places)
 -- those of a ledger
 abbrev pub entries_of : Ledger → Entries
 entries_of ledger = ordered ledger.places.entries
-
--- the place of a name
-abbrev pub place_at : Places → List ℕ → Option Place
-place_at places n = lookup (bytes_eq n) places
 
 -- what a namespace has by itself fits
 abbrev pub OwnFit : List ℕ → Type 0

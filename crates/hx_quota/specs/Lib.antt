@@ -1,4 +1,5 @@
 pub mod Counters
+pub mod PlaceRows
 pub mod Counting
 pub mod Limiting
 pub mod Inside

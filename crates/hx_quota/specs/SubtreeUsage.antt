@@ -30,10 +30,9 @@ use Rattle.hx_model.specs.State.{Objects, ascends, after_writes}
 use Rattle.hx_model.specs.declared.key.Write.{Write}
 use Rattle.hx_model.specs.declared.resource.Resource.{Resource}
 use Rattle.hx_store.specs.Changes.{id_of}
-use Rattle.hx_quota.specs.contracts.entry.Entry as entry
 use Rattle.hx_quota.specs.declared.change.CounterChange.{CounterChange}
 use Rattle.hx_quota.specs.declared.entry.Delta.{Delta}
-use Rattle.hx_quota.specs.Counters.{Entries, CountersView, entry_of, place_of, total_of, sums_of, AreApart, HaveOld}
+use Rattle.hx_quota.specs.Counters.{Entries, CountersView, entry_code, entry_of, place_of, total_of, sums_of, AreApart, HaveOld}
 use Rattle.hx_quota.specs.Counting.{Counts, AreRegular, MayChangeAll, own_charge, is_recharged, delta_by}
 
 -- the entries that count, none where that is lost: now, and once the staged changes are made
@@ -43,7 +42,7 @@ pub record UsageView : Type 0 where
 
 -- both, as a pair
 abbrev pub usage_code : Coded UsageView
-usage_code = code_by (Option Entries × Option Entries) (coded× (coded_option (coded_list (coded× (coded_list coded_ℕ) entry.the_row.coded))) (coded_option (coded_list (coded× (coded_list coded_ℕ) entry.the_row.coded))))
+usage_code = code_by (Option Entries × Option Entries) (coded× (coded_option (coded_list (coded× (coded_list coded_ℕ) entry_code))) (coded_option (coded_list (coded× (coded_list coded_ℕ) entry_code))))
     (λ u. (u.now, u.next)) (λ p. record { now = p.0; next = p.1 }) (λ _. refl)
 
 -- entries count these objects and that tree

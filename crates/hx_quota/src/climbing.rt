@@ -1,22 +1,23 @@
 // Walks up the places by their indices, and sums that are adjusted along them.
-ghost use Rattle.std.specs.Prelude.{◌≡◌, ℕ, ◌≤◌, true, false, Some, None, is_some, IfSome, List, length, slice_get, option_map, option_copied, option_and_then};
+ghost use Rattle.std.specs.Prelude.{◌≡◌, ℕ, ◌≤◌, true, false, Some, None, is_some, IfSome, List, length, option_copied, option_and_then};
 ghost use Rattle.std.specs.List.{IsDistinct};
 ghost use Rattle.std.specs.Map.{keys_of};
 ghost use Rattle.std.specs.Option.{option_map_or};
 ghost use Rattle.std.specs.Str.{bytes_eq};
-ghost use Rattle.indexmap.specs.IndexMap.{spare};
 ghost use Rattle.hx_model.specs.Forest.{is_in, parent_of, chain_of};
 ghost use Rattle.hx_model.specs.Moves.{chain_from};
 ghost use Rattle.hx_model.specs.Walks.{walk_has};
 ghost use Rattle.hx_quota.specs.Counters.{entry_of, tree_of, with_parent, AllFit};
-ghost use Rattle.hx_quota.specs.Inside.{entries_in, ordered, place_at, MayAdjust, IsAdjusted, HasUsage, IsFree, IsSummed, AllEnd};
-ghost use Rattle.hx_quota.specs.Anew.{name_at, chain_at, chain_behind, walk_from, walk_behind, with_sums, HasAdjusted};
+ghost use Rattle.hx_quota.specs.PlaceRows.{Place, place_at};
+ghost use Rattle.hx_quota.specs.Inside.{entries_in, ordered, MayAdjust, IsAdjusted, HasUsage, IsFree, IsSummed, AllEnd};
+ghost use Rattle.hx_quota.specs.Anew.{name_at, chain_at, chain_behind, walk_from, walk_behind};
 
-use crate::places::{Change, Place, PlaceMap, adjust};
+use crate::place_table::PlaceTable;
+use crate::places::Change;
 use hx_object::Text;
 
 /// Takes the sums of a namespace that gets another parent from the namespaces above it to those above that one. It takes no memory.
-pub(crate) fn take_over(places: &mut PlaceMap, moved: &Text, parent: Option<&Text>)
+pub(crate) fn take_over(places: &mut PlaceTable, moved: &Text, parent: Option<&Text>)
     requires there { is_some (entry_of (ordered places.old.entries) moved.now) ≡ true }
     requires given { IfSome (option_copied parent) (λ p. is_some (entry_of (ordered places.old.entries) p) ≡ true) }
     requires open { IsFree (tree_of (ordered places.old.entries)) moved.now (option_copied parent) }
@@ -24,12 +25,12 @@ pub(crate) fn take_over(places: &mut PlaceMap, moved: &Text, parent: Option<&Tex
     requires summed { IsSummed (place_at places.old.entries) (ordered places.old.entries) }
     ensures entries { ordered places.new.entries ≡ ordered places.old.entries }
     ensures sums { HasUsage places.new.entries (with_parent moved.now (option_copied parent.entry) (ordered places.old.entries)) }
-    ensures room { spare places.old ≤ spare places.new }
+    ensures room { places.old.spare ≤ places.new.spare }
 {
     let Some(at) = index_of(places, moved) else {
         return;
     };
-    let Some(sums) = sums_at(places, at) else {
+    let Some(sums) = places.sums_at(at) else {
         return;
     };
     let from = parent_index(places, at);
@@ -47,42 +48,25 @@ pub(crate) fn take_over(places: &mut PlaceMap, moved: &Text, parent: Option<&Tex
 }
 
 /// Changes the sums of the namespace at an index, and of all above it. It takes no memory.
-pub(crate) fn adjust_up(places: &mut PlaceMap, first: Option<usize>, change: &Change)
+pub(crate) fn adjust_up(places: &mut PlaceTable, first: Option<usize>, change: &Change)
     requires ends { AllEnd (tree_of (ordered places.old.entries)) }
     requires distinct { IsDistinct bytes_eq (keys_of (entries_in places.old.entries)) }
     requires may { (q : List ℕ) (p : Place) → is_in q (chain_at (entries_in places.old.entries) first) ≡ true → place_at places.old.entries q ≡ Some p → MayAdjust change.now.take change.now.give p.sums }
     ensures entries { entries_in places.new.entries ≡ entries_in places.old.entries }
     ensures sums { (q : List ℕ) → IsAdjusted change.now.take change.now.give (is_in q (chain_at (entries_in places.old.entries) first)) (place_at places.old.entries q) (place_at places.new.entries q) }
-    ensures room { spare places.old ≤ spare places.new }
+    ensures room { places.old.spare ≤ places.new.spare }
 {
     let mut next = first;
     while let Some(at) = next {
-        if !adjust_at(places, at, change) {
+        if !places.adjust(at, change) {
             return;
         }
         next = parent_index(places, at);
     }
 }
 
-/// Changes the sums of the namespace at an index, and says whether there is one.
-fn adjust_at(places: &mut PlaceMap, at: usize, change: &Change) -> bool
-    requires { (sums : List ℕ) → Some sums ≡ option_map (λ e. e.1.sums) (slice_get places.old.entries at) → MayAdjust change.now.take change.now.give sums }
-    ensures there { result ≡ true → HasAdjusted change.now.take change.now.give at places.old.entries places.new.entries }
-    ensures absent { result ≡ false → slice_get places.old.entries at ≡ None }
-    ensures same { result ≡ false → places.new.entries ≡ places.old.entries }
-    ensures room { spare places.old ≤ spare places.new }
-{
-    match places.get_index_mut(at) {
-        Some(place) => {
-            adjust(&mut place.sums, change);
-            true
-        }
-        None => false,
-    }
-}
-
 /// Whether the walk up from an index, where there is one, comes to a namespace.
-pub(crate) fn passes(places: &PlaceMap, first: Option<usize>, above: &Text) -> bool
+pub(crate) fn passes(places: &PlaceTable, first: Option<usize>, above: &Text) -> bool
     ensures { result ≡ walk_from (length (tree_of (ordered places.now.entries))) places.now.entries first above.now }
 {
     let mut next = first;
@@ -101,21 +85,21 @@ pub(crate) fn passes(places: &PlaceMap, first: Option<usize>, above: &Text) -> b
 }
 
 /// How many namespaces there are.
-pub(crate) fn count(places: &PlaceMap) -> usize
+pub(crate) fn count(places: &PlaceTable) -> usize
     ensures { result ≡ length (tree_of (ordered places.now.entries)) }
 {
     places.len()
 }
 
 /// The index of the parent of the namespace at an index. It is found without hashing, unless the parent lies elsewhere than when it was looked up.
-fn parent_index(places: &PlaceMap, at: usize) -> Option<usize>
+fn parent_index(places: &PlaceTable, at: usize) -> Option<usize>
     ensures chain { chain_at (entries_in places.now.entries) result ≡ chain_behind (entries_in places.now.entries) at }
     ensures walks { (left : ℕ) (above : List ℕ) → walk_from left places.now.entries result above ≡ walk_behind left places.now.entries at above }
 {
     let Some(parent) = parent_at(places, at) else {
         return None;
     };
-    let up = up_at(places, at);
+    let up = places.up_at(at);
     if is_named(places, up, parent) {
         return Some(up);
     }
@@ -123,64 +107,33 @@ fn parent_index(places: &PlaceMap, at: usize) -> Option<usize>
 }
 
 /// Whether the namespace at an index has a name.
-fn is_named(places: &PlaceMap, at: usize, name: &Text) -> bool
+fn is_named(places: &PlaceTable, at: usize, name: &Text) -> bool
     ensures { result ≡ option_map_or (λ n. bytes_eq n name.now) (name_at (entries_in places.now.entries) at) false }
 {
-    match places.get_index(at) {
-        Some((found, _place)) => found.as_str() == name.as_str(),
+    match places.name_at(at) {
+        Some(found) => found.as_str() == name.as_str(),
         None => false,
     }
 }
 
-/// Where the parent of the namespace at an index lay when it was looked up.
-fn up_at(places: &PlaceMap, at: usize) -> usize {
-    match places.get_index(at) {
-        Some((_name, place)) => place.up,
-        None => 0,
-    }
-}
-
-/// Its name.
-fn parent_at(places: &PlaceMap, at: usize) -> Option<&Text>
+/// The name of the parent of the namespace at an index.
+fn parent_at(places: &PlaceTable, at: usize) -> Option<&Text>
     ensures { option_copied result ≡ option_and_then (parent_of (tree_of (ordered places.now.entries))) (name_at (entries_in places.now.entries) at) }
 {
-    match places.get_index(at) {
-        Some((_name, place)) => place.entry.parent.as_ref(),
-        None => None,
-    }
-}
-
-/// The sums of the namespace at an index.
-fn sums_at(places: &PlaceMap, at: usize) -> Option<[u128; 15]>
-    ensures { result ≡ option_map (λ e. e.1.sums) (slice_get places.now.entries at) }
-{
-    match places.get_index(at) {
-        Some((_name, place)) => Some(place.sums),
-        None => None,
-    }
-}
-
-/// Gives the namespace at an index other sums.
-pub(crate) fn set_sums(places: &mut PlaceMap, at: usize, sums: [u128; 15])
-    ensures places { places.new.entries ≡ with_sums at sums places.old.entries }
-    ensures room { spare places.old ≤ spare places.new }
-{
-    if let Some(place) = places.get_index_mut(at) {
-        place.sums = sums;
-    }
+    places.parent_at(at)
 }
 
 /// The index of a namespace.
-pub(crate) fn index_of(places: &PlaceMap, name: &Text) -> Option<usize>
+pub(crate) fn index_of(places: &PlaceTable, name: &Text) -> Option<usize>
     ensures chain { chain_at (entries_in places.now.entries) result ≡ chain_of (tree_of (ordered places.now.entries)) name.now }
     ensures walks { (left : ℕ) (above : List ℕ) → walk_from left places.now.entries result above ≡ walk_has left (tree_of (ordered places.now.entries)) (Some name.now) above }
     ensures distinct { IsDistinct bytes_eq (keys_of (entries_in places.now.entries)) }
 {
-    places.get_index_of(name)
+    places.index_of(name)
 }
 
 /// The index of a name that may be none.
-fn index_from(places: &PlaceMap, name: Option<&Text>) -> Option<usize>
+fn index_from(places: &PlaceTable, name: Option<&Text>) -> Option<usize>
     ensures { chain_at (entries_in places.now.entries) result ≡ chain_from (tree_of (ordered places.now.entries)) (option_copied name.entry) }
 {
     match name {

@@ -27,7 +27,6 @@ impl Drop for Counters {
 }
 
 impl Model for Counters {
-    ghost use Rattle.indexmap.specs.IndexMap.{spare};
     ghost use Rattle.hx_quota.specs.Counters.{CountersView, view_code, AllFit};
     ghost use Rattle.hx_quota.specs.Inside.{entries_of, IsKept};
 
@@ -35,7 +34,7 @@ impl Model for Counters {
 
     ghost coded = { view_code };
 
-    ghost view = { λ c. record { entries = entries_of c.ledger; spare = spare c.ledger.places } };
+    ghost view = { λ c. record { entries = entries_of c.ledger; spare = c.ledger.places.spare } };
 
     ghost invariant = { λ c. AllFit (entries_of c.ledger) × IsKept c.ledger };
 }

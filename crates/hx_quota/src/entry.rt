@@ -1,23 +1,8 @@
-// What is kept of a namespace, and changes of it.
+// Changes of what namespaces have by themselves.
 ghost use Rattle.std.specs.Prelude.{◌≡◌, ◌<◌};
-ghost use Rattle.hx_quota.specs.Counters.{place_of, new_entry};
+ghost use Rattle.hx_quota.specs.Counters.{place_of};
 
 use hx_model::Resource;
-use hx_object::Text;
-
-/// What is kept of a namespace.
-pub struct Entry {
-    /// Its parent among the namespaces.
-    pub(crate) parent: Option<Text>,
-    /// What it has of each resource by itself, in the order of the resources, in thousandths.
-    pub(crate) own: [u128; 15],
-}
-
-impl Drop for Entry {
-    fn drop(self) {
-        let Entry { parent: _, own: _ } = self;
-    }
-}
 
 /// A change of what a namespace has of a resource by itself: `old` goes, and `new` comes in its place, in thousandths.
 #[derive(Clone, Copy, Debug, PartialEq, Eq)]
@@ -25,18 +10,6 @@ pub struct Delta {
     pub resource: Resource,
     pub old: u128,
     pub new: u128,
-}
-
-impl Entry {
-    /// A namespace without a parent that has nothing.
-    pub(crate) fn empty() -> Entry
-        ensures { result ≡ new_entry }
-    {
-        Entry {
-            parent: None,
-            own: [0; 15],
-        }
-    }
 }
 
 /// The place of a resource among own sums.

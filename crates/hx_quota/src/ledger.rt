@@ -1,24 +1,23 @@
 // Namespaces, what they have by themselves, and with all below them.
 ghost use Rattle.std.specs.Prelude.{◌≡◌, ◌+◌, ◌≤◌, true, None, is_some, [], ◌∷◌, IfSome, OnOk};
-ghost use Rattle.indexmap.specs.IndexMap.{spare};
 ghost use Rattle.hx_model.specs.Forest.{subtree_of};
 ghost use Rattle.hx_model.specs.declared.resource.Resource.{Resource};
 ghost use Rattle.hx_quota.specs.Counters.{entry_of, tree_of, own_in, with_entry, new_entry, without_entry, with_parent, with_shifted, sums_of, AreApart, HaveOld, AllFit};
 ghost use Rattle.hx_quota.specs.Inside.{entries_of, IsKept, AllEnd};
 
 use crate::climbing::{adjust_up, index_of, take_over};
-use crate::entry::{Delta, Entry};
+use crate::entry::Delta;
 use crate::forming::form_anew;
-use crate::places::{Place, PlaceMap, set_parent, shift_own};
+use crate::place_table::PlaceTable;
+use crate::places::{set_parent, shift_own};
 use hx_model::Resource;
 use hx_object::{NoMemory, Text};
-use indexmap::IndexMap;
 use std::alloc::Global;
 use std::hash::RandomState;
 
 /// Places by the names of their namespaces, in no order.
 pub(crate) struct Ledger {
-    pub(crate) places: PlaceMap,
+    pub(crate) places: PlaceTable,
     /// The sums of the places are those of their subtrees, and each walk up the parents ends. This is lost where a move makes a cycle, and is so again after a move that leaves none.
     pub(crate) summed: bool,
 }
@@ -39,7 +38,7 @@ impl Ledger {
         ensures kept { IsKept result }
     {
         Ledger {
-            places: IndexMap::with_hasher(alloc, keys),
+            places: PlaceTable::new(alloc, keys),
             summed: true,
         }
     }
@@ -47,27 +46,22 @@ impl Ledger {
     /// Makes room for `more`. Where no memory is left, the room stays.
     pub(crate) fn reserve(&mut self, more: usize) -> Result<(), NoMemory>
         ensures entries { entries_of self.new ≡ entries_of self.old }
-        ensures room { OnOk result (more ≤ spare self.new.places) }
-        ensures stays { spare self.old.places ≤ spare self.new.places }
+        ensures room { OnOk result (more ≤ self.new.places.spare) }
+        ensures stays { self.old.places.spare ≤ self.new.places.spare }
         ensures kept { IsKept self.old → IsKept self.new }
     {
-        Ok(self.places.reserve(more)?)
+        self.places.reserve(more)
     }
 
     /// Adds a namespace without a parent that has nothing. It takes no memory.
     pub(crate) fn add(&mut self, ns: Text)
-        requires room { 1 ≤ spare self.old.places }
+        requires room { 1 ≤ self.old.places.spare }
         requires absent { entry_of (entries_of self.old) ns ≡ None }
         ensures entries { entries_of self.new ≡ with_entry ns new_entry (entries_of self.old) }
-        ensures room { spare self.old.places ≤ spare self.new.places + 1 }
+        ensures room { self.old.places.spare ≤ self.new.places.spare + 1 }
         ensures kept { IsKept self.old → IsKept self.new }
     {
-        let place = Place {
-            up: 0,
-            entry: Entry::empty(),
-            sums: [0; 15],
-        };
-        let _none = self.places.insert(ns, place).unwrap();
+        self.places.insert(ns);
     }
 
     /// Takes out a namespace that has nothing, and is in no other chain.
@@ -76,10 +70,10 @@ impl Ledger {
         requires nothing { (r : Resource) → own_in (entries_of self.old) ns.now r ≡ 0 }
         requires alone { subtree_of (tree_of (entries_of self.old)) ns.now ≡ ns.now ∷ [] }
         ensures entries { entries_of self.new ≡ without_entry ns.now (entries_of self.old) }
-        ensures room { spare self.old.places ≤ spare self.new.places }
+        ensures room { self.old.places.spare ≤ self.new.places.spare }
         ensures kept { IsKept self.old → IsKept self.new }
     {
-        let _place = self.places.swap_remove(ns);
+        self.places.swap_remove(ns);
     }
 
     /// Shifts the own sums of a namespace, and with them the sums of all members of its chain. It takes no memory.
@@ -90,7 +84,7 @@ impl Ledger {
         requires fits { AllFit (with_shifted (ns.now ∷ []) deltas.now (entries_of self.old)) }
         requires kept { IsKept self.old }
         ensures entries { entries_of self.new ≡ with_shifted (ns.now ∷ []) deltas.now (entries_of self.old) }
-        ensures room { spare self.old.places ≤ spare self.new.places }
+        ensures room { self.old.places.spare ≤ self.new.places.spare }
         ensures kept { IsKept self.new }
     {
         let Some(change) = shift_own(&mut self.places, ns, deltas) else {
@@ -111,7 +105,7 @@ impl Ledger {
         requires fits { AllFit (entries_of self.old) }
         requires kept { IsKept self.old }
         ensures entries { entries_of self.new ≡ with_parent moved.now parent (entries_of self.old) }
-        ensures room { spare self.old.places ≤ spare self.new.places }
+        ensures room { self.old.places.spare ≤ self.new.places.spare }
         ensures kept { IsKept self.new }
         ensures again { AllEnd (tree_of (entries_of self.new)) → self.new.summed ≡ true }
     {

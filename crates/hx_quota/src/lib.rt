@@ -11,6 +11,7 @@ mod entry;
 mod forming;
 mod ledger;
 mod limiting;
+mod place_table;
 mod places;
 mod planting;
 mod shifting;
@@ -21,6 +22,6 @@ mod walking;
 mod walks;
 
 pub use counters::Counters;
-pub use entry::{Delta, Entry};
+pub use entry::Delta;
 pub use limiting::{Over, QuotaRow};
 pub use subtrees::Usage;

@@ -1,9 +1,9 @@
 // Walks up the parents, and what namespaces have with all below them.
-ghost use Rattle.std.specs.Prelude.{◌≡◌, ◌&&◌, false, Some, option_copied};
+ghost use Rattle.std.specs.Prelude.{◌≡◌, ◌&&◌, false, option_copied, slice_get};
 ghost use Rattle.std.specs.Option.{option_map_or};
 ghost use Rattle.hx_model.specs.Forest.{in_chain, parent_of};
-ghost use Rattle.hx_quota.specs.Counters.{tree_of, used_in, AllFit};
-ghost use Rattle.hx_quota.specs.Inside.{entries_of, IsKept, is_plain_move};
+ghost use Rattle.hx_quota.specs.Counters.{tree_of, part_of, used_in, AllFit};
+ghost use Rattle.hx_quota.specs.Inside.{entries_in, entries_of, IsKept, is_plain_move};
 
 use crate::climbing::{index_of, passes};
 use crate::entry::place_of;
@@ -21,8 +21,8 @@ impl Ledger {
         if !self.summed {
             return self.used_by_walks(ns, resource);
         }
-        match self.places.get(ns) {
-            Some(place) => place.sums[place_of(resource)],
+        match self.places.index_of(ns) {
+            Some(at) => self.places.sum_at(at, place_of(resource)),
             None => 0,
         }
     }
@@ -32,14 +32,28 @@ impl Ledger {
         requires { AllFit (entries_of self.now) }
         ensures { result ≡ used_in (entries_of self.now) ns.now resource }
     {
-        let at = place_of(resource);
+        let count = self.places.len();
         let mut sum = 0;
-        for (name, place) in self.places.iter() {
-            if self.in_chain(name, ns) {
-                sum += place.entry.own[at];
-            }
+        for at in 0..count {
+            sum += self.part_at(at, ns, resource);
         }
         sum
+    }
+
+    /// What the namespace at an index adds to that.
+    fn part_at(&self, at: usize, ns: &Text, resource: Resource) -> u128
+        ensures { result ≡ option_map_or (part_of (tree_of (entries_of self.now)) ns.now resource) (slice_get (entries_in self.now.places.entries) at) 0 }
+    {
+        let Some(name) = self.places.name_at(at) else {
+            return 0;
+        };
+        if !self.in_chain(name, ns) {
+            return 0;
+        }
+        match self.places.own_at(at) {
+            Some(own) => own[place_of(resource)],
+            None => 0,
+        }
     }
 
     /// Whether the sums of places are those of subtrees, and a move neither parts nor makes a cycle.
@@ -55,8 +69,8 @@ impl Ledger {
     fn is_in_cycle(&self, ns: &Text) -> bool
         ensures { result ≡ option_map_or (λ p. in_chain (tree_of (entries_of self.now)) p ns.now) (parent_of (tree_of (entries_of self.now)) ns.now) false }
     {
-        match self.places.get(ns) {
-            Some(place) => self.is_above(place.entry.parent.as_ref(), ns),
+        match self.places.index_of(ns) {
+            Some(at) => self.is_above(self.places.parent_at(at), ns),
             None => false,
         }
     }

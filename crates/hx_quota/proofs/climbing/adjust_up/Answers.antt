@@ -10,22 +10,22 @@ loop-next-init c = record {
   room = search rules;
 }
 
-pub adjust_at-requires : goal.adjust_at-requires
-adjust_at-requires c = λ before found.
+pub adjust-requires : goal.adjust-requires
+adjust-requires c = λ before found.
     may_step c.args.change.now.take c.args.change.now.give c.args.places.now.entries c.loop-next.places.entries (chain_at (entries_in c.args.places.now.entries) c.args.first) c.requires.ends c.requires.distinct c.in-Some.at c.loop-next.next c.in-Some.is
     before found c.loop-next.invariant.underway c.requires.may
 
 pub loop-next-smaller : goal.loop-next-smaller
 loop-next-smaller c =
-    let has : HasAdjusted c.args.change.now.take c.args.change.now.give c.in-Some.at c.loop-next.places.entries c.adjust_at.new.places.entries = search rules in
+    let has : HasAdjusted c.args.change.now.take c.args.change.now.give c.in-Some.at c.loop-next.places.entries c.adjust.new.self.entries = search rules in
     shorter_left c.args.change.now.take c.args.change.now.give c.args.places.now.entries c.loop-next.places.entries (chain_at (entries_in c.args.places.now.entries) c.args.first) c.requires.ends c.requires.distinct c.in-Some.at c.loop-next.next c.in-Some.is
-    has.before has.found c.loop-next.invariant.underway c.adjust_at.new.places.entries has.after has.put c.parent_index-next.result c.parent_index-next.ensures.chain
+    has.before has.found c.loop-next.invariant.underway c.adjust.new.self.entries has.after has.put c.parent_index-next.result c.parent_index-next.ensures.chain
 
 pub loop-next-preserved : goal.loop-next-preserved
 loop-next-preserved c =
-    let has : HasAdjusted c.args.change.now.take c.args.change.now.give c.in-Some.at c.loop-next.places.entries c.adjust_at.new.places.entries = search rules in
+    let has : HasAdjusted c.args.change.now.take c.args.change.now.give c.in-Some.at c.loop-next.places.entries c.adjust.new.self.entries = search rules in
     record {
       underway = more_of c.args.change.now.take c.args.change.now.give c.args.places.now.entries c.loop-next.places.entries (chain_at (entries_in c.args.places.now.entries) c.args.first) c.requires.ends c.requires.distinct c.in-Some.at c.loop-next.next c.in-Some.is
-          has.before has.found c.loop-next.invariant.underway c.adjust_at.new.places.entries has.after has.put c.parent_index-next.result c.parent_index-next.ensures.chain has.sums;
+          has.before has.found c.loop-next.invariant.underway c.adjust.new.self.entries has.after has.put c.parent_index-next.result c.parent_index-next.ensures.chain has.sums;
       room = search rules;
     }

@@ -1,5 +1,4 @@
 use Rattle.std.specs.Prelude.{◌≤◌, length}
-use Rattle.indexmap.specs.IndexMap.{spare}
 use Rattle.hx_quota.specs.Inside.{entries_in}
 use Rattle.hx_quota.specs.Anew.{chain_at}
 use Rattle.hx_quota.proofs.Formed.{IsUnderway}
@@ -9,7 +8,7 @@ use Rattle.hx_quota.proofs.climbing.adjust_up.Given as goal
 abbrev pub invariant-loop-next : goal.invariant-loop-next
 invariant-loop-next l = record {
   underway : IsUnderway l.change.take l.change.give l.fn.places.entries l.places.entries (chain_at (entries_in l.fn.places.entries) l.fn.first) (chain_at (entries_in l.fn.places.entries) l.next);
-  room : spare l.fn.places ≤ spare l.places;
+  room : l.fn.places.spare ≤ l.places.spare;
 }
 
 abbrev pub decreases-loop-next : goal.decreases-loop-next

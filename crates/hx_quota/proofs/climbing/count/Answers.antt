@@ -11,4 +11,4 @@ pub returns : goal.returns
 returns c =
     let places = c.args.places.now.entries in
     c.len.ensures.len
-    ∙ sym (tree_length (ordered places) ∙ length-entries (entries_in places) (subst (λ (ks : List (List ℕ)). IsDistinct bytes_eq ks) (sym (same_keys places)) c.len.ensures.unique) ∙ same_count places)
+    ∙ sym (tree_length (ordered places) ∙ length-entries (entries_in places) (subst (λ (ks : List (List ℕ)). IsDistinct bytes_eq ks) (sym (same_keys places)) c.len.ensures.distinct) ∙ same_count places)

@@ -6,10 +6,10 @@ use Rattle.hx_quota.proofs.Placed.{same_keys}
 use Rattle.hx_quota.proofs.climbing.index_of.Goals as goal
 
 pub returns-clause-chain : goal.returns-clause-chain
-returns-clause-chain c = index_chain c.args.places.now.entries c.args.name.now c.get_index_of.result c.get_index_of.ensures.index c.get_index_of.ensures.found c.get_index_of.ensures.within
+returns-clause-chain c = index_chain c.args.places.now.entries c.args.name.now c.index_of.result c.index_of.ensures.index c.index_of.ensures.found c.index_of.ensures.within
 
 pub returns-clause-walks : goal.returns-clause-walks
-returns-clause-walks c = index_walks c.args.places.now.entries c.args.name.now c.get_index_of.result c.get_index_of.ensures.index c.get_index_of.ensures.found c.get_index_of.ensures.within
+returns-clause-walks c = index_walks c.args.places.now.entries c.args.name.now c.index_of.result c.index_of.ensures.index c.index_of.ensures.found c.index_of.ensures.within
 
 pub returns-clause-distinct : goal.returns-clause-distinct
-returns-clause-distinct c = subst (λ (ks : List (List ℕ)). IsDistinct bytes_eq ks) (sym (same_keys c.args.places.now.entries)) c.get_index_of.ensures.unique
+returns-clause-distinct c = subst (λ (ks : List (List ℕ)). IsDistinct bytes_eq ks) (sym (same_keys c.args.places.now.entries)) c.index_of.ensures.distinct

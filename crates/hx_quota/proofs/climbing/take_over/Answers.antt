@@ -1,7 +1,7 @@
 use Rattle.std.proofs.Common.{◌≡◌, ℕ, List, true, option_copied, replicate, ap, sym, subst, ◌∙◌}
 use Rattle.hx_model.specs.Forest.{is_in, is_there, parent_of}
 use Rattle.hx_model.specs.Moves.{chain_from}
-use Rattle.hx_quota.specs.declared.entry.Entry.{Entry}
+use Rattle.hx_quota.specs.Counters.{Entry}
 use Rattle.hx_quota.specs.Counters.{tree_of}
 use Rattle.hx_quota.specs.Inside.{place_at, entries_from, entries_in, ordered, MayAdjust, IsAdjusted, AllEnd}
 use Rattle.hx_quota.specs.Anew.{chain_at}

@@ -2,7 +2,7 @@ use Rattle.std.proofs.Common.{rules, ◌≡◌, List, ℕ, length, sym, ap, subs
 use Rattle.std.specs.List.{IsDistinct}
 use Rattle.std.specs.Map.{keys_of}
 use Rattle.std.specs.Str.{bytes_eq}
-use Rattle.hx_quota.specs.declared.entry.Entry.{Entry}
+use Rattle.hx_quota.specs.Counters.{Entry}
 use Rattle.hx_quota.specs.Counters.{tree_of, AllFit}
 use Rattle.hx_quota.specs.Inside.{entries_from, entries_in, AllEnd}
 use Rattle.hx_quota.specs.Anew.{HasFirst}
@@ -17,7 +17,7 @@ add_up-requires-clause-fits c = subst (λ (xs : List (List ℕ × Entry)). AllFi
 
 pub add_up-requires-clause-distinct : goal.add_up-requires-clause-distinct
 add_up-requires-clause-distinct c =
-    subst (λ (xs : List (List ℕ × Entry)). IsDistinct bytes_eq (keys_of xs)) (sym c.loop-at.invariant.entries) (subst (λ (ks : List (List ℕ)). IsDistinct bytes_eq ks) (sym (same_keys c.args.places.now.entries)) c.len-count.ensures.unique)
+    subst (λ (xs : List (List ℕ × Entry)). IsDistinct bytes_eq (keys_of xs)) (sym c.loop-at.invariant.entries) (subst (λ (ks : List (List ℕ)). IsDistinct bytes_eq ks) (sym (same_keys c.args.places.now.entries)) c.len-count.ensures.distinct)
 
 pub add_up-requires-clause-within : goal.add_up-requires-clause-within
 add_up-requires-clause-within c =
@@ -32,4 +32,4 @@ returns-clause-sums c =
     subst (λ (k : ℕ). HasFirst k c.loop-at.places.entries) end c.loop-at.invariant.sums
 
 pub returns-clause-distinct : goal.returns-clause-distinct
-returns-clause-distinct c = subst (λ (ks : List (List ℕ)). IsDistinct bytes_eq ks) (sym (same_keys c.args.places.now.entries)) c.len-count.ensures.unique
+returns-clause-distinct c = subst (λ (ks : List (List ℕ)). IsDistinct bytes_eq ks) (sym (same_keys c.args.places.now.entries)) c.len-count.ensures.distinct

@@ -1,5 +1,4 @@
 use Rattle.std.specs.Prelude.{◌≡◌, ◌≤◌}
-use Rattle.indexmap.specs.IndexMap.{spare}
 use Rattle.hx_quota.specs.Inside.{entries_in}
 use Rattle.hx_quota.specs.Anew.{HasFirst}
 use Rattle.hx_quota.proofs.forming.add_all.Given as goal
@@ -9,5 +8,5 @@ abbrev pub invariant-loop-at : goal.invariant-loop-at
 invariant-loop-at l = record {
   entries : entries_in l.places.entries ≡ entries_in l.fn.places.entries;
   sums : HasFirst l.at l.places.entries;
-  room : spare l.fn.places ≤ spare l.places;
+  room : l.fn.places.spare ≤ l.places.spare;
 }

@@ -9,7 +9,7 @@ loop-at-preserved c =
     let old = c.args.places.now.entries in
     let on : suc at ≡ at + 1 = omega arith in
     record {
-      places = c.set_sums.ensures.places ∙ ap (with_sums at (replicate 15 0)) c.loop-at.invariant.places ∙ clear_one at old ∙ ap (λ k. cleared_to k old) on;
+      places = c.set_sums.ensures.entries ∙ ap (with_sums at (replicate 15 0)) c.loop-at.invariant.places ∙ clear_one at old ∙ ap (λ k. cleared_to k old) on;
       room = search rules;
     }
 

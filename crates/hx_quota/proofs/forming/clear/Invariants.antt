@@ -1,5 +1,4 @@
 use Rattle.std.specs.Prelude.{◌≡◌, ◌≤◌}
-use Rattle.indexmap.specs.IndexMap.{spare}
 use Rattle.hx_quota.proofs.Indexed.{cleared_to}
 use Rattle.hx_quota.proofs.forming.clear.Given as goal
 
@@ -7,5 +6,5 @@ use Rattle.hx_quota.proofs.forming.clear.Given as goal
 abbrev pub invariant-loop-at : goal.invariant-loop-at
 invariant-loop-at l = record {
   places : l.places.entries ≡ cleared_to l.at l.fn.places.entries;
-  room : spare l.fn.places ≤ spare l.places;
+  room : l.fn.places.spare ≤ l.places.spare;
 }

@@ -1,10 +1,11 @@
-use Rattle.std.proofs.Common.{◌∙◌, option_map, replicate, ap, sym}
-use Rattle.std.specs.Map.Iter.{deref_pair}
-use Rattle.hx_quota.proofs.Formed.{own_is, own_none}
+use Rattle.std.proofs.Common.{option_copied, ap, sym, ◌∙◌}
+use Rattle.std.proofs.lemmas.Option.{none-some, same_Some}
+use Rattle.hx_quota.specs.Inside.{entries_in}
+use Rattle.hx_quota.proofs.Formed.{own_is}
 use Rattle.hx_quota.proofs.forming.own_at.Goals as goal
 
 pub returns-in-Some : goal.returns-in-Some
-returns-in-Some c = λ n entry found. own_is c.args.places.now.entries c.args.at c.in-Some._name.now c.in-Some.place.now (sym c.get_index.ensures.entry ∙ ap (option_map deref_pair) c.in-Some.is) n entry found
+returns-in-Some c = λ n entry found. same_Some c.in-Some.own.now entry.own (sym (ap option_copied c.in-Some.is) ∙ own_is (entries_in c.args.places.now.entries) c.args.at (option_copied c.own_at.result) c.own_at.ensures n entry found)
 
 pub returns-in-None : goal.returns-in-None
-returns-in-None c = λ n entry found. own_none c.args.places.now.entries c.args.at (sym c.get_index.ensures.entry ∙ ap (option_map deref_pair) c.in-None.is) (replicate 15 0) n entry found
+returns-in-None c = λ n entry found. absurd (none-some entry.own (sym (ap option_copied c.in-None.is) ∙ own_is (entries_in c.args.places.now.entries) c.args.at (option_copied c.own_at.result) c.own_at.ensures n entry found))

@@ -1,23 +1,24 @@
-use Rattle.std.proofs.Common.{◌≡◌, ap, ◌∙◌, refl, replicate}
-use Rattle.hx_quota.specs.declared.entry.Entry.{Entry}
-use Rattle.hx_quota.specs.declared.places.Place.{Place}
-use Rattle.hx_quota.specs.Counters.{with_entry, new_entry}
-use Rattle.hx_quota.specs.Inside.{ordered, entries_of}
+use Rattle.std.proofs.Common.{◌≡◌, Option, Some, None, List, ℕ, cond, ap, refl, sym, ◌∙◌}
+use Rattle.std.specs.Str.{bytes_eq}
+use Rattle.std.proofs.lemmas.Option.{none-some}
+use Rattle.hx_quota.specs.PlaceRows.{Place, new_place, place_at}
+use Rattle.hx_quota.proofs.Indexed.{place_added}
 use Rattle.hx_quota.proofs.Keeping.{summed_added}
-use Rattle.hx_quota.proofs.Placed.{put_places}
+use Rattle.hx_quota.proofs.Placed.{entry_in, entry_at, put_places}
 use Rattle.hx_quota.proofs.ledger.Ledger.add.Goals as goal
 
+absent : (o : Option Place) → entry_in o ≡ None → o ≡ None
+absent None h = refl
+absent (Some p) h = absurd (none-some p.entry (sym h))
+
+pub insert-requires-clause-absent : goal.insert-requires-clause-absent
+insert-requires-clause-absent c = absent (place_at c.args.self.now.places.entries c.args.ns) (sym (entry_at c.args.self.now.places.entries c.args.ns) ∙ c.requires.absent)
+
+looks : (c : goal.After-insert) (q : List ℕ) → place_at c.insert.new.self.entries q ≡ cond (bytes_eq c.args.ns q) (Some new_place) (place_at c.args.self.now.places.entries q)
+looks c q = ap (λ xs. place_at xs q) c.insert.ensures.entries ∙ place_added c.args.self.now.places.entries c.args.ns new_place (absent (place_at c.args.self.now.places.entries c.args.ns) (sym (entry_at c.args.self.now.places.entries c.args.ns) ∙ c.requires.absent)) q
+
 pub returns-clause-entries : goal.returns-clause-entries
-returns-clause-entries c =
-    let place : Place = record { up = 0; entry = c.empty.result; sums = replicate 15 0 } in
-    let updates = rw c.unwrap-none.ensures at c.insert.ensures.updates in
-    put_places c.insert.new.self.entries c.args.self.now.places.entries c.args.ns place updates.0 ∙ ap (λ (e : Entry). with_entry c.args.ns e (entries_of c.args.self.now)) c.empty.ensures
+returns-clause-entries c = put_places c.insert.new.self.entries c.args.self.now.places.entries c.args.ns new_place (looks c)
 
 pub returns-clause-kept : goal.returns-clause-kept
-returns-clause-kept c = λ kept up.
-    let place : Place = record { up = 0; entry = c.empty.result; sums = replicate 15 0 } in
-    let old = c.args.self.now.places.entries in
-    let new = c.insert.new.self.entries in
-    let updates = rw c.unwrap-none.ensures at c.insert.ensures.updates in
-    let same : ordered new ≡ with_entry c.args.ns new_entry (ordered old) = put_places new old c.args.ns place updates.0 ∙ ap (λ (e : Entry). with_entry c.args.ns e (ordered old)) c.empty.ensures in
-    summed_added old new c.args.ns place c.requires.absent refl updates.0 same (kept up)
+returns-clause-kept c = λ kept up. summed_added c.args.self.now.places.entries c.insert.new.self.entries c.args.ns new_place c.requires.absent refl (looks c) (returns-clause-entries c) (kept up)

@@ -1,0 +1,8 @@
+use Rattle.std.proofs.Common.{sym, ◌∙◌}
+use Rattle.hx_quota.proofs.Joined.{sums_joined}
+use Rattle.hx_quota.proofs.place_table.PlaceTable.sums_at.Goals as goal
+
+pub returns : goal.returns
+returns c =
+    let t = c.self.inside in
+    rw (← c.self.view_is) (c.row.ensures ∙ sym (sums_joined t.links.entries t.own.items t.sums.rows c.self.invariant.whole c.args.at))

@@ -1,0 +1,88 @@
+-- What is kept of namespaces.
+--     Place, Places            what is kept of a namespace;  of all, under their names, in the order in which it lies
+--     PlacesView               the places, and how many more fit without taking memory
+--     new_place                the place of a namespace that comes
+--     joined                   the places whose parts lie in three lists
+--     changed_row              rows with one changed
+--     IsTable                  these are equally long, and names are distinct
+--     IsFoundAt                the place of a name lies at an index, or it has none
+use Rattle.std.specs.Prelude.{◌≡◌, ℕ, zero, suc, List, [], ◌∷◌, length, replicate, slice_get, Option, Some, None, refl}
+use Rattle.std.specs.Coded.{Coded, code_by, coded×, coded_list, coded_ℕ}
+use Rattle.std.specs.List.{IsDistinct}
+use Rattle.std.specs.Map.{keys_of, lookup}
+use Rattle.std.specs.Str.{bytes_eq}
+use Rattle.hx_quota.specs.declared.place_table.Link.{Link}
+use Rattle.hx_quota.specs.Counters.{Entry, entry_code, new_entry}
+
+-- what is kept of a namespace: where its parent lay when it was looked up, its entry, and what it has with all below it
+pub record Place : Type 0 where
+  pub up : ℕ
+  pub entry : Entry
+  pub sums : List ℕ
+
+abbrev pub place_code : Coded Place
+place_code = code_by (ℕ × (Entry × List ℕ)) (coded× coded_ℕ (coded× entry_code (coded_list coded_ℕ)))
+    (λ p. (p.up, (p.entry, p.sums))) (λ p. record { up = p.0; entry = p.1.0; sums = p.1.1 }) (λ _. refl)
+
+abbrev pub Places : Type 0
+Places = List (List ℕ × Place)
+
+-- the place of a name
+abbrev pub place_at : Places → List ℕ → Option Place
+place_at places n = lookup (bytes_eq n) places
+
+-- the places, and how many more fit without taking memory
+pub record PlacesView : Type 0 where
+  pub entries : Places
+  pub spare : ℕ
+
+abbrev pub places_code : Coded PlacesView
+places_code = code_by (Places × ℕ) (coded× (coded_list (coded× (coded_list coded_ℕ) place_code)) coded_ℕ)
+    (λ v. (v.entries, v.spare)) (λ p. record { entries = p.0; spare = p.1 }) (λ _. refl)
+
+-- the place of a namespace that comes
+abbrev pub new_place : Place
+new_place = record { up = 0; entry = new_entry; sums = replicate 15 0 }
+
+-- ---- three lists
+
+abbrev pub Links : Type 0
+Links = List (List ℕ × Link)
+
+abbrev pub Rows : Type 0
+Rows = List (List ℕ)
+
+-- the first row, and those behind it
+abbrev pub first_row : Rows → List ℕ
+first_row [] = []
+first_row (row ∷ rows) = row
+
+abbrev pub behind : Rows → Rows
+behind [] = []
+behind (row ∷ rows) = rows
+
+-- a place of its parts
+abbrev pub place_of_parts : Link → List ℕ → List ℕ → Place
+place_of_parts link own sums = record { up = link.up; entry = record { parent = link.parent; own = own }; sums = sums }
+
+-- the places whose links, own sums and sums over subtrees lie in three lists
+abbrev pub joined : Links → Rows → Rows → Places
+joined [] owns sums = []
+joined (e ∷ links) owns sums = (e.0, place_of_parts e.1 (first_row owns) (first_row sums)) ∷ joined links (behind owns) (behind sums)
+
+-- with the row at an index changed
+abbrev pub changed_row : ℕ → (List ℕ → List ℕ) → Rows → Rows
+changed_row at change [] = []
+changed_row zero change (row ∷ rows) = change row ∷ rows
+changed_row (suc at) change (row ∷ rows) = row ∷ changed_row at change rows
+
+-- the lists are equally long, and no name is there twice
+pub record IsTable (links : Links) (owns sums : Rows) : Type 0 where
+  pub distinct : IsDistinct bytes_eq (keys_of links)
+  pub own : length owns ≡ length links
+  pub whole : length sums ≡ length links
+
+-- the place of a name lies at that index, and there is none without one
+abbrev pub IsFoundAt : Places → List ℕ → Option ℕ → Type 0
+IsFoundAt places n None = place_at places n ≡ None
+IsFoundAt places n (Some at) = (p : Place) × (slice_get places at ≡ Some (n, p)) × (place_at places n ≡ Some p)

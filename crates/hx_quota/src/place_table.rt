@@ -1,0 +1,260 @@
+// What is kept of namespaces, in parts that lie side by side.
+ghost use Rattle.std.specs.Prelude.{◌≡◌, ℕ, ◌+◌, ◌<◌, ◌≤◌, true, false, Some, None, [], ◌∷◌, ◌++◌, is_some, List, OnOk, IfSome, if◌then◌else◌, length, option_and_then, option_copied, option_map, position, slice_get, slice_index, vec_len};
+ghost use Rattle.std.specs.List.{IsDistinct};
+ghost use Rattle.std.specs.Map.{keys_of};
+ghost use Rattle.std.specs.Str.{bytes_eq};
+ghost use Rattle.std.specs.Vec.{vec_capacity};
+ghost use Rattle.indexmap.specs.IndexMap.{set_value_at, spare};
+ghost use Rattle.hx_quota.specs.Counters.{shifted, AreApart, HaveOld};
+ghost use Rattle.hx_quota.specs.PlaceRows.{Place, changed_row, new_place, place_at, IsFoundAt};
+ghost use Rattle.hx_quota.specs.Inside.{entries_in, MayAdjust, OwnFit};
+ghost use Rattle.hx_quota.specs.Anew.{name_at, with_sums, with_parent_at, with_shifted_at, HasAdjusted};
+
+use crate::entry::Delta;
+use crate::places::Change;
+use crate::shifting::shift;
+use crate::sum_table::SumTable;
+use hx_object::{NoMemory, Text};
+use indexmap::IndexMap;
+use std::alloc::Global;
+use std::hash::RandomState;
+use std::marker::Model;
+
+/// What a step up the parents reads of a namespace.
+pub(crate) struct Link {
+    /// Where the parent lay when it was looked up. It may lie elsewhere by now.
+    pub(crate) up: usize,
+    pub(crate) parent: Option<Text>,
+}
+
+impl Drop for Link {
+    fn drop(self) {
+        let Link { up: _, parent: _ } = self;
+    }
+}
+
+/// Links by the names of namespaces.
+type LinkMap = IndexMap<Text, Link, RandomState>;
+
+/// Places by the names of their namespaces, and by their indices.
+///
+/// A walk up the parents reads the links alone, so these lie close to one another, and the amounts elsewhere, each namespace's at its index.
+pub(crate) struct PlaceTable {
+    links: LinkMap,
+    /// What each has by itself, in the order of the resources.
+    own: Vec<[u128; 15]>,
+    /// What each has with all below it.
+    sums: SumTable,
+}
+
+impl Drop for PlaceTable {
+    fn drop(self) {
+        let PlaceTable {
+            links: _,
+            own: _,
+            sums: _,
+        } = self;
+    }
+}
+
+impl Model for PlaceTable {
+    ghost use Rattle.std.specs.Prelude.{◌-◌, min, vec_len};
+    ghost use Rattle.std.specs.Vec.{vec_capacity};
+    ghost use Rattle.indexmap.specs.IndexMap.{spare};
+    ghost use Rattle.hx_quota.specs.PlaceRows.{PlacesView, places_code, joined, IsTable};
+
+    ghost Value = { PlacesView };
+
+    ghost coded = { places_code };
+
+    ghost view = { λ t. record { entries = joined t.links.entries t.own.items t.sums.rows; spare = min (spare t.links) (min (vec_capacity t.own - vec_len t.own) t.sums.spare) } };
+
+    ghost invariant = { λ t. IsTable t.links.entries t.own.items t.sums.rows };
+}
+
+impl PlaceTable {
+    /// No places. It takes no memory.
+    pub(crate) fn new(alloc: Global, keys: RandomState) -> PlaceTable
+        ensures { result.entries ≡ [] }
+    {
+        PlaceTable {
+            links: IndexMap::with_hasher(alloc, keys),
+            own: Vec::new(alloc),
+            sums: SumTable::new(alloc),
+        }
+    }
+
+    /// Makes room for `more`. Where no memory is left, the room stays.
+    pub(crate) fn reserve(&mut self, more: usize) -> Result<(), NoMemory>
+        ensures entries { self.new.entries ≡ self.old.entries }
+        ensures room { OnOk result (more ≤ self.new.spare) }
+        ensures stays { self.old.spare ≤ self.new.spare }
+    {
+        self.links.reserve(more)?;
+        self.own.reserve(more)?;
+        self.sums.reserve(more)
+    }
+
+    /// How many places there are.
+    pub(crate) fn len(&self) -> usize
+        ensures len { result ≡ length self.now.entries }
+        ensures distinct { IsDistinct bytes_eq (keys_of self.now.entries) }
+    {
+        self.links.len()
+    }
+
+    /// The index of a namespace.
+    pub(crate) fn index_of(&self, name: &Text) -> Option<usize>
+        ensures index { result ≡ position (bytes_eq name.now) (keys_of self.now.entries) }
+        ensures found { is_some result ≡ is_some (place_at self.now.entries name.now) }
+        ensures within { IfSome result (λ i. i < length self.now.entries) }
+        ensures place { IsFoundAt self.now.entries name.now result }
+        ensures distinct { IsDistinct bytes_eq (keys_of self.now.entries) }
+    {
+        self.links.get_index_of(name)
+    }
+
+    /// The name of the namespace at an index.
+    pub(crate) fn name_at(&self, at: usize) -> Option<&Text>
+        ensures { option_copied result ≡ name_at (entries_in self.now.entries) at }
+    {
+        match self.links.get_index(at) {
+            Some((name, _link)) => Some(name),
+            None => None,
+        }
+    }
+
+    /// The name of its parent.
+    pub(crate) fn parent_at(&self, at: usize) -> Option<&Text>
+        ensures parent { option_copied result ≡ option_and_then (λ e. e.1.entry.parent) (slice_get self.now.entries at) }
+        ensures distinct { IsDistinct bytes_eq (keys_of self.now.entries) }
+    {
+        match self.links.get_index(at) {
+            Some((_name, link)) => link.parent.as_ref(),
+            None => None,
+        }
+    }
+
+    /// Where that lay when it was looked up.
+    pub(crate) fn up_at(&self, at: usize) -> usize {
+        match self.links.get_index(at) {
+            Some((_name, link)) => link.up,
+            None => 0,
+        }
+    }
+
+    /// What the namespace at an index has by itself.
+    pub(crate) fn own_at(&self, at: usize) -> Option<&[u128; 15]>
+        ensures { option_copied result ≡ option_map (λ e. e.1.own) (slice_get (entries_in self.now.entries) at) }
+    {
+        self.own.get(at)
+    }
+
+    /// What it has of one resource with all below it.
+    pub(crate) fn sum_at(&self, at: usize, place: usize) -> u128
+        requires { place < 15 }
+        ensures { (n : List ℕ) (p : Place) → slice_get self.now.entries at ≡ Some (n, p) → result ≡ slice_index p.sums place }
+    {
+        self.sums.get(at, place)
+    }
+
+    /// The same of each.
+    pub(crate) fn sums_at(&self, at: usize) -> Option<[u128; 15]>
+        ensures { result ≡ option_map (λ e. e.1.sums) (slice_get self.now.entries at) }
+    {
+        self.sums.row(at)
+    }
+
+    /// Adds a namespace without a parent that has nothing. It takes no memory.
+    pub(crate) fn insert(&mut self, name: Text)
+        requires room { 1 ≤ self.old.spare }
+        requires absent { place_at self.old.entries name ≡ None }
+        ensures entries { self.new.entries ≡ self.old.entries ++ (name, new_place) ∷ [] }
+        ensures room { self.old.spare ≤ self.new.spare + 1 }
+    {
+        let link = Link {
+            up: 0,
+            parent: None,
+        };
+        let _none = self.links.insert(name, link).unwrap();
+        self.own.push([0; 15]).unwrap();
+        self.sums.push();
+    }
+
+    /// Takes a namespace out, where it is there. The last one takes its index.
+    pub(crate) fn swap_remove(&mut self, name: &Text)
+        ensures places { (q : List ℕ) → place_at self.new.entries q ≡ (if bytes_eq name.now q then None else place_at self.old.entries q) }
+        ensures room { self.old.spare ≤ self.new.spare }
+    {
+        let Some(at) = self.links.get_index_of(name) else {
+            return;
+        };
+        let _link = self.links.swap_remove_index(at);
+        let _own = self.own.swap_remove(at);
+        self.sums.swap_remove(at);
+    }
+
+    /// Gives the namespace at an index another parent, or none, and notes where that lies.
+    pub(crate) fn set_parent(&mut self, at: usize, parent: Option<Text>, up: usize)
+        ensures entries { self.new.entries ≡ with_parent_at at parent up self.old.entries }
+        ensures room { self.old.spare ≤ self.new.spare }
+    {
+        relink(&mut self.links, at, Link { up, parent });
+    }
+
+    /// Makes deltas of what the namespace at an index has by itself.
+    pub(crate) fn shift_own(&mut self, at: usize, deltas: &[Delta])
+        requires apart { AreApart deltas.now }
+        requires old { (n : List ℕ) (p : Place) → slice_get self.old.entries at ≡ Some (n, p) → HaveOld deltas.now p.entry.own }
+        requires fits { (n : List ℕ) (p : Place) → slice_get self.old.entries at ≡ Some (n, p) → OwnFit (shifted deltas.now p.entry.own) }
+        ensures entries { self.new.entries ≡ with_shifted_at at deltas.now self.old.entries }
+        ensures long { (n : List ℕ) (p : Place) → slice_get self.old.entries at ≡ Some (n, p) → length p.entry.own ≡ 15 }
+        ensures room { self.old.spare ≤ self.new.spare }
+    {
+        shift_row(&mut self.own, at, deltas);
+    }
+
+    /// Changes what it has with all below it, and says whether there is one.
+    pub(crate) fn adjust(&mut self, at: usize, change: &Change) -> bool
+        requires { (sums : List ℕ) → Some sums ≡ option_map (λ e. e.1.sums) (slice_get self.old.entries at) → MayAdjust change.now.take change.now.give sums }
+        ensures there { result ≡ true → HasAdjusted change.now.take change.now.give at self.old.entries self.new.entries }
+        ensures absent { result ≡ false → slice_get self.old.entries at ≡ None }
+        ensures same { result ≡ false → self.new.entries ≡ self.old.entries }
+        ensures room { self.old.spare ≤ self.new.spare }
+    {
+        self.sums.adjust(at, change)
+    }
+
+    /// Replaces that.
+    pub(crate) fn set_sums(&mut self, at: usize, sums: [u128; 15])
+        ensures entries { self.new.entries ≡ with_sums at sums self.old.entries }
+        ensures room { self.old.spare ≤ self.new.spare }
+    {
+        self.sums.set(at, sums);
+    }
+}
+
+/// Replaces the link at an index, where there is one.
+fn relink(links: &mut LinkMap, at: usize, link: Link)
+    ensures links { links.new.entries ≡ set_value_at links.old.entries at link }
+    ensures room { spare links.old ≤ spare links.new }
+{
+    if let Some(place) = links.get_index_mut(at) {
+        *place = link;
+    }
+}
+
+/// Makes deltas of the row at an index, where there is one.
+fn shift_row(rows: &mut Vec<[u128; 15]>, at: usize, deltas: &[Delta])
+    requires apart { AreApart deltas.now }
+    requires old { (own : List ℕ) → slice_get rows.old.items at ≡ Some own → HaveOld deltas.now own }
+    requires fits { (own : List ℕ) → slice_get rows.old.items at ≡ Some own → OwnFit (shifted deltas.now own) }
+    ensures rows { rows.new.items ≡ changed_row at (shifted deltas.now) rows.old.items }
+    ensures long { (own : List ℕ) → slice_get rows.old.items at ≡ Some own → length own ≡ 15 }
+    ensures len { vec_len rows.new ≡ vec_len rows.old }
+    ensures room { vec_capacity rows.new ≡ vec_capacity rows.old }
+{
+    if at < rows.len() {
+        shift(&mut rows[at], deltas);
+    }
+}
