@@ -1,14 +1,15 @@
 #!/usr/bin/env python3
 """Commits per second of `hnc run --db FILE` against the same statements in C over the installed SQLite.
 
-Usage: bench/commits.py PROGRAM [FOLDER]
+Usage: bench/commits.py PROGRAM [FOLDER [SYNC_US]]
 PROGRAM is the built program, which bin/hnc leaves as crates/hnc/out/hnc. The databases lie in a new folder within FOLDER, the current one where
-none is given: it is that folder's disk whose syncs are measured. The program in C is bench/commits.c, with statements that are prepared once,
+none is given: it is that folder's disk whose syncs are measured. Where SYNC_US is given, each sync of both programs takes at least so many
+microseconds, as on a slower disk (bench/slow_sync.c). The program in C is bench/commits.c, with statements that are prepared once,
 `journal_mode=WAL` and `synchronous=FULL`. It is built by cc in a temporary folder, and takes the rows that the program made, as lines.
 Prints how long a sync of the disk takes, and then a line per kind of row: the commits per second of both, and the ratio of the program's to the
-other's. The program reads requests, reviews them and answers objects; the other one is given its rows. Times are those of the wall clock over
-all commits of a run on a new file, with the checkpoints that come among them. Runs of the two take turns, and the least time of each counts. At
-the end of each turn both files have the same rows.
+other's. The program reads requests, reviews them and answers objects, which go to memory and not to the disk; the other one is given its rows.
+Times are those of the wall clock over all commits of a run on a new file, with the checkpoints that come among them. Runs of the two take turns,
+and the least time of each counts. At the end of each turn both files have the same rows.
 """
 import contextlib
 import json
@@ -26,7 +27,7 @@ from program import Run, create, namespace, replace
 TURNS = 5
 NAMES = 500
 SPACE = "n"
-SOURCE = f"{os.path.dirname(os.path.abspath(__file__))}/commits.c"
+HERE = os.path.dirname(os.path.abspath(__file__))
 
 
 class Case(NamedTuple):
@@ -60,15 +61,22 @@ CASES = (
 )
 
 
-def build(folder):
-    """The program in C, built in a folder."""
+def build(folder, source, *words):
+    """What cc makes of a source beside this file, in a folder."""
     if not shutil.which("cc"):
-        sys.exit("commits.py: cc isn't installed, so that commits.c can't be built")
-    built = f"{folder}/commits"
-    ran = subprocess.run(["cc", "-O2", "-Wall", "-o", built, SOURCE, "-lsqlite3"], capture_output=True, text=True)
+        sys.exit(f"commits.py: cc isn't installed, so that {source} can't be built")
+    built = f"{folder}/{source.removesuffix('.c')}"
+    ran = subprocess.run(["cc", "-O2", "-Wall", "-o", built, f"{HERE}/{source}", *words], capture_output=True, text=True)
     if ran.returncode:
-        sys.exit(f"commits.py: cc doesn't build commits.c, for want of sqlite3.h perhaps, which Debian has as libsqlite3-dev:\n{ran.stderr}")
+        sys.exit(f"commits.py: cc doesn't build {source}, for want of sqlite3.h perhaps, which Debian has as libsqlite3-dev:\n{ran.stderr}")
     return built
+
+
+def slow_down(folder, microseconds):
+    """Lets each sync of the programs that are run from now on take at least so long."""
+    library = build(folder, "slow_sync.c", "-shared", "-fPIC", "-ldl")
+    os.environ.update(LD_PRELOAD=library, SYNC_US=microseconds)
+    print(f"syncs take at least {microseconds} us", flush=True)
 
 
 def sync_time(folder):
@@ -97,7 +105,7 @@ def lines_of(answers):
 
 def run(program, path, before, lines):
     """The seconds that lines take behind others, and the answers of all."""
-    child = Run(program, "--db", path)
+    child = Run(program, "--db", path, answers=os.fdopen(os.memfd_create("answers"), "rb+"))
     answers = child.ask(before)
     start = time.perf_counter()
     measured = child.ask(lines)
@@ -126,12 +134,14 @@ def measure(programs, case):
 
 
 def main():
-    program, *folder = sys.argv[1:]
+    program, folder, wanted, *_ = *sys.argv[1:], None, None
     program = os.path.abspath(program)
-    with tempfile.TemporaryDirectory(dir=os.path.abspath(*folder or ["."])) as place:
+    with tempfile.TemporaryDirectory(dir=os.path.abspath(folder or ".")) as place:
         os.chdir(place)
         print(f"a sync of 4 KiB: {sync_time(place) * 1e6:.0f} us")
-        programs = (program, build(place))
+        programs = (program, build(place, "commits.c", "-lsqlite3"))
+        if wanted:
+            slow_down(place, wanted)
         for case in CASES:
             measure(programs, case)
 

@@ -5,7 +5,8 @@ Usage: bench/conflicts.py PROGRAM
 PROGRAM is the built program, which bin/hnc leaves as crates/hnc/out/hnc.
 Prints one line per kind of request: the time per request at each size, and their ratio. A tree is a root and columns of eight namespaces, each
 the parent of the next one, with 15 Roles in each, whose names differ. Roles are always propagated, so each new one asks whether a source lies
-below it under its name, or above it. A Role is made in a leaf, or in the root, and removed again: both requests count. A PUT changes the
+below it under its name, or above it. A Role is made in a leaf, or in the root, and removed again: both requests count. In the root it marks a
+copy in every namespace; what the review of it takes is seen where it has the name of a Role in a leaf, so that it is refused. A PUT changes the
 contents of a Role in a leaf. A move takes the fourth of a column with the four below it, and their 75 Roles, below the third of another one. All
 come in shuffled order and in parts of 248 requests, in turns at the small and the large size. The least of 32 parts counts. Everything runs on
 one processor.
@@ -66,6 +67,11 @@ class Filled(Columns):
     def at_root(self):
         return self.comes_and_goes(itertools.repeat("n0"))
 
+    def refused(self):
+        """POSTs of Roles in the root that would overwrite one of a leaf."""
+        for number, (ns, _) in enumerate(self.leaves()):
+            yield make("n0", f"r{ns[1:]}-{number % OBJECTS}")
+
     def contents(self):
         """PUTs that change a Role of a leaf."""
         for number, (ns, turn) in enumerate(self.leaves()):
@@ -79,6 +85,7 @@ def main():
     names = [f"{namespaces:,} namespaces" for namespaces in SIZES]
     compare("POST and DELETE of a Role in a leaf", names, trees, Filled.at_leaves)
     compare("POST and DELETE of a Role in the root", names, trees, Filled.at_root)
+    compare("POST of a Role in the root that is refused", names, trees, Filled.refused, statuses=b"403 ")
     compare("PUT of a Role's contents", names, trees, Filled.contents)
     compare("PUT that moves an inner subtree", names, trees, lambda tree: tree.moves(DEPTH // 2))
     for tree in trees:

@@ -29,6 +29,9 @@ class Kind(NamedTuple):
 
 CONFIG_MAP = Kind("v1", "ConfigMap", "configmaps")
 
+# How the answers of requests begin that succeed.
+SUCCESS = (b"200 ", b"201 ")
+
 
 def namespace(name):
     return f"POST /api/v1/namespaces {Kind('v1', 'Namespace', 'namespaces').body(name)}\n"
@@ -63,17 +66,17 @@ def parts(lines, size):
 
 
 class Run:
-    """A run of the program with these options, which waits for more lines until it is closed."""
+    """A run of the program with these options, which waits for more lines until it is closed. Its answers go to a file that is given, or to a temporary one."""
 
-    def __init__(self, program, *options):
-        self.answers = tempfile.TemporaryFile()
+    def __init__(self, program, *options, answers=None):
+        self.answers = answers or tempfile.TemporaryFile()
         self.taken = 0
         self.child = subprocess.Popen([program, "run", *options], stdin=subprocess.PIPE, stdout=self.answers)
 
-    def ask(self, lines):
-        """Sends lines and gives their answers, each of which is a success."""
+    def ask(self, lines, statuses=SUCCESS):
+        """Sends lines and gives their answers, each of which has one of the statuses."""
         answers = self.tell(lines, lambda text: text.count(b"\n") >= len(lines))
-        assert len(answers) == len(lines) and all(answer.startswith((b"200 ", b"201 ")) for answer in answers)
+        assert len(answers) == len(lines) and all(answer.startswith(statuses) for answer in answers)
         return answers
 
     def settle(self, most=1_000_000_000):
@@ -95,10 +98,10 @@ class Run:
         self.taken += len(text)
         return text.splitlines()
 
-    def seconds(self, lines):
+    def seconds(self, lines, statuses=SUCCESS):
         """The processor's time for the lines, in the program and in the system."""
         before = self.used()
-        self.ask(lines)
+        self.ask(lines, statuses)
         return self.used() - before
 
     def used(self):
@@ -127,10 +130,10 @@ class Run:
         self.answers.close()
 
 
-def compare(kind, names, runs, lines, part=248, count=32):
+def compare(kind, names, runs, lines, part=248, count=32, statuses=SUCCESS):
     """Prints the least time per request in two runs, which take turns in so many parts of the lines that each gives, and the ratio of the second to the first."""
     turns = [(run, parts(lines(run), part)) for run in runs]
-    report(kind, names, [[run.seconds(next(its)) for run, its in turns] for _ in range(count)], part)
+    report(kind, names, [[run.seconds(next(its), statuses) for run, its in turns] for _ in range(count)], part)
 
 
 def report(kind, names, times, part):
