@@ -9,15 +9,17 @@
 --     level_as, rows_as                    columns with the same sums
 --     pushed_rows, removed_rows, set_rows  a row more, a row less, another row
 --     adjusted_row                         a row that is adjusted
+--     told_as, told_set                    flags stay right with the same sums;  those of another row
+--     told_pushed, told_removed            those of a row more, a row less
 use Rattle.std.specs.Prelude.{slice_index, slice_set, slice_get}
 use Rattle.std.specs.List.{range_with_len, swap_remove, AllByRecursion}
-use Rattle.std.proofs.Common.{◌≡◌, ℕ, zero, suc, ◌+◌, ◌-◌, ◌<◌, ◌≤◌, ◌^◌, inl, inr, Some, None, List, [], ◌∷◌, ◌++◌, length, map, get_or, set, take, replicate, sym, ap, subst, ◌∙◌, arith}
-use Rattle.std.proofs.lemmas.Bool.{cases_eq}
+use Rattle.std.proofs.Common.{◌≡◌, ℕ, Bool, true, false, zero, suc, ◌+◌, ◌-◌, ◌<◌, ◌≤◌, ◌^◌, inl, inr, Some, None, List, [], ◌∷◌, ◌++◌, length, map, get_or, set, take, replicate, sym, ap, subst, ◌∙◌, arith}
+use Rattle.std.proofs.lemmas.Bool.{cases_eq, cases_lt}
 use Rattle.std.proofs.lemmas.List.{set-get_or, ext_get_or, get_or-map, length-map, length_push, get_or_append_left, get_or_push, get_or-take, get_or-set_same, get_or-set_other, length-take, length-set, get_or_past, get_or-replicate, get_or_default}
 use Rattle.std.proofs.lemmas.List.FromFn.{length-map-range_with_len, get_or-map-range_with_len}
 use Rattle.std.proofs.lemmas.Option.{slice_get-get_or, slice_get_within, get_or_from_slice_get, none-some}
 use Rattle.hx_quota.specs.Inside.{adjusted, MayAdjust}
-use Rattle.hx_quota.specs.SumRows.{ColumnView, SumsView, no_column, column_at, height_of, row_at, rows_of, least_room, AreLevel, AdjustsRow}
+use Rattle.hx_quota.specs.SumRows.{ColumnView, SumsView, no_column, column_at, height_of, row_at, rows_of, least_room, flags_at, flag_of, AreLevel, AreTold, AdjustsRow}
 
 -- where as much is added as is taken
 pub same_sum : (sums : List ℕ) (at take give : ℕ) → take ≡ give → take ≤ slice_index sums at → sums ≡ slice_set sums at (slice_index sums at - take + give)
@@ -60,7 +62,7 @@ pub long_rows : (cs : List ColumnView) → length (rows_of cs) ≡ height_of cs
 long_rows cs = length-map-range_with_len (row_at cs) 0 (height_of cs)
 
 -- an index of a row is one of the columns
-pub is_there : (cs : List ColumnView) {seen : SumsView} (i : ℕ) → record { rows = rows_of cs; spare = least_room cs } ≡ seen → i < length seen.rows → i < height_of cs
+pub is_there : (cs : List ColumnView) {room : ℕ} {seen : SumsView} (i : ℕ) → record { rows = rows_of cs; spare = room } ≡ seen → i < length seen.rows → i < height_of cs
 is_there cs i view within = omega (arith, within, ap (λ (v : SumsView). length v.rows) view, long_rows cs)
 
 wide_from : (cs : List ColumnView) → length cs ≡ 15 → (is : List ℕ) → AllByRecursion (λ (row : List ℕ). length row ≡ 15) (map (row_at cs) is)
@@ -293,4 +295,68 @@ module _ (take give : List ℕ) (at : ℕ) (old new : List ColumnView) (l : AreL
     there = slice_get-get_or (rows_of old) at [] (omega (arith, there, long_rows old));
     rows = set_rows old new l all at (adjusted_by take give before) (length-map-range_with_len (adjusted take give before) 0 15) as_set;
     each = is_adjusted;
+  }
+
+-- ---- flags
+
+module _ (old new : List ColumnView) (l : AreLevel old) (flags : List (List Bool)) (t : AreTold old flags) where
+  -- with the same sums
+  pub told_as : ((k : ℕ) → k < 15 → (column_at new k).sums ≡ (column_at old k).sums) → AreTold new flags
+  told_as sums = record {
+    long = t.long ∙ sym (ap length (sums 0 (omega arith)));
+    empty = λ i k place down. ap (λ (xs : List ℕ). slice_index xs i) (sums k place) ∙ t.empty i k place down;
+  }
+
+  -- nothing came behind the others
+  pub told_pushed : ((k : ℕ) → k < 15 → (column_at new k).sums ≡ (column_at old k).sums ++ 0 ∷ []) → AreTold new (flags ++ replicate 15 false ∷ [])
+  told_pushed sums = record {
+    long = length_push flags (replicate 15 false) ∙ ap (λ n. n + 1) t.long ∙ sym (ap length (sums 0 (omega arith)) ∙ length_push (column_at old 0).sums 0);
+    empty = λ i k place down. ap (λ (xs : List ℕ). slice_index xs i) (sums k place) ∙ elim (cases_lt i (height_of old)) [
+      | inl before ↦
+          let same : flags_at (flags ++ replicate 15 false ∷ []) i ≡ flags_at flags i = get_or_append_left flags (replicate 15 false ∷ []) (replicate 15 true) i (omega (arith, before, t.long)) in
+          get_or_append_left (column_at old k).sums (0 ∷ []) 0 i (omega (arith, before, l.level k place)) ∙ t.empty i k place (sym (ap (λ (fs : List Bool). flag_of fs k) same) ∙ down)
+      | inr past ↦ elim (cases_eq i (height_of old)) [
+        | inl e ↦ get_or_push (column_at old k).sums 0 0 i (l.level k place ∙ sym e)
+        | inr out ↦ get_or_past ((column_at old k).sums ++ 0 ∷ []) i 0 (grind (arith, past, out, l.level k place, length_push (column_at old k).sums 0))
+      ]
+    ];
+  }
+
+  -- a row is taken out, and the last one comes in its place
+  pub told_removed : (at : ℕ) → at < height_of old → ((k : ℕ) → k < 15 → (column_at new k).sums ≡ swap_remove (column_at old k).sums at 0) → AreTold new (swap_remove flags at [])
+  told_removed at there sums = record {
+    long = swapped_long flags at [] ∙ ap (λ n. n - 1) t.long ∙ sym (ap length (sums 0 (omega arith)) ∙ swapped_long (column_at old 0).sums at 0);
+    empty = λ i k place down. ap (λ (xs : List ℕ). slice_index xs i) (sums k place) ∙ elim (cases_lt (i + 1) (height_of old)) [
+      | inr past ↦ get_or_past (swap_remove (column_at old k).sums at 0) i 0 (omega (arith, past, swapped_long (column_at old k).sums at 0, l.level k place))
+      | inl within ↦ elim (cases_eq i at) [
+        | inl e ↦
+            let same : flags_at (swap_remove flags at []) i ≡ flags_at flags (height_of old - 1) =
+            ap (λ n. flags_at (swap_remove flags at []) n) e ∙ swapped_here flags at [] (replicate 15 true) (omega (arith, within, e, t.long)) ∙ ap (λ n. flags_at flags (n - 1)) t.long in
+            ap (λ n. slice_index (swap_remove (column_at old k).sums at 0) n) e ∙ swapped_here (column_at old k).sums at 0 0 (omega (arith, within, e, l.level k place))
+            ∙ ap (λ n. slice_index (column_at old k).sums (n - 1)) (l.level k place) ∙ t.empty (height_of old - 1) k place (sym (ap (λ (fs : List Bool). flag_of fs k) same) ∙ down)
+        | inr out ↦
+            let same : flags_at (swap_remove flags at []) i ≡ flags_at flags i = swapped_other flags at i [] (replicate 15 true) (omega (arith, within, t.long)) out in
+            swapped_other (column_at old k).sums at i 0 0 (omega (arith, within, l.level k place)) out ∙ t.empty i k place (sym (ap (λ (fs : List Bool). flag_of fs k) same) ∙ down)
+      ]
+    ];
+  }
+
+  -- other sums at an index, and other flags
+  pub told_set : (at : ℕ) (row : List Bool) (sum : ℕ → ℕ) → ((k : ℕ) → k < 15 → flag_of row k ≡ false → sum k ≡ 0) → ((k : ℕ) → k < 15 → (column_at new k).sums ≡ slice_set (column_at old k).sums at (sum k))
+      → AreTold new (slice_set flags at row)
+  told_set at row sum told sums = record {
+    long = length-set flags at row ∙ t.long ∙ sym (ap length (sums 0 (omega arith)) ∙ length-set (column_at old 0).sums at (sum 0));
+    empty = λ i k place down. ap (λ (xs : List ℕ). slice_index xs i) (sums k place) ∙ elim (cases_eq i at) [
+      | inr out ↦
+          let same : flags_at (slice_set flags at row) i ≡ flags_at flags i = get_or-set_other flags at i row (replicate 15 true) out in
+          get_or-set_other (column_at old k).sums at i (sum k) 0 out ∙ t.empty i k place (sym (ap (λ (fs : List Bool). flag_of fs k) same) ∙ down)
+      | inl e ↦ elim (cases_lt at (height_of old)) [
+        | inl within ↦
+            let same : flags_at (slice_set flags at row) i ≡ row =
+            ap (λ n. flags_at (slice_set flags at row) n) e ∙ get_or-set_same flags at row (replicate 15 true) (omega (arith, within, t.long)) in
+            ap (λ n. slice_index (slice_set (column_at old k).sums at (sum k)) n) e ∙ get_or-set_same (column_at old k).sums at (sum k) 0 (omega (arith, within, l.level k place))
+            ∙ told k place (sym (ap (λ (fs : List Bool). flag_of fs k) same) ∙ down)
+        | inr past ↦ get_or_past (slice_set (column_at old k).sums at (sum k)) i 0 (omega (arith, e, past, length-set (column_at old k).sums at (sum k), l.level k place))
+      ]
+    ];
   }

@@ -2,7 +2,7 @@
 ghost use Rattle.std.specs.Prelude.{◌≡◌, ℕ, ◌+◌, ◌-◌, ◌<◌, ◌≤◌, ◌^◌, true, false, Some, None, List, [], ◌∷◌, ◌++◌, length, replicate, slice_get, slice_index, slice_set, OnOk};
 ghost use Rattle.std.specs.List.{swap_remove, AllByRecursion};
 ghost use Rattle.hx_quota.specs.Inside.{MayAdjust};
-ghost use Rattle.hx_quota.specs.SumRows.{column_at, AdjustsRow};
+ghost use Rattle.hx_quota.specs.SumRows.{column_at, flag_of, flags_at, AdjustsRow};
 
 use crate::places::Change;
 use hx_object::NoMemory;
@@ -90,20 +90,25 @@ impl Column {
         }
     }
 
-    /// Takes something off the sum at an index, and adds something to it. Where that is as much, it reads nothing.
-    #[tactic(auto, using(crate::proofs::Rows::same_sum))]
-    fn adjust(&mut self, at: usize, take: u128, give: u128)
+    /// A sum that is 0 where it isn't `filled`: then it reads nothing.
+    fn get_filled(&self, at: usize, filled: bool) -> u128
+        requires { filled ≡ false → slice_index self.now.sums at ≡ 0 }
+        ensures { result ≡ slice_index self.now.sums at }
+    {
+        if filled { self.get(at) } else { 0 }
+    }
+
+    /// Takes something off the sum at an index, and adds something to it. It says whether the sum isn't 0.
+    fn adjust(&mut self, at: usize, take: u128, give: u128) -> bool
         requires there { take ≤ slice_index self.old.sums at }
         requires fits { slice_index self.old.sums at - take + give < 2 ^ 128 }
         ensures sums { self.new.sums ≡ slice_set self.old.sums at (slice_index self.old.sums at - take + give) }
+        ensures filled { result ≡ false → slice_index self.old.sums at - take + give ≡ 0 }
         ensures room { self.new.spare ≡ self.old.spare }
     {
-        if take == give {
-            return;
-        }
-        if let Some(sum) = self.sums.get_mut(at) {
-            *sum = *sum - take + give;
-        }
+        let sum = self.get(at) - take + give;
+        self.set(at, sum);
+        sum != 0
     }
 }
 
@@ -154,27 +159,36 @@ fn swap_remove_all(columns: &mut Columns, at: usize)
     }
 }
 
-/// The sums at an index.
-fn row_of(columns: &Columns, at: usize) -> [u128; 15]
+/// The sums at an index, where those are 0 that aren't filled.
+fn row_of(columns: &Columns, filled: &[bool; 15], at: usize) -> [u128; 15]
+    requires { (k : ℕ) → k < 15 → flag_of filled.now k ≡ false → slice_index (column_at columns.now k).sums at ≡ 0 }
     ensures long { length result ≡ 15 }
     ensures sums { (k : ℕ) → k < 15 → slice_index result k ≡ slice_index (column_at columns.now k).sums at }
 {
     let mut row = [0; 15];
     for place in 0..15 {
-        row[place] = columns[place].get(at);
+        row[place] = columns[place].get_filled(at, filled[place]);
     }
     row
 }
 
-/// Changes the sums at an index.
-fn adjust_all(columns: &mut Columns, at: usize, change: &Change)
-    requires { (k : ℕ) → k < 15 → (slice_index change.now.take k ≤ slice_index (column_at columns.old k).sums at) × (slice_index (column_at columns.old k).sums at - slice_index change.now.take k + slice_index change.now.give k < 2 ^ 128) }
+/// Changes the sums at an index, and which of them are filled. Of a resource that stays the same it reads nothing.
+#[tactic(auto, using(crate::proofs::Rows::same_sum))]
+fn adjust_all(columns: &mut Columns, filled: &mut [bool; 15], at: usize, change: &Change)
+    requires empty { (k : ℕ) → k < 15 → flag_of filled.old k ≡ false → slice_index (column_at columns.old k).sums at ≡ 0 }
+    requires may { (k : ℕ) → k < 15 → (slice_index change.now.take k ≤ slice_index (column_at columns.old k).sums at) × (slice_index (column_at columns.old k).sums at - slice_index change.now.take k + slice_index change.now.give k < 2 ^ 128) }
     ensures long { length columns.new ≡ 15 }
     ensures sums { (k : ℕ) → k < 15 → (column_at columns.new k).sums ≡ slice_set (column_at columns.old k).sums at (slice_index (column_at columns.old k).sums at - slice_index change.now.take k + slice_index change.now.give k) }
+    ensures empty { (k : ℕ) → k < 15 → flag_of filled.new k ≡ false → slice_index (column_at columns.old k).sums at - slice_index change.now.take k + slice_index change.now.give k ≡ 0 }
     ensures room { (k : ℕ) → k < 15 → (column_at columns.old k).spare ≤ (column_at columns.new k).spare }
 {
     for place in 0..15 {
-        columns[place].adjust(at, change.take[place], change.give[place]);
+        let take = change.take[place];
+        let give = change.give[place];
+        if take == give {
+            continue;
+        }
+        filled[place] = columns[place].adjust(at, take, give);
     }
 }
 
@@ -189,25 +203,116 @@ fn set_all(columns: &mut Columns, at: usize, sums: &[u128; 15])
     }
 }
 
-/// Sums of namespaces by their indices. They are kept resource by resource, so that a walk that changes one of them reads 16 bytes for each namespace.
+/// Which sums aren't 0.
+fn filled_by(sums: &[u128; 15]) -> [bool; 15]
+    ensures { (k : ℕ) → k < 15 → flag_of result k ≡ false → slice_index sums.now k ≡ 0 }
+{
+    let mut filled = [true; 15];
+    for place in 0..15 {
+        filled[place] = sums[place] != 0;
+    }
+    filled
+}
+
+/// Which sums of a namespace may be other than 0, by its index.
+struct Filled {
+    flags: Vec<[bool; 15]>,
+}
+
+impl Drop for Filled {
+    fn drop(self) {
+        let Filled { flags: _ } = self;
+    }
+}
+
+impl Model for Filled {
+    ghost use Rattle.std.specs.Prelude.{◌-◌, length, vec_capacity};
+    ghost use Rattle.hx_quota.specs.SumRows.{FilledView};
+
+    ghost Value = { FilledView };
+
+    ghost view = { λ f. record { flags = f.flags.items; spare = vec_capacity f.flags - length f.flags.items } };
+}
+
+impl Filled {
+    /// No flags. It takes no memory.
+    fn new(alloc: Global) -> Filled
+        ensures { result.flags ≡ [] }
+    {
+        Filled {
+            flags: Vec::new(alloc),
+        }
+    }
+
+    /// Makes room for `more`. Where no memory is left, the room stays.
+    fn reserve(&mut self, more: usize) -> Result<(), NoMemory>
+        ensures flags { self.new.flags ≡ self.old.flags }
+        ensures room { OnOk result (more ≤ self.new.spare) }
+        ensures stays { self.old.spare ≤ self.new.spare }
+    {
+        Ok(self.flags.reserve(more)?)
+    }
+
+    /// A namespace that has nothing comes behind the others. It takes no memory.
+    fn push(&mut self)
+        requires { 1 ≤ self.old.spare }
+        ensures flags { self.new.flags ≡ self.old.flags ++ replicate 15 false ∷ [] }
+        ensures room { self.old.spare ≤ self.new.spare + 1 }
+    {
+        self.flags.push_reserved([false; 15]);
+    }
+
+    /// Takes the flags at an index out; the last ones come in their place.
+    fn swap_remove(&mut self, at: usize)
+        requires { at < length self.old.flags }
+        ensures flags { self.new.flags ≡ swap_remove self.old.flags at [] }
+        ensures room { self.old.spare ≤ self.new.spare }
+    {
+        let _flags = self.flags.swap_remove(at);
+    }
+
+    /// The flags at an index. Where it isn't there, all are up.
+    fn get(&self, at: usize) -> [bool; 15]
+        ensures { result ≡ flags_at self.now.flags at }
+    {
+        self.flags.get(at).copied().unwrap_or([true; 15])
+    }
+
+    /// Gives an index other flags, where it is there.
+    fn set(&mut self, at: usize, flags: [bool; 15])
+        ensures flags { self.new.flags ≡ slice_set self.old.flags at flags }
+        ensures room { self.new.spare ≡ self.old.spare }
+    {
+        if let Some(old) = self.flags.get_mut(at) {
+            *old = flags;
+        }
+    }
+}
+
+/// Sums of namespaces by their indices. They are kept resource by resource, so that a walk that changes one of them reads 16 bytes for each namespace. Which of them are filled is noted for each namespace, since most are 0, and a move reads them all.
 pub(crate) struct SumTable {
     columns: Columns,
+    filled: Filled,
 }
 
 impl Drop for SumTable {
     fn drop(self) {
-        let SumTable { columns: _ } = self;
+        let SumTable {
+            columns: _,
+            filled: _,
+        } = self;
     }
 }
 
 impl Model for SumTable {
-    ghost use Rattle.hx_quota.specs.SumRows.{SumsView, rows_of, least_room, AreLevel};
+    ghost use Rattle.std.specs.Prelude.{min};
+    ghost use Rattle.hx_quota.specs.SumRows.{SumsView, rows_of, least_room, AreLevel, AreTold};
 
     ghost Value = { SumsView };
 
-    ghost view = { λ t. record { rows = rows_of t.columns; spare = least_room t.columns } };
+    ghost view = { λ t. record { rows = rows_of t.columns; spare = min (least_room t.columns) t.filled.spare } };
 
-    ghost invariant = { λ t. AreLevel t.columns };
+    ghost invariant = { λ t. AreLevel t.columns × AreTold t.columns t.filled.flags };
 }
 
 impl SumTable {
@@ -217,6 +322,7 @@ impl SumTable {
     {
         SumTable {
             columns: new_columns(alloc),
+            filled: Filled::new(alloc),
         }
     }
 
@@ -234,7 +340,8 @@ impl SumTable {
         ensures room { OnOk result (more ≤ self.new.spare) }
         ensures stays { self.old.spare ≤ self.new.spare }
     {
-        reserve_all(&mut self.columns, more)
+        reserve_all(&mut self.columns, more)?;
+        self.filled.reserve(more)
     }
 
     /// A namespace that has nothing comes behind the others. It takes no memory.
@@ -244,6 +351,7 @@ impl SumTable {
         ensures room { self.old.spare ≤ self.new.spare + 1 }
     {
         push_all(&mut self.columns);
+        self.filled.push();
     }
 
     /// Takes the sums at an index out; the last ones come in their place.
@@ -253,6 +361,7 @@ impl SumTable {
         ensures room { self.old.spare ≤ self.new.spare }
     {
         swap_remove_all(&mut self.columns, at);
+        self.filled.swap_remove(at);
     }
 
     /// One sum, or 0 where the index isn't there.
@@ -269,7 +378,7 @@ impl SumTable {
         ensures { result ≡ slice_get self.now.rows at }
     {
         if at < self.len() {
-            Some(row_of(&self.columns, at))
+            Some(row_of(&self.columns, &self.filled.get(at), at))
         } else {
             None
         }
@@ -284,7 +393,9 @@ impl SumTable {
         ensures room { self.old.spare ≤ self.new.spare }
     {
         if at < self.len() {
-            adjust_all(&mut self.columns, at, change);
+            let mut filled = self.filled.get(at);
+            adjust_all(&mut self.columns, &mut filled, at, change);
+            self.filled.set(at, filled);
             true
         } else {
             false
@@ -297,5 +408,6 @@ impl SumTable {
         ensures room { self.old.spare ≤ self.new.spare }
     {
         set_all(&mut self.columns, at, &sums);
+        self.filled.set(at, filled_by(&sums));
     }
 }
