@@ -2,6 +2,7 @@
 --     unlooked         a source that doesn't look at labels goes to all alike
 --     met_none         where no source of a kind and name lies in another namespace, none goes along a chain
 --     ways_apart       the ways up to the top come back to no member
+--     none_below       where nothing of any kind is overwritten, none is below a namespace
 --     none_moved       where the top doesn't take part, nothing is overwritten below
 --     all_moved        and where it does, the ways up to it tell the chains
 --     stays_answer, moves_answer      what is found is whether there is a new conflict
@@ -120,6 +121,11 @@ no_mode objects n after before kind out = sym (any_in_filter (is_newly_met objec
         let same : kind ≡ x.id.kind = same_kind kind x.id.kind (eqb-true (number_of kind) (number_of x.id.kind) (and_parts (number_of kind == number_of x.id.kind) (bytes_eq x.id.ns n) parts.0).0) in
         let met = (and_parts (is_met objects n after x.id.kind x.id.name) (not (is_met objects n before x.id.kind x.id.name)) (and_parts (is_source x) _ parts.1).1).0 in
         true≢false (sym met ∙ unmet x same))
+
+-- where nothing of any kind is overwritten, none is below a namespace
+pub none_below : (objects : Objects) (f : Forest) (n : List ℕ) (parent : Option (List ℕ)) (ms : List (List ℕ)) → ((m : List ℕ) (after before : List (List ℕ)) → overwrites_in objects m after before ≡ false)
+    → false ≡ list_any (λ m. overwrites_in objects m (open_moved f n parent m) (open_chain f m)) ms
+none_below objects f n parent ms never = sym (none_pass (λ m. overwrites_in objects m (open_moved f n parent m) (open_chain f m)) ms (λ m. never m (open_moved f n parent m) (open_chain f m)))
 
 -- ---- a name that no source has in another namespace
 

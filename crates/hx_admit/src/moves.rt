@@ -26,7 +26,7 @@ use std::alloc::Global;
 impl IndexedState {
     /// Whether a namespace that gets another parent makes a conflict: some source of its subtree lies where a source from above is copied to then, and wasn't before (HNC user guide, "Propagating policies").
     ///
-    /// It looks at nothing but the subtree, the namespaces above it, and the objects there of kinds that are propagated. It walks no chain for an object whose name no source of its kind has in another namespace.
+    /// It looks at nothing but the subtree, the namespaces above it, and the objects there of kinds that are propagated, and walks none of them where no such kind may have objects. It walks no chain for an object whose name no source of its kind has in another namespace.
     pub(crate) fn overwrites_by_move(
         &self,
         namespace: &Text,
@@ -52,12 +52,34 @@ fn overwrites_below(
     requires moves { CanMove forest.now.nodes namespace.now (option_copied parent) }
     ensures { IfOk result (λ found. found ≡ list_any (λ m. overwrites_in store.now.objects m (open_moved forest.now.nodes namespace.now (option_copied parent.entry) m) (open_chain forest.now.nodes m)) (subtree_of forest.now.nodes namespace.now)) }
 {
+    if !any_may_spread(store, &COPIED_KINDS) {
+        return Ok(false);
+    }
     if !forest.is_calm(namespace) || !is_open_above(forest, parent) {
         return Ok(false);
     }
     let above = chain_from(store.allocator(), forest, parent)?;
     let members = forest.below(namespace)?;
     any_overwrites(store, forest, namespace, &above, &members)
+}
+
+/// Whether some kind is propagated and may have objects.
+fn any_may_spread(store: &Store, kinds: &[Kind]) -> bool
+    ensures { result ≡ false → (n : List ℕ) (after before : List (List ℕ)) → list_any (overwrites_kind store.now.objects n after before) kinds.now ≡ false }
+{
+    for kind in kinds {
+        if may_spread(store, *kind) {
+            return true;
+        }
+    }
+    false
+}
+
+/// Whether a kind is propagated and may have objects. No move overwrites one of another kind.
+fn may_spread(store: &Store, kind: Kind) -> bool
+    ensures { result ≡ false → (n : List ℕ) (after before : List (List ℕ)) → overwrites_kind store.now.objects n after before kind ≡ false }
+{
+    store.may_have(kind) && is_propagated(mode_at(store, kind))
 }
 
 fn any_overwrites(
@@ -110,7 +132,7 @@ fn overwrites_kind(
     requires apart { is_later member.now (open_way forest.now.nodes namespace.now above.now member.now) ≡ false }
     ensures { IfOk result (λ found. found ≡ overwrites_kind store.now.objects member.now (open_way forest.now.nodes namespace.now above.now member.now) (open_chain forest.now.nodes member.now) kind) }
 {
-    if !is_propagated(mode_at(store, kind)) {
+    if !may_spread(store, kind) {
         return Ok(false);
     }
     let objects = store.list(kind, Some(member))?;

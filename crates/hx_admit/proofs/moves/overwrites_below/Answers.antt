@@ -1,9 +1,13 @@
 use Rattle.std.proofs.Common.{◌≡◌, ◌&&◌, Bool, sym, ap, ◌∙◌, subst}
 use Rattle.std.specs.Prelude.{IfOk, option_copied}
 use Rattle.hx_model.specs.Moves.{is_calm, is_open_above}
-use Rattle.hx_admit.proofs.Moved.{none_moved, all_moved, ways_apart, and_false}
+use Rattle.hx_admit.proofs.Moved.{none_below, none_moved, all_moved, ways_apart, and_false}
 use Rattle.hx_admit.proofs.moves.overwrites_below.Goals.{then-not-is_calm-via-then-not-is_calm, then-not-is_calm-via-else-not-is_calm+then-not-is_open_above}
 use Rattle.hx_admit.proofs.moves.overwrites_below.Goals as goal
+
+pub returns-then-not-any_may_spread : goal.returns-then-not-any_may_spread
+returns-then-not-any_may_spread c =
+    none_below c.args.store.now.objects c.args.forest.now.nodes c.args.namespace.now (option_copied c.args.parent) _ (c.any_may_spread.ensures c.if-not-any_may_spread.true)
 
 pub returns-then-not-is_calm : goal.returns-then-not-is_calm
 returns-then-not-is_calm c =
