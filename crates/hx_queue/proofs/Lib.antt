@@ -7,3 +7,8 @@ pub mod Finding
 pub mod Handing
 pub mod Marking
 pub mod Tying
+pub mod Waiting
+pub mod Spreads
+pub mod Beside
+pub mod Whole
+pub mod LiningUp

@@ -1,5 +1,5 @@
 -- How the two generations of keys that wait change.
-use Rattle.std.proofs.Common.{◌≡◌, ◌+◌, ◌-◌, ℕ, Bool, true, false, not, cond, ◌&&◌, ◌||◌, List, [], ◌∷◌, ◌++◌, reverse, length, refl, sym, ap, subst, ◌∙◌, true≢false, arith, nat_lt, position, Some, None, take, slice_get, lt-ltb}
+use Rattle.std.proofs.Common.{◌≡◌, ◌≤◌, ◌<◌, ◌+◌, ◌-◌, ℕ, Bool, true, false, not, cond, ◌&&◌, ◌||◌, List, [], ◌∷◌, ◌++◌, reverse, length, refl, sym, ap, subst, ◌∙◌, true≢false, arith, nat_lt, position, Some, None, take, slice_get, lt-ltb}
 use Rattle.std.specs.List.{AllByRecursion, IsDistinct, position_or_len, swap_remove}
 use Rattle.std.specs.List.Sorted.{IsPermutation}
 use Rattle.std.specs.Option.{option_map_or}
@@ -7,20 +7,21 @@ use Rattle.std.specs.Bool.{OnFalse}
 use Rattle.std.proofs.lemmas.List.{reverse-append, reverse-reverse, append_assoc, length-append, get_or_push}
 use Rattle.std.proofs.lemmas.Option.{slice_get-get_or}
 use Rattle.std.proofs.Math.Seq.{take-append_seam}
-use Rattle.std.proofs.lemmas.List.Sorted.{IsPermutation-sym, IsPermutation-reverse, IsPermutation-append_comm}
+use Rattle.std.proofs.lemmas.List.Sorted.{IsPermutation-sym, IsPermutation-reverse, IsPermutation-append_comm, length_permutation}
+use Rattle.std.proofs.lemmas.List.Filters.{length-filter_both}
 use Rattle.std.proofs.lemmas.Map.Keys.{IsDistinct-head, IsDistinct-tail, IsDistinct-push, IsDistinct-IsPermutation}
 use Rattle.indexmap.specs.IndexMap.{swap_remove_by}
 use Rattle.indexmap.proofs.MapLemmas.{swap_remove_last}
 use Rattle.hx_model.specs.Keys.{same_key, is_among}
 use Rattle.hx_model.specs.declared.key.Key.{Key}
 use Rattle.hx_queue.specs.Kept.{waiting_without}
-use Rattle.hx_queue.specs.Line.{in_line, with_key, IsLine}
+use Rattle.hx_queue.specs.Line.{in_line, with_key, most_line, IsLine}
 use Rattle.hx_model.proofs.SameKeys.{key_laws, same_key_itself, same_turned}
 use Rattle.hx_queue.proofs.Sets.{among_without, distinct_filter, same_keys, line_without, line_permutes, among_line, head_absent}
 
 pub no_keys : IsLine [] []
 unfolding IsDistinct
-no_keys = record { distinct = tt; turned = λ e. refl }
+no_keys = record { distinct = tt; turned = λ e. refl; most = omega arith }
 
 pub none_from : (xs : List Key) → length xs ≡ 0 → xs ≡ []
 none_from [] e = refl
@@ -35,12 +36,13 @@ unchanged false P e h = h
 
 pushed_first : (k : Key) → IsLine (k ∷ []) []
 unfolding IsDistinct
-pushed_first k = record { distinct = IsDistinct-push key_laws [] k tt refl; turned = λ e. refl }
+pushed_first k = record { distinct = IsDistinct-push key_laws [] k tt refl; turned = λ e. refl; most = omega arith }
 
-pushed : (older younger : List Key) (k : Key) → IsLine older younger → (older ≡ [] → ⊥) → is_among k (in_line older younger) ≡ false → IsLine older (younger ++ k ∷ [])
-pushed older younger k line some absent = record {
+pushed : (older younger : List Key) (k : Key) → IsLine older younger → (older ≡ [] → ⊥) → length (in_line older younger) < most_line → is_among k (in_line older younger) ≡ false → IsLine older (younger ++ k ∷ [])
+pushed older younger k line some less absent = record {
   distinct = subst (IsDistinct same_key) (append_assoc (reverse older) younger (k ∷ [])) (IsDistinct-push key_laws (in_line older younger) k line.distinct absent);
   turned = λ e. absurd (some e);
+  most = let long = ap length (sym (append_assoc (reverse older) younger (k ∷ []))) ∙ length-append (in_line older younger) (k ∷ []) in omega (arith, long, less);
 }
 
 -- the first key of all
@@ -53,9 +55,9 @@ pub there_line : (older younger : List Key) (k : Key) → is_among k older ≡ t
 there_line older younger k there = sym (ap (λ b. cond b (in_line older younger) (in_line older younger ++ k ∷ [])) (among_line k older younger ∙ ap (λ b. b || is_among k younger) there))
 
 -- a key that it doesn't have
-pub younger_line : (older younger : List Key) (k : Key) → IsLine older younger → (older ≡ [] → ⊥) → is_among k older ≡ false
+pub younger_line : (older younger : List Key) (k : Key) → IsLine older younger → (older ≡ [] → ⊥) → length (in_line older younger) < most_line → is_among k older ≡ false
     → IsLine older (with_key k younger) × (in_line older (with_key k younger) ≡ with_key k (in_line older younger))
-younger_line older younger k line some out = by (is_among k younger) refl
+younger_line older younger k line some less out = by (is_among k younger) refl
   where
     among : is_among k (in_line older younger) ≡ is_among k younger
     among = among_line k older younger ∙ ap (λ b. b || is_among k younger) out
@@ -66,7 +68,7 @@ younger_line older younger k line some out = by (is_among k younger) refl
       ap (in_line older) (ap (λ b. cond b younger (younger ++ k ∷ [])) there) ∙ sym (ap (λ b. cond b (in_line older younger) (in_line older younger ++ k ∷ [])) (among ∙ there)),
     )
     by false absent = (
-      subst (IsLine older) (sym (ap (λ b. cond b younger (younger ++ k ∷ [])) absent)) (pushed older younger k line some (among ∙ absent)),
+      subst (IsLine older) (sym (ap (λ b. cond b younger (younger ++ k ∷ [])) absent)) (pushed older younger k line some less (among ∙ absent)),
       ap (in_line older) (ap (λ b. cond b younger (younger ++ k ∷ [])) absent) ∙ sym (append_assoc (reverse older) younger (k ∷ []))
           ∙ sym (ap (λ b. cond b (in_line older younger) (in_line older younger ++ k ∷ [])) (among ∙ absent)),
     )
@@ -85,6 +87,13 @@ taken k old new c d h = same_keys new (waiting_without old k) d (distinct_filter
 pub taken_both : (k : Key) (older younger a b : List Key) → IsPermutation a (waiting_without older k) → IsPermutation b (waiting_without younger k) → IsPermutation (in_line a b) (waiting_without (in_line older younger) k)
 taken_both k older younger a b p q =
     subst (IsPermutation (in_line a b)) (sym (line_without (λ other. not (same_key k other)) older younger)) (line_permutes a (waiting_without older k) b (waiting_without younger k) p q)
+
+-- the others are no more than all
+pub fewer : (k : Key) (old new : List Key) → IsPermutation new (waiting_without old k) → length new ≤ length old
+fewer k old new p =
+    let same = length_permutation new (waiting_without old k) p in
+    let parts = length-filter_both (λ other. not (same_key k other)) (λ other. not (not (same_key k other))) (λ other. refl) old in
+    omega (arith, same, parts)
 
 pub distinct_after : (k : Key) (old new : List Key) → IsDistinct same_key old → IsPermutation new (waiting_without old k) → IsDistinct same_key new
 distinct_after k old new d p = IsDistinct-IsPermutation same_key same_turned (waiting_without old k) new (IsPermutation-sym _ _ p) (distinct_filter (λ other. not (same_key k other)) old d)

@@ -181,16 +181,3 @@ first_waits k (x ∷ xs) e = ap (λ b. b || is_among k xs) (ap (same_key k) (ap 
 pub none_waits : (xs : List Key) → slice_get xs 0 ≡ None → xs ≡ []
 none_waits [] e = refl
 none_waits (x ∷ xs) e = absurd (true≢false (ap is_some e))
-
-module _ {R : Type 0} where
-  pub next_waits : (at : R → Key) (o : Option R) (q : QueueView) → option_map at o ≡ slice_get q.waiting 0 → IfSome o (λ r. is_among (at r) q.waiting ≡ true)
-  next_waits at None q e = tt
-  next_waits at (Some r) q e = first_waits (at r) q.waiting (sym e)
-
-  pub next_free : (at : R → Key) (o : Option R) (hands : List Hand) (q : QueueView) → IsTied hands q → IsQueueApart q → option_map at o ≡ slice_get q.waiting 0 → IfSome o (λ r. is_in_hands (at r) hands ≡ false)
-  next_free at None hands q tied apart e = tt
-  next_free at (Some r) hands q tied apart e = waits_free (at r) hands q tied apart (first_waits (at r) q.waiting (sym e))
-
-  pub next_none : (at : R → Key) (o : Option R) (q : QueueView) → option_map at o ≡ slice_get q.waiting 0 → IfNone o (q.waiting ≡ [])
-  next_none at None q e = none_waits q.waiting (sym e)
-  next_none at (Some r) q e = tt

@@ -2,8 +2,9 @@
 --     LineView    the keys, the next one first, and the room
 --     in_line     the keys of both generations in order
 --     with_key    keys with one behind the others, unless it is there
+--     room_in     the room for more
 --     IsLine      what the generations keep
-use Rattle.std.specs.Prelude.{◌≡◌, ℕ, List, [], ◌∷◌, ◌++◌, reverse, if◌then◌else◌, refl}
+use Rattle.std.specs.Prelude.{◌≡◌, ◌≤◌, ◌-◌, ℕ, min, length, List, [], ◌∷◌, ◌++◌, reverse, if◌then◌else◌, refl}
 use Rattle.std.specs.List.{IsDistinct}
 use Rattle.std.specs.Coded.{Coded, code_by, coded×, coded_list, coded_ℕ}
 use Rattle.hx_model.specs.Keys.{same_key, is_among}
@@ -22,10 +23,19 @@ in_line now later = reverse now ++ later
 abbrev pub with_key : Key → List Key → List Key
 with_key k keys = if is_among k keys then keys else keys ++ k ∷ []
 
--- no key is there twice, and the older generation has keys if the younger one does
+-- as many keys at most are in line, which is more than any memory has room for, so that a sum with their number is one of a `usize`
+abbrev pub most_line : ℕ
+most_line = 281_474_976_710_656
+
+-- the room for more, by that of the two generations
+abbrev pub room_in : List Key → ℕ → ℕ → ℕ
+room_in keys older younger = min (most_line - length keys) (min older younger)
+
+-- no key is there twice, the older generation has keys if the younger one does, and the keys aren't too many
 pub record IsLine (now later : List Key) : Type 0 where
   pub distinct : IsDistinct same_key (in_line now later)
   pub turned : now ≡ [] → later ≡ []
+  pub most : length (in_line now later) ≤ most_line
 
 -- as a pair
 abbrev pub line_code : Coded LineView

@@ -1,15 +1,20 @@
 -- How hands and a queue are tied.
 --     hands_of     the hands as they are seen
 --     kept_of      how workers are seen
+--     with_spread  a queue in which the keys wait, too, that were marked as a whole
 --     IsTied       the queue holds the keys of the hands, each for its worker
+--     IsKept       and no key that is held was marked as a whole
+--     LinesUp      keys that were marked as a whole came in line
 --     MarksEach    keys were marked in a queue, one by one
-use Rattle.std.specs.Prelude.{◌≡◌, ◌≤◌, ◌+◌, ℕ, Bool, false, not, ◌&&◌, ◌||◌, ◌==◌, List, map, length, if◌then◌else◌}
+use Rattle.std.specs.Prelude.{◌≡◌, ◌≤◌, ◌+◌, ℕ, Bool, true, false, not, ◌&&◌, ◌||◌, ◌==◌, List, map, length, if◌then◌else◌}
 use Rattle.std.specs.List.{AllPairs, list_any}
+use Rattle.hx_object.specs.declared.object.Id.{Id}
 use Rattle.hx_model.specs.Hands.{Hand}
 use Rattle.hx_model.specs.Keys.{same_key, is_among}
 use Rattle.hx_model.specs.declared.key.Key.{Key}
 use Rattle.hx_rules.specs.Briefs.{hand_by}
 use Rattle.hx_queue.specs.Kept.{Held, QueueView, is_held, marked_again}
+use Rattle.hx_queue.specs.Spread.{SpreadView, is_spread, keys_in, waiting_in}
 use Rattle.hx_queue.specs.Workers.{WorkersKept}
 use Rattle.hx_queue.specs.declared.workers.Handed.{Handed}
 
@@ -25,8 +30,21 @@ hands_of hands = map hand_in hands
 abbrev pub room_of : ℕ → ℕ → ℕ
 room_of places room = if places == 0 then 0 else room
 
-abbrev pub kept_of : List Handed → ℕ → QueueView → WorkersKept
-kept_of hands places q = record { seen = record { hands = hands_of hands; waiting = q.waiting; again = marked_again q }; spare = room_of places q.spare }
+-- what waits, in line or as a whole
+abbrev pub all_waiting : QueueView → SpreadView → List Key
+all_waiting q s = waiting_in q.waiting (keys_in s.reach s.ids)
+
+abbrev pub with_spread : QueueView → SpreadView → QueueView
+with_spread q s = record q { waiting = all_waiting q s }
+
+abbrev pub kept_of : List Handed → ℕ → QueueView → SpreadView → WorkersKept
+kept_of hands places q s = record {
+  seen = record { hands = hands_of hands; waiting = all_waiting q s; again = marked_again q };
+  reach = s.reach;
+  spread = s.ids;
+  spare = room_of places q.spare;
+  places = s.room;
+}
 
 -- ---- what is kept
 
@@ -42,6 +60,24 @@ pub record IsTied (hands : List Hand) (q : QueueView) : Type 0 where
   pub same : (test : Key → ℕ → Bool) → any_hand test hands ≡ any_held test q.held
   pub workers : AllPairs (λ (a b : Hand). (a.worker == b.worker) ≡ false) hands
   pub keys : AllPairs (λ (a b : Hand). same_key a.key b.key ≡ false) hands
+
+-- no key that is held was marked as a whole
+abbrev pub IsFree : QueueView → List Id → Type 0
+IsFree q ids = (k : Key) → is_held q k ≡ true → is_spread ids k ≡ false
+
+pub record IsKept (hands : List Hand) (q : QueueView) (s : SpreadView) : Type 0 where
+  pub tied : IsTied hands q
+  pub free : IsFree q s.ids
+
+-- ---- keys come in line
+
+-- The same keys wait, and the same ones are held. What wasn't marked as a whole still isn't
+pub record LinesUp (q r : QueueView) (s t : SpreadView) : Type 0 where
+  pub waiting : all_waiting r t ≡ all_waiting q s
+  pub held : r.held ≡ q.held
+  pub reach : t.reach ≡ s.reach
+  pub apart : (k : Key) → is_spread s.ids k ≡ false → is_spread t.ids k ≡ false
+  pub room : s.room ≤ t.room
 
 -- ---- marks
 

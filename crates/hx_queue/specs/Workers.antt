@@ -1,12 +1,15 @@
 -- What workers hold, and which keys wait.
 --     WorkersView            the hands, the keys that wait, and those that are held and were marked since
---     WorkersKept            the same, with the room for more
+--     WorkersKept            the same, with the keys that were marked as a whole, and the room for more
 --     IsMarkedBy keys        keys were marked
 --     IsTakenBy, IsLetGo     a worker took a key;  a worker lets its key go
+--     MaySpread id           keys of an object may be marked as a whole
 --     AreApart               no key is there twice, and no worker
 use Rattle.std.specs.Prelude.{◌≡◌, ℕ, Bool, true, false, not, ◌&&◌, ◌||◌, ◌==◌, List, [], ◌∷◌, ◌++◌, Option, refl}
 use Rattle.std.specs.Coded.{Coded, code_by, coded×, coded_list, coded_ℕ, coded_option}
-use Rattle.std.specs.List.{AllByRecursion, AllPairs}
+use Rattle.std.specs.List.{AllByRecursion, AllPairs, list_any}
+use Rattle.hx_object.specs.contracts.object.Id as id_type
+use Rattle.hx_object.specs.declared.object.Id.{Id}
 use Rattle.hx_model.specs.Hands.{Hand, is_held, without_hand}
 use Rattle.hx_model.specs.Keys.{same_key, is_among}
 use Rattle.hx_model.specs.contracts.key.Guard as guard
@@ -15,6 +18,7 @@ use Rattle.hx_model.specs.contracts.key.Write as write
 use Rattle.hx_model.specs.declared.key.Guard.{Guard}
 use Rattle.hx_model.specs.declared.key.Key.{Key}
 use Rattle.hx_model.specs.declared.key.Write.{Write}
+use Rattle.hx_queue.specs.Spread.{HasPlace, Reach, is_place_of, reach_code}
 
 -- `again` are the keys that are held and were marked since
 pub record WorkersView : Type 0 where
@@ -26,10 +30,13 @@ pub record WorkersView : Type 0 where
 abbrev pub no_work : WorkersView
 no_work = record { hands = []; waiting = []; again = [] }
 
--- what is seen, and the room for keys that are marked or held later
+-- what is seen, where and of which objects keys were marked as a whole, and the room for keys that are marked or held later and for objects
 pub record WorkersKept : Type 0 where
   pub seen : WorkersView
+  pub reach : Option Reach
+  pub spread : List Id
   pub spare : ℕ
+  pub places : ℕ
 
 -- ---- calls
 
@@ -50,6 +57,11 @@ pub record IsLetGo (worker : ℕ) (k : Key) (waits : Bool) (old new : WorkersVie
   pub hands : new.hands ≡ without_hand worker old.hands
   pub waiting : (other : Key) → is_among other new.waiting ≡ (is_among other old.waiting || (same_key other k && (waits || is_among k old.again)))
   pub again : (other : Key) → is_among other new.again ≡ (is_among other old.again && not (same_key other k))
+
+-- no key of an object's kind and name is held, and there aren't too many with it
+pub record MaySpread (id : Id) (hands : List Hand) (reach : Option Reach) (ids : List Id) : Type 0 where
+  pub free : list_any (λ (h : Hand). is_place_of id h.key) hands ≡ false
+  pub fits : HasPlace reach ids
 
 -- ---- what they keep
 
@@ -73,4 +85,5 @@ workers_code = code_by (List Hand × (List Key × List Key)) (coded× (coded_lis
     (λ v. (v.hands, (v.waiting, v.again))) (λ p. record { hands = p.0; waiting = p.1.0; again = p.1.1 }) (λ _. refl)
 
 abbrev pub workers_kept_code : Coded WorkersKept
-workers_kept_code = code_by (WorkersView × ℕ) (coded× workers_code coded_ℕ) (λ w. (w.seen, w.spare)) (λ p. record { seen = p.0; spare = p.1 }) (λ _. refl)
+workers_kept_code = code_by (WorkersView × (Option Reach × (List Id × (ℕ × ℕ)))) (coded× workers_code (coded× (coded_option reach_code) (coded× (coded_list id_type.the_row.coded) (coded× coded_ℕ coded_ℕ))))
+    (λ w. (w.seen, (w.reach, (w.spread, (w.spare, w.places))))) (λ p. record { seen = p.0; reach = p.1.0; spread = p.1.1.0; spare = p.1.1.1.0; places = p.1.1.1.1 }) (λ _. refl)

@@ -6,8 +6,10 @@ ghost use Rattle.indexmap.specs.IndexSet.{spare};
 ghost use Rattle.hx_model.specs.Keys.{same_key, is_among};
 ghost use Rattle.hx_model.specs.declared.key.Key.{Key as key_of};
 ghost use Rattle.hx_queue.specs.Kept.{waiting_without};
-ghost use Rattle.hx_queue.specs.Line.{in_line, with_key};
+ghost use Rattle.hx_model.specs.declared.key.Key.TheVariants as key_by;
+ghost use Rattle.hx_queue.specs.Line.{in_line, with_key, most_line, room_in};
 
+use crate::copy_of::CopyOf;
 use hx_model::Key;
 use hx_object::NoMemory;
 use indexmap::IndexSet;
@@ -15,6 +17,9 @@ use std::alloc::Global;
 use std::hash::RandomState;
 use std::marker::Model;
 use std::mem;
+
+/// The most keys in line. No memory has room for as many.
+const MOST: usize = 281_474_976_710_656;
 
 type KeySet = IndexSet<Key, RandomState>;
 
@@ -36,15 +41,14 @@ impl Drop for Line {
 }
 
 impl Model for Line {
-    ghost use Rattle.std.specs.Prelude.{min};
     ghost use Rattle.indexmap.specs.IndexSet.{spare};
-    ghost use Rattle.hx_queue.specs.Line.{LineView, line_code, in_line, IsLine};
+    ghost use Rattle.hx_queue.specs.Line.{LineView, line_code, in_line, room_in, IsLine};
 
     ghost Value = { LineView };
 
     ghost coded = { line_code };
 
-    ghost view = { λ l. record { keys = in_line l.older.keys l.younger.keys; room = min (spare l.older) (spare l.younger) } };
+    ghost view = { λ l. record { keys = in_line l.older.keys l.younger.keys; room = room_in (in_line l.older.keys l.younger.keys) (spare l.older) (spare l.younger) } };
 
     ghost invariant = { λ l. IsLine l.older.keys l.younger.keys };
 }
@@ -66,6 +70,9 @@ impl Line {
         ensures room { OnOk result (more ≤ self.new.room) }
         ensures kept { self.old.room ≤ self.new.room }
     {
+        if more > MOST - self.len() {
+            return Err(NoMemory);
+        }
         self.older.reserve(more)?;
         Ok(self.younger.reserve(more)?)
     }
@@ -74,6 +81,7 @@ impl Line {
     pub(crate) fn len(&self) -> usize
         ensures len { result ≡ length self.now.keys }
         ensures distinct { IsDistinct same_key self.now.keys }
+        ensures most { length self.now.keys ≤ most_line }
     {
         self.older.len() + self.younger.len()
     }
@@ -82,6 +90,14 @@ impl Line {
     #[tactic(auto, unfolding(hx_model::specs::Keys::same_key))]
     pub(crate) fn has(&self, key: &Key) -> bool
         ensures { result ≡ is_among key.now self.now.keys }
+    {
+        self.older.contains(key) || self.younger.contains(key)
+    }
+
+    /// Whether the key of a copy is there.
+    #[tactic(auto, unfolding(hx_model::specs::Keys::same_key))]
+    pub(crate) fn has_copy(&self, key: CopyOf<'_>) -> bool
+        ensures { result ≡ is_among (key_by.Copy key.entry.ns.now key.entry.kind key.entry.name.now) self.now.keys }
     {
         self.older.contains(key) || self.younger.contains(key)
     }

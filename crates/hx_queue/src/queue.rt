@@ -1,8 +1,11 @@
 // The queue.
 ghost use Rattle.std.specs.Prelude.{◌≡◌, ◌≤◌, ◌<◌, ◌∷◌, [], List, false, true, OnOk, option_copied, option_map, length, slice_get};
 ghost use Rattle.hx_model.specs.declared.key.Key.{Key as key_of};
+ghost use Rattle.hx_model.specs.declared.key.Key.TheVariants as key_by;
+ghost use Rattle.hx_queue.specs.Line.{most_line};
 ghost use Rattle.hx_queue.specs.Kept.{AreApart, Marks, Holds, Releases, is_held, is_waiting, holding_of};
 
+use crate::copy_of::CopyOf;
 use crate::line::Line;
 use crate::slots::{Slot, Slots, holder, let_go, mark_held, put};
 use hx_model::Key;
@@ -126,6 +129,13 @@ impl Queue {
         self.line.has(key)
     }
 
+    /// Whether the key of a copy waits.
+    pub(crate) fn is_copy_waiting(&self, key: CopyOf<'_>) -> bool
+        ensures { result ≡ is_waiting self.now (key_by.Copy key.entry.ns.now key.entry.kind key.entry.name.now) }
+    {
+        self.line.has_copy(key)
+    }
+
     /// How many keys wait.
     pub fn waiting(&self) -> usize
         ensures { result ≡ length self.now.waiting }
@@ -143,6 +153,13 @@ impl Queue {
     /// No key is there twice, and none both waits and is held.
     pub fn law_apart(&self)
         ensures { AreApart self.now }
+    {
+        let _waiting = self.line.len();
+    }
+
+    /// No more keys wait than any memory has room for.
+    pub(crate) fn law_most(&self)
+        ensures { length self.now.waiting ≤ most_line }
     {
         let _waiting = self.line.len();
     }

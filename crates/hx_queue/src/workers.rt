@@ -1,31 +1,41 @@
 // What workers hold, and which keys wait.
-ghost use Rattle.std.specs.Prelude.{◌≡◌, ◌≤◌, ◌<◌, ◌+◌, ◌-◌, ◌==◌, false, true, Some, None, [], OnOk, IfSome, IfNone, IsSomeAnd, length, option_map, option_copied, position, vec_len};
-ghost use Rattle.std.specs.List.{AllPairs};
+ghost use Rattle.std.specs.Prelude.{◌≡◌, ◌≤◌, ◌<◌, ◌+◌, ◌-◌, ◌==◌, false, true, Some, None, [], OnOk, IfOk, IfSome, IfNone, IsSomeAnd, drop, length, option_map, option_copied, position, slice_get, vec_len};
+ghost use Rattle.std.specs.List.{AllPairs, IsDistinct, list_any};
+ghost use Rattle.std.specs.Str.{bytes_eq};
 ghost use Rattle.std.specs.Vec.{vec_capacity};
 ghost use Rattle.hx_model.specs.Hands.{Hand, hand_of, is_held, without_hand};
 ghost use Rattle.hx_model.specs.Keys.{is_among};
 ghost use Rattle.hx_rules.specs.Briefs.{hand_by};
-ghost use Rattle.hx_queue.specs.Tied.{MarksEach, hands_of};
-ghost use Rattle.hx_queue.specs.Workers.{AreApart, IsMarkedBy, IsTakenBy, IsLetGo, no_work};
+ghost use Rattle.hx_queue.specs.Spread.{is_place_of, is_spread, names_in, outdated, place_keys, root_of};
+ghost use Rattle.hx_queue.specs.Tied.{IsFree, LinesUp, MarksEach, hands_of};
+ghost use Rattle.hx_queue.specs.Workers.{AreApart, IsMarkedBy, IsTakenBy, IsLetGo, MaySpread, no_work};
 
 use crate::queue::Queue;
+use crate::spread::Spread;
 use hx_model::Key;
-use hx_object::NoMemory;
+use hx_object::{Id, NoMemory, Text};
 use hx_rules::SharedBrief;
 use std::alloc::Global;
 use std::hash::RandomState;
 use std::marker::Model;
 
 /// The queue of keys, and the brief that each worker holds.
+///
+/// The keys of one object's kind and name in all of a subtree are marked as a whole, in constant time. They come in line when a key is taken and none stands in line, or when one of them is named.
 pub struct Workers {
     queue: Queue,
+    spread: Spread,
     /// In the order in which they were taken. They are few, since a worker has one at most.
     hands: Vec<Handed>,
 }
 
 impl Drop for Workers {
     fn drop(self) {
-        let Workers { queue: _, hands: _ } = self;
+        let Workers {
+            queue: _,
+            spread: _,
+            hands: _,
+        } = self;
     }
 }
 
@@ -39,25 +49,28 @@ struct Handed {
 impl Model for Workers {
     ghost use Rattle.std.specs.Prelude.{◌-◌, vec_len};
     ghost use Rattle.std.specs.Vec.{vec_capacity};
-    ghost use Rattle.hx_queue.specs.Tied.{IsTied, hands_of, kept_of};
+    ghost use Rattle.hx_queue.specs.Tied.{IsKept, hands_of, kept_of};
     ghost use Rattle.hx_queue.specs.Workers.{WorkersKept, workers_kept_code};
 
     ghost Value = { WorkersKept };
 
     ghost coded = { workers_kept_code };
 
-    ghost view = { λ w. kept_of w.hands.items (vec_capacity w.hands - vec_len w.hands) w.queue };
+    ghost view = { λ w. kept_of w.hands.items (vec_capacity w.hands - vec_len w.hands) w.queue w.spread };
 
-    ghost invariant = { λ w. IsTied (hands_of w.hands.items) w.queue };
+    ghost invariant = { λ w. IsKept (hands_of w.hands.items) w.queue w.spread };
 }
 
 impl Workers {
     /// Nobody holds anything, and no key waits. It takes no memory.
     pub fn new(alloc: Global, keys: RandomState) -> Workers
-        ensures { result.seen ≡ no_work }
+        ensures seen { result.seen ≡ no_work }
+        ensures reach { result.reach ≡ None }
+        ensures spread { result.spread ≡ [] }
     {
         Workers {
             queue: Queue::new(alloc, keys),
+            spread: Spread::new(alloc, keys),
             hands: Vec::new(alloc),
         }
     }
@@ -78,21 +91,24 @@ impl Workers {
         self.queue.holder(key)
     }
 
-    /// The key that has waited longest.
-    pub fn next(&self) -> Option<&Key>
-        ensures some { IfSome result (λ key. is_among key.now self.now.seen.waiting ≡ true) }
-        ensures free { IfSome result (λ key. is_held key.now self.now.seen.hands ≡ false) }
-        ensures none { IfNone result (self.now.seen.waiting ≡ []) }
+    /// A key that waits, once more: the one that has waited longest in line. Where none stands in line, the keys that were marked as a whole come in line first.
+    pub fn next(&mut self) -> Result<Option<Key>, NoMemory>
+        ensures some { IfOk result (λ o. IfSome o (λ key. is_among key self.old.seen.waiting ≡ true)) }
+        ensures free { IfOk result (λ o. IfSome o (λ key. is_held key self.old.seen.hands ≡ false)) }
+        ensures none { IfOk result (λ o. IfNone o (self.old.seen.waiting ≡ [])) }
+        ensures seen { self.new.seen ≡ self.old.seen }
+        ensures reach { self.new.reach ≡ self.old.reach }
     {
+        line_up_first(&mut self.queue, &mut self.spread)?;
         self.queue.law_apart();
-        self.queue.next()
+        first_of(&self.queue)
     }
 
     /// How many keys wait.
     pub fn waiting(&self) -> usize
         ensures { result ≡ length self.now.seen.waiting }
     {
-        self.queue.waiting()
+        self.spread.count(&self.queue)
     }
 
     /// How many keys are held.
@@ -106,9 +122,21 @@ impl Workers {
     pub fn reserve(&mut self, more: usize) -> Result<(), NoMemory>
         ensures seen { self.new.seen ≡ self.old.seen }
         ensures room { OnOk result (more ≤ self.new.spare) }
+        ensures reach { self.new.reach ≡ self.old.reach }
+        ensures spread { self.new.spread ≡ self.old.spread }
+        ensures places { self.new.places ≡ self.old.places }
     {
         self.queue.reserve(more)?;
         Ok(self.hands.reserve(1)?)
+    }
+
+    /// Brings the keys in line that were marked as a whole with this one.
+    pub fn line_up(&mut self, key: &Key) -> Result<(), NoMemory>
+        ensures seen { self.new.seen ≡ self.old.seen }
+        ensures reach { self.new.reach ≡ self.old.reach }
+        ensures apart { OnOk result (is_spread self.new.spread key.now ≡ false) }
+    {
+        line_up_with(&mut self.queue, &mut self.spread, key)
     }
 
     /// A worker takes a key. It takes no memory.
@@ -117,7 +145,10 @@ impl Workers {
         requires is { brief.key ≡ key }
         requires empty { hand_of worker self.old.seen.hands ≡ None }
         requires free { is_held key self.old.seen.hands ≡ false }
-        ensures { IsTakenBy (hand_by worker brief) self.old.seen self.new.seen }
+        requires apart { is_spread self.old.spread key ≡ false }
+        ensures taken { IsTakenBy (hand_by worker brief) self.old.seen self.new.seen }
+        ensures reach { self.new.reach ≡ self.old.reach }
+        ensures spread { self.new.spread ≡ self.old.spread }
     {
         self.queue.hold(worker, key);
         self.hands.push(Handed { worker, brief }).unwrap();
@@ -128,6 +159,9 @@ impl Workers {
         requires { length keys.items ≤ self.old.spare }
         ensures marked { IsMarkedBy keys.items self.old.seen self.new.seen }
         ensures room { self.old.spare ≤ self.new.spare + length keys.items }
+        ensures reach { self.new.reach ≡ self.old.reach }
+        ensures spread { self.new.spread ≡ self.old.spread }
+        ensures places { self.new.places ≡ self.old.places }
     {
         mark_each(&mut self.queue, keys);
     }
@@ -137,6 +171,8 @@ impl Workers {
         ensures none { IfNone result ((hand_of worker self.old.seen.hands ≡ None) × (self.new.seen ≡ self.old.seen)) }
         ensures some { IfSome result (λ brief. (hand_of worker self.old.seen.hands ≡ Some (hand_by worker brief)) × IsLetGo worker brief.key waits self.old.seen self.new.seen) }
         ensures room { self.old.spare ≤ self.new.spare }
+        ensures reach { self.new.reach ≡ self.old.reach }
+        ensures spread { self.new.spread ≡ self.old.spread }
     {
         match give_up(&mut self.hands, worker) {
             Some(brief) => {
@@ -147,12 +183,148 @@ impl Workers {
         }
     }
 
+    /// The namespace in whose subtree keys are marked as a whole, while the reach is current.
+    pub fn root(&self) -> Option<&Text>
+        ensures { option_copied result ≡ root_of self.now.reach }
+    {
+        self.spread.root()
+    }
+
+    /// Whether keys were marked as a whole that don't stand in line yet.
+    pub fn is_spread(&self) -> bool
+        ensures none { result ≡ false → self.now.spread ≡ [] }
+        ensures some { self.now.spread ≡ [] → result ≡ false }
+    {
+        !self.spread.is_empty()
+    }
+
+    /// Sets where keys are marked as a whole, while none are: a namespace, and those of its subtree that its keys are marked in. It takes no memory.
+    pub fn set_reach(&mut self, root: Text, names: Vec<Text>)
+        requires empty { self.old.spread ≡ [] }
+        requires distinct { IsDistinct bytes_eq names.items }
+        ensures reach { self.new.reach ≡ Some (record { root = root; names = names.items; current = true }) }
+        ensures seen { self.new.seen ≡ self.old.seen }
+        ensures spread { self.new.spread ≡ [] }
+        ensures spare { self.new.spare ≡ self.old.spare }
+        ensures places { self.new.places ≡ self.old.places }
+    {
+        self.spread.set(root, names);
+    }
+
+    /// Makes room for one object whose keys are marked as a whole. Where no memory is left, the room stays.
+    pub fn reserve_spread(&mut self) -> Result<(), NoMemory>
+        ensures seen { self.new.seen ≡ self.old.seen }
+        ensures reach { self.new.reach ≡ self.old.reach }
+        ensures spread { self.new.spread ≡ self.old.spread }
+        ensures spare { self.new.spare ≡ self.old.spare }
+        ensures places { OnOk result (1 ≤ self.new.places) }
+        ensures kept { self.old.places ≤ self.new.places }
+    {
+        self.spread.reserve()
+    }
+
+    /// Whether the keys of an object's kind and name may be marked as a whole: none of them is held, and there aren't too many already.
+    pub fn may_spread(&self, id: &Id) -> bool
+        ensures { result ≡ true → MaySpread id.now self.now.seen.hands self.now.reach self.now.spread }
+    {
+        self.spread.fits() && !holds_place(self.hands.as_slice(), id)
+    }
+
+    /// Marks the keys of an object's kind and name in all of the reach. It takes no memory.
+    pub fn mark_spread(&mut self, id: Id)
+        requires at { IsSomeAnd self.old.reach (λ r. r.root ≡ id.ns) }
+        requires room { 1 ≤ self.old.places }
+        requires may { MaySpread id self.old.seen.hands self.old.reach self.old.spread }
+        ensures marked { IsMarkedBy (place_keys (names_in self.old.reach) id) self.old.seen self.new.seen }
+        ensures reach { self.new.reach ≡ self.old.reach }
+        ensures spare { self.new.spare ≡ self.old.spare }
+    {
+        self.spread.add(id);
+    }
+
+    /// The tree has changed: the reach isn't current any more. What was marked as a whole stays. It takes no memory.
+    pub fn outdate(&mut self)
+        ensures seen { self.new.seen ≡ self.old.seen }
+        ensures reach { self.new.reach ≡ outdated self.old.reach }
+        ensures spread { self.new.spread ≡ self.old.spread }
+        ensures spare { self.new.spare ≡ self.old.spare }
+        ensures places { self.new.places ≡ self.old.places }
+    {
+        self.spread.outdate();
+    }
+
     /// A theorem: no key is there twice, and no worker.
     pub fn law_apart(&self)
         ensures { AreApart self.now.seen }
     {
         let _held = self.hands.len();
+        self.spread.law_distinct();
         self.queue.law_apart();
+    }
+}
+
+// The keys of the first object that were marked as a whole go in line.
+fn line_up_one(queue: &mut Queue, spread: &mut Spread) -> Result<(), NoMemory>
+    requires { IsFree queue.old spread.old.ids }
+    ensures lines_up { LinesUp queue.old queue.new spread.old spread.new }
+    ensures ids { OnOk result (spread.new.ids ≡ drop 1 spread.old.ids) }
+{
+    spread.line_up(queue)
+}
+
+// Brings keys in line until one stands there or nothing is marked as a whole.
+fn line_up_first(queue: &mut Queue, spread: &mut Spread) -> Result<(), NoMemory>
+    requires { IsFree queue.old spread.old.ids }
+    ensures lines_up { LinesUp queue.old queue.new spread.old spread.new }
+    ensures none { OnOk result (queue.new.waiting ≡ [] → spread.new.ids ≡ []) }
+{
+    while queue.waiting() == 0 && !spread.is_empty() {
+        line_up_one(queue, spread)?;
+    }
+    Ok(())
+}
+
+// Brings the keys in line that were marked as a whole with this one.
+fn line_up_with(queue: &mut Queue, spread: &mut Spread, key: &Key) -> Result<(), NoMemory>
+    requires { IsFree queue.old spread.old.ids }
+    ensures lines_up { LinesUp queue.old queue.new spread.old spread.new }
+    ensures apart { OnOk result (is_spread spread.new.ids key.now ≡ false) }
+{
+    while spread.has(key)? {
+        line_up_one(queue, spread)?;
+    }
+    Ok(())
+}
+
+// The key that has waited longest in line, once more.
+fn first_of(queue: &Queue) -> Result<Option<Key>, NoMemory>
+    ensures { IfOk result (λ o. o ≡ slice_get queue.now.waiting 0) }
+{
+    match queue.next() {
+        Some(key) => Ok(Some(key.clone()?)),
+        None => Ok(None),
+    }
+}
+
+// Whether a key of an object's kind and name is held.
+fn holds_place(hands: &[Handed], id: &Id) -> bool
+    ensures { result ≡ list_any (λ h. is_place_of id.now h.brief.key) hands.now }
+{
+    for hand in hands {
+        if is_place(id, &hand.brief.brief().key) {
+            return true;
+        }
+    }
+    false
+}
+
+// Whether a key is of an object's kind and name.
+fn is_place(id: &Id, key: &Key) -> bool
+    ensures { result ≡ is_place_of id.now key.now }
+{
+    match key {
+        Key::Copy { ns: _, kind, name } => *kind == id.kind && *name == id.name,
+        _ => false,
     }
 }
 

@@ -1,11 +1,11 @@
-use Rattle.std.proofs.Common.{sym, ap, subst, ◌∙◌}
+use Rattle.std.proofs.Common.{sym, ap, subst, ◌∙◌, length, arith}
 use Rattle.std.specs.List.{IsDistinct}
 use Rattle.std.specs.List.Sorted.{IsPermutation}
 use Rattle.hx_model.specs.Keys.{same_key}
 use Rattle.hx_queue.specs.Kept.{waiting_without}
 use Rattle.hx_queue.specs.Line.{in_line}
 use Rattle.hx_queue.specs.Line.{LineView}
-use Rattle.hx_queue.proofs.Lining.{taken_line, distinct_after, taken_first, unchanged}
+use Rattle.hx_queue.proofs.Lining.{taken_line, distinct_after, taken_first, unchanged, fewer}
 use Rattle.hx_queue.proofs.line.Line.take.Goals as goal
 
 lacks_line : (c : goal.After-turn) → IsPermutation (in_line c.swap_remove-older.new.self.keys c.swap_remove-younger.new.self.keys) (waiting_without (in_line c.self.inside.older.keys c.self.inside.younger.keys) c.args.key.now)
@@ -17,7 +17,7 @@ lacks_line c =
 pub invariant_of-self : goal.invariant_of-self
 invariant_of-self c =
     let distinct = distinct_after c.args.key.now (in_line c.self.inside.older.keys c.self.inside.younger.keys) (in_line c.swap_remove-older.new.self.keys c.swap_remove-younger.new.self.keys) c.self.invariant.distinct (lacks_line c) in
-    record { distinct = subst (IsDistinct same_key) (sym c.turn.ensures.keys) distinct; turned = c.turn.ensures.turned }
+    record { distinct = subst (IsDistinct same_key) (sym c.turn.ensures.keys) distinct; turned = c.turn.ensures.turned; most = omega (arith, ap length c.turn.ensures.keys, fewer c.args.key.now _ _ (lacks_line c), c.self.invariant.most) }
 
 pub returns-clause-keys : goal.returns-clause-keys
 returns-clause-keys c = rw (← c.self.view_is) (subst (λ l. IsPermutation l (waiting_without (in_line c.self.inside.older.keys c.self.inside.younger.keys) c.args.key.now)) (sym c.turn.ensures.keys) (lacks_line c))

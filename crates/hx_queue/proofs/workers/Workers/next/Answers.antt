@@ -1,12 +1,31 @@
-use Rattle.hx_queue.specs.Tied.{hands_of}
-use Rattle.hx_queue.proofs.Tying.{next_waits, next_free, next_none}
+use Rattle.std.proofs.Common.{◌≡◌, IfSome, IfNone, true, false, []}
+use Rattle.std.specs.Prelude.{slice_get}
+use Rattle.std.proofs.lemmas.Result.{IfOk-weaker}
+use Rattle.hx_model.specs.Hands.{is_held}
+use Rattle.hx_model.specs.Keys.{is_among}
+use Rattle.hx_queue.specs.Tied.{all_waiting, hands_of}
+use Rattle.hx_queue.proofs.LiningUp.{next_some, next_free, next_none}
 use Rattle.hx_queue.proofs.workers.Workers.next.Goals as goal
 
 pub returns-clause-some : goal.returns-clause-some
-returns-clause-some c = rw (← c.self.view_is) (next_waits (λ k. k.now) c.next.result c.self.inside.queue c.next.ensures)
+returns-clause-some c =
+    let hands = hands_of c.self.inside.hands.items in
+    let queue = c.line_up_first.new.queue in
+    let waiting = all_waiting c.self.inside.queue c.self.inside.spread in
+    rw (← c.self.view_is) (IfOk-weaker c.first_of.result (λ o. o ≡ slice_get queue.waiting 0) (λ o. IfSome o (λ key. is_among key waiting ≡ true))
+    (next_some hands c.self.inside.queue queue c.self.inside.spread c.line_up_first.new.spread c.self.invariant c.line_up_first.ensures.lines_up) c.first_of.ensures)
 
 pub returns-clause-free : goal.returns-clause-free
-returns-clause-free c = rw (← c.self.view_is) (next_free (λ k. k.now) c.next.result (hands_of c.self.inside.hands.items) c.self.inside.queue c.self.invariant c.law_apart.ensures c.next.ensures)
+returns-clause-free c =
+    let hands = hands_of c.self.inside.hands.items in
+    let queue = c.line_up_first.new.queue in
+    rw (← c.self.view_is) (IfOk-weaker c.first_of.result (λ o. o ≡ slice_get queue.waiting 0) (λ o. IfSome o (λ key. is_held key hands ≡ false))
+    (λ o e. next_free hands c.self.inside.queue queue c.self.inside.spread c.line_up_first.new.spread c.self.invariant c.line_up_first.ensures.lines_up o c.law_apart.ensures e) c.first_of.ensures)
 
 pub returns-clause-none : goal.returns-clause-none
-returns-clause-none c = rw (← c.self.view_is) (next_none (λ k. k.now) c.next.result c.self.inside.queue c.next.ensures)
+returns-clause-none c =
+    let hands = hands_of c.self.inside.hands.items in
+    let queue = c.line_up_first.new.queue in
+    let waiting = all_waiting c.self.inside.queue c.self.inside.spread in
+    rw (← c.self.view_is) (IfOk-weaker c.first_of.result (λ o. o ≡ slice_get queue.waiting 0) (λ o. IfNone o (waiting ≡ []))
+    (λ o e. next_none hands c.self.inside.queue queue c.self.inside.spread c.line_up_first.new.spread c.self.invariant c.line_up_first.ensures.lines_up o c.in_ok-line_up_first.ensures.none e) c.first_of.ensures)

@@ -1,0 +1,75 @@
+-- Keys that were marked as a whole come in line.
+--     lines_none, lines_one, lines_more    none came in line;  those of the first object, or none;  and then others
+--     kept_by_lines, seen_by_lines         what is kept, and what is seen
+--     next_some, next_free, next_none      the first key in line then
+use Rattle.std.proofs.Common.{◌≡◌, ◌≤◌, ◌<◌, true, false, ◌||◌, List, [], ◌∷◌, map, filter, drop, length, refl, sym, ap, subst, ◌∙◌, arith, Option, Some, None, Result, Ok, Err, OnOk, OnErr, IfSome, IfNone}
+use Rattle.std.specs.Prelude.{slice_get}
+use Rattle.hx_object.specs.declared.object.Id.{Id}
+use Rattle.hx_model.specs.Hands.{Hand, is_held as is_in_hands}
+use Rattle.hx_model.specs.Keys.{same_key, is_among}
+use Rattle.hx_model.specs.declared.key.Key.{Key}
+use Rattle.hx_queue.specs.Kept.{Held, QueueView, AreApart as IsQueueApart}
+use Rattle.hx_queue.specs.Spread.{SpreadView, is_spread, keys_in, waiting_in}
+use Rattle.hx_queue.specs.Tied.{IsFree, IsKept, LinesUp, all_waiting, any_held}
+use Rattle.hx_queue.proofs.Beside.{among_waiting, spread_less}
+use Rattle.hx_queue.proofs.Marking.{held_any}
+use Rattle.hx_queue.proofs.Tying.{first_waits, none_waits, waits_free}
+use Rattle.hx_queue.proofs.Whole.{whole_of}
+
+-- ---- steps
+
+pub lines_none : (q : QueueView) (s : SpreadView) → LinesUp q q s s
+lines_none q s = record { waiting = refl; held = refl; reach = refl; apart = λ k e. e; room = omega arith }
+
+pub lines_more : (q r u : QueueView) (s t v : SpreadView) → LinesUp q r s t → LinesUp r u t v → LinesUp q u s v
+lines_more q r u s t v first rest = record {
+  waiting = rest.waiting ∙ first.waiting;
+  held = rest.held ∙ first.held;
+  reach = rest.reach ∙ first.reach;
+  apart = λ k e. rest.apart k (first.apart k e);
+  room = omega (arith, first.room, rest.room);
+}
+
+pub lines_one : {A E : Type 0} (result : Result A E) (q r : QueueView) (s t : SpreadView) → all_waiting r t ≡ all_waiting q s → r.held ≡ q.held → OnOk result (t.ids ≡ drop 1 s.ids) → OnErr result (t.ids ≡ s.ids) → t.reach ≡ s.reach → s.room ≤ t.room → LinesUp q r s t
+lines_one {A} {E} result q r s t waiting held ok err reach room = record { waiting = waiting; held = held; reach = reach; apart = by result ok err; room = room }
+  where
+    by : (o : Result A E) → OnOk o (t.ids ≡ drop 1 s.ids) → OnErr o (t.ids ≡ s.ids) → (k : Key) → is_spread s.ids k ≡ false → is_spread t.ids k ≡ false
+    by (Ok x) ok err = λ k e. ap (λ ids. is_spread ids k) ok ∙ spread_less k s.ids e
+    by (Err x) ok err = λ k e. ap (λ ids. is_spread ids k) err ∙ e
+
+-- what is held stays apart from what is marked as a whole
+pub free_by_lines : (q r : QueueView) (s t : SpreadView) → LinesUp q r s t → IsFree q s.ids → IsFree r t.ids
+free_by_lines q r s t l free k held = l.apart k (free k (held_any q k ∙ sym (ap (any_held (λ key worker. same_key k key)) l.held) ∙ sym (held_any r k) ∙ held))
+
+-- fewer objects are left
+pub fewer : (ids rest : List Id) → rest ≡ drop 1 ids → (ids ≡ [] → ⊥) → length rest < length ids
+fewer [] rest is some = absurd (some refl)
+fewer (id ∷ ids) rest is some = subst (λ (xs : List Id). length xs < length (id ∷ ids)) (sym is) (omega arith)
+
+-- ---- what is kept and seen
+
+pub kept_by_lines : (hands : List Hand) (q r : QueueView) (s t : SpreadView) → IsKept hands q s → LinesUp q r s t → IsKept hands r t
+kept_by_lines hands q r s t kept l = record {
+  tied = record { same = λ test. kept.tied.same test ∙ sym (ap (any_held test) l.held); workers = kept.tied.workers; keys = kept.tied.keys };
+  free = free_by_lines q r s t l kept.free;
+}
+
+pub seen_by_lines : (hands : List Hand) (q r : QueueView) (s t : SpreadView) → LinesUp q r s t → whole_of hands r t ≡ whole_of hands q s
+seen_by_lines hands q r s t l = λ i. record { hands = hands; waiting = l.waiting i; again = map (λ (h : Held). h.key) (filter (λ (h : Held). h.again) (l.held i)) }
+
+-- ---- the next key
+
+module _ (hands : List Hand) (q r : QueueView) (s t : SpreadView) (kept : IsKept hands q s) (l : LinesUp q r s t) where
+  pub next_some : (o : Option Key) → o ≡ slice_get r.waiting 0 → IfSome o (λ k. is_among k (all_waiting q s) ≡ true)
+  next_some None e = tt
+  next_some (Some k) e = ap (is_among k) (sym l.waiting) ∙ among_waiting k r.waiting (keys_in t.reach t.ids) ∙ ap (λ b. b || is_among k (keys_in t.reach t.ids)) (first_waits k r.waiting (sym e))
+
+  pub next_free : (o : Option Key) → IsQueueApart r → o ≡ slice_get r.waiting 0 → IfSome o (λ k. is_in_hands k hands ≡ false)
+  next_free None apart e = tt
+  next_free (Some k) apart e = waits_free k hands r (kept_by_lines hands q r s t kept l).tied apart (first_waits k r.waiting (sym e))
+
+  pub next_none : (o : Option Key) → (r.waiting ≡ [] → t.ids ≡ []) → o ≡ slice_get r.waiting 0 → IfNone o (all_waiting q s ≡ [])
+  next_none None none e =
+      let nothing = none_waits r.waiting (sym e) in
+      sym l.waiting ∙ (λ i. waiting_in (nothing i) (keys_in t.reach (none nothing i)))
+  next_none (Some k) none e = tt
