@@ -64,3 +64,4 @@ pub mod Promising
 pub mod Regular
 pub mod Sending
 pub mod Unlimited
+pub mod SpreadLaw

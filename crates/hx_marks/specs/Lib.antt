@@ -7,3 +7,4 @@ pub mod Halves
 pub mod Senders
 pub mod Reads
 pub mod Moving
+pub mod Spread

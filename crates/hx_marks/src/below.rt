@@ -1,9 +1,13 @@
 // Which namespaces take part, and what lies below them.
 ghost use Rattle.std.specs.Prelude.{◌≡◌, ◌++◌, true, IfOk, OnOk, filter, flat_map, option_copied};
-ghost use Rattle.std.specs.List.{list_all};
+ghost use Rattle.std.specs.List.{list_all, IsDistinct};
+ghost use Rattle.std.specs.Str.{bytes_eq};
 ghost use Rattle.hx_model.specs.Forest.{chain_of, subtree_of};
 ghost use Rattle.hx_model.specs.Moves.{up_to, chain_from, is_calm, is_open_above};
+ghost use Rattle.hx_model.specs.State.{State};
+ghost use Rattle.hx_model.specs.Tree.{forest_of};
 ghost use Rattle.hx_model.specs.TreeLabels.{is_open};
+ghost use Rattle.hx_model.specs.Valid.{IsValid};
 ghost use Rattle.hx_marks.specs.Law.{live_below, open_below};
 
 use hx_forest::{Ancestors, Forest};
@@ -12,8 +16,11 @@ use hx_object::{NoMemory, Text};
 use std::alloc::Global;
 
 /// The namespaces of a subtree that take part. Below one that doesn't, none does.
-pub(crate) fn open_below(alloc: Global, forest: &Forest, name: &Text) -> Result<Vec<Text>, NoMemory>
-    ensures { IfOk result (λ names. names.items ≡ open_below forest.now.nodes name.now) }
+pub fn open_below(alloc: Global, forest: &Forest, name: &Text) -> Result<Vec<Text>, NoMemory>
+    ensures named { IfOk result (λ names. names.items ≡ open_below forest.now.nodes name.now) }
+
+    // The tree of a valid state has each name once.
+    ensures distinct { IfOk result (λ names. (s : State) → IsValid s → forest.now.nodes ≡ forest_of s → IsDistinct bytes_eq names.items) }
 {
     let mut names = Vec::new(alloc);
     if !forest.is_open(name) {

@@ -9,6 +9,7 @@ ghost use Rattle.hx_marks.specs.Moving.{moved_marks_to};
 ghost use Rattle.hx_marks.specs.Reads.{state_in};
 ghost use Rattle.hx_marks.specs.Law.{anchor_keys, begins_to_end, created_marks, ending_marks, label_marks, leaving_keys, mode_marks, object_marks, removed_marks};
 ghost use Rattle.hx_marks.specs.Reports.{anchored_reports, created_reports, ending_reports, removed_reports, report_keys};
+ghost use Rattle.hx_marks.specs.Spread.{beside_marks};
 ghost use Rattle.hx_marks.specs.Usage.{charged_usage, created_usage, hierarchy_usage, moved_usage, namespace_usage, removed_usage};
 
 use crate::anchors::{anchor_keys, leaving_keys};
@@ -236,6 +237,19 @@ fn inner_marks(
     ensures { OnOk result (keys.new.items ≡ keys.old.items ++ ((object_marks (state_in current.now) id.now (option_copied old.entry) (option_copied new.entry) ++ leaving_keys (forest_of (state_in current.now)) id.now.ns) ++ charged_usage (state_in current.now) id.now.ns (option_copied old.entry) (option_copied new.entry))) }
 {
     object_marks(current, id, old, new, keys)?;
+    beside_marks(current, id, old, new, keys)
+}
+
+/// Marks what such an object touches besides its copies.
+pub(crate) fn beside_marks(
+    current: &Current,
+    id: &Id,
+    old: Option<&Object>,
+    new: Option<&Object>,
+    keys: &mut Vec<Key>,
+) -> Result<(), NoMemory>
+    ensures { OnOk result (keys.new.items ≡ keys.old.items ++ beside_marks (state_in current.now) id.now (option_copied old.entry) (option_copied new.entry)) }
+{
     leaving_keys(current.forest, &id.ns, keys)?;
     charged_usage(current, &id.ns, old, new, keys)
 }

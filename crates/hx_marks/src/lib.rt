@@ -15,9 +15,12 @@ mod namespaces;
 mod objects;
 mod reports;
 mod senders;
+mod spread;
 mod usage;
 mod wants;
 mod writes;
 
+pub use below::open_below;
+pub use spread::{SpreadMarks, keeps_tree, spread_marks};
 pub use wants::keys_of;
 pub use writes::marks;

@@ -36,7 +36,7 @@ pub(crate) fn object_marks(
 }
 
 /// Whether an object is sent before or after a write.
-fn is_any_sent(mode: Mode, old: Option<&Object>, new: Option<&Object>) -> bool
+pub(crate) fn is_any_sent(mode: Mode, old: Option<&Object>, new: Option<&Object>) -> bool
     ensures { result ≡ is_any_sent mode (option_copied old.entry) (option_copied new.entry) }
 {
     is_one_sent(mode, old) || is_one_sent(mode, new)

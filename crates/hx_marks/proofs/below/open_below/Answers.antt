@@ -1,8 +1,18 @@
 use Rattle.std.proofs.Common.{◌≡◌, [], sym, ◌∙◌, rules}
+use Rattle.hx_marks.specs.Law.{open_below}
+use Rattle.hx_marks.proofs.SpreadLaw.{open_distinct}
 use Rattle.hx_marks.proofs.TakingPart.{open_below_none}
 use Rattle.hx_marks.proofs.below.open_below.Goals as goal
 
-pub returns-then-not-is_open : goal.returns-then-not-is_open
-returns-then-not-is_open c =
+pub returns-then-not-is_open-clause-named : goal.returns-then-not-is_open-clause-named
+returns-then-not-is_open-clause-named c =
     let none : c.new-names.result.items ≡ [] = search rules in
     none ∙ sym (open_below_none c.args.forest.now.nodes c.args.name.now (sym c.is_open.ensures ∙ c.if-not-is_open.true))
+
+pub returns-then-not-is_open-clause-distinct : goal.returns-then-not-is_open-clause-distinct
+returns-then-not-is_open-clause-distinct c s valid tree = open_distinct s c.args.forest.now.nodes c.args.name.now c.new-names.result.items valid tree (returns-then-not-is_open-clause-named c)
+
+pub returns-clause-distinct : goal.returns-clause-distinct
+returns-clause-distinct c s valid tree =
+    let are : c.push_open.new.list.items ≡ open_below c.args.forest.now.nodes c.args.name.now = search rules in
+    open_distinct s c.args.forest.now.nodes c.args.name.now c.push_open.new.list.items valid tree are

@@ -11,11 +11,11 @@ use Rattle.hx_marks.proofs.Sending.{all_open}
 use Rattle.hx_marks.proofs.namespaces.ending_marks.Goals as goal
 
 pub all_by_chains-requires : goal.all_by_chains-requires
-all_by_chains-requires c = record { part = all_open c.args.current.now.forest.now.nodes c.args.name.now c.deref.result.now (c.deref.ensures.value ∙ c.in_ok-members.ensures) }
+all_by_chains-requires c = record { part = all_open c.args.current.now.forest.now.nodes c.args.name.now c.deref.result.now (c.deref.ensures.value ∙ c.in_ok-members.ensures.named) }
 
 pub returns : goal.returns
 returns c =
-    let members = c.deref.ensures.value ∙ c.in_ok-members.ensures in
+    let members = c.deref.ensures.value ∙ c.in_ok-members.ensures.named in
     let below = flat_map (λ (m : List ℕ). all_of c.args.current.now.store.now.objects (chain_of c.args.current.now.forest.now.nodes m) m) c.deref.result.now in
     let statuses = status_keys c.args.current.now.store.now.objects c.args.name.now in
     let quotas = usage_keys c.args.current.now.store.now.objects c.args.name.now in

@@ -1,0 +1,114 @@
+// Writes that mark a whole subtree at once.
+ghost use Rattle.std.specs.Prelude.{◌≡◌, ◌||◌, true, IfOk, IfSome, option_copied};
+ghost use Rattle.std.specs.List.{list_all};
+ghost use Rattle.hx_object.specs.Kinds.{can_be_copied};
+ghost use Rattle.hx_model.specs.Keys.{is_among};
+ghost use Rattle.hx_model.specs.Moves.{mode_at};
+ghost use Rattle.hx_model.specs.State.{State, state_after};
+ghost use Rattle.hx_model.specs.Tree.{forest_of};
+ghost use Rattle.hx_model.specs.Valid.{IsValid};
+ghost use Rattle.hx_model.specs.Writes.{MayWriteAll};
+ghost use Rattle.hx_marks.specs.Before.{state_of};
+ghost use Rattle.hx_marks.specs.Law.{all_marks, is_any_sent, open_below};
+ghost use Rattle.hx_marks.specs.Reads.{state_in};
+ghost use Rattle.hx_marks.specs.Spread.{IsSpread, is_beside_tree, spread_keys};
+
+use crate::current::Current;
+use crate::kinds::beside_marks;
+use crate::lookups::{mode_at, object_in};
+use crate::objects::is_any_sent;
+use hx_forest::Forest;
+use hx_model::{Key, RunConfig};
+use hx_object::{Id, NoMemory, Object};
+use hx_store::{Change, Store};
+
+/// What a write of a source marks, by its subtree as a whole.
+#[derive(Drop)]
+pub struct SpreadMarks {
+    /// The object. It stands for the keys of its kind and name in all namespaces of its own's subtree that take part.
+    pub id: Id,
+    /// The other keys that the write marks.
+    pub others: Vec<Key>,
+}
+
+/// The same keys as those of [`marks`](crate::marks), with one identity in place of those in a subtree. There are some where one object is written alone, of a kind that can be copied, which is sent before or after the write and has namespaces below its own.
+///
+/// It costs what the other keys cost, and nothing for the subtree.
+pub fn spread_marks(
+    store: &Store,
+    forest: &Forest,
+    config: &RunConfig,
+    writes: &[Change],
+) -> Result<Option<SpreadMarks>, NoMemory>
+    requires tree { forest.now.nodes ≡ forest_of (state_of store.now config.now) }
+    requires valid { IsValid (state_of store.now config.now) }
+    requires may { MayWriteAll (state_of store.now config.now) writes.now }
+    ensures named { IfOk result (λ o. IfSome o (λ spread. (k : Key) → is_among k (all_marks (state_of store.now config.now) writes.now) ≡ (is_among k spread.others.items || is_among k (spread_keys (open_below forest.now.nodes spread.id.ns) spread.id)))) }
+
+    // The write leaves the tree.
+    ensures tree { IfOk result (λ o. IfSome o (λ spread. forest_of (state_after (state_of store.now config.now) writes.now) ≡ forest.now.nodes)) }
+{
+    let [write] = writes else {
+        return Ok(None);
+    };
+    let current = Current {
+        store,
+        forest,
+        config,
+    };
+    spread_of(&current, write)
+}
+
+fn spread_of(current: &Current, write: &Change) -> Result<Option<SpreadMarks>, NoMemory>
+    ensures { IfOk result (λ o. IfSome o (λ spread. IsSpread (state_in current.now) write.now spread.id spread.others.items)) }
+{
+    let id = write.id();
+    let old = object_in(current.store.get(id));
+    let new = object_in(write.object());
+    if !is_spread(current, id, old, new) {
+        return Ok(None);
+    }
+    let mut others = Vec::new(current.store.allocator());
+    beside_marks(current, id, old, new, &mut others)?;
+    Ok(Some(SpreadMarks {
+        id: id.clone()?,
+        others,
+    }))
+}
+
+/// Whether the write of an object is marked as a whole: it is sent, and something lies below its namespace.
+fn is_spread(current: &Current, id: &Id, old: Option<&Object>, new: Option<&Object>) -> bool
+    ensures copied { result ≡ true → can_be_copied id.now.kind ≡ true }
+    ensures sent { result ≡ true → is_any_sent (mode_at current.now.store.now.objects id.now.kind) (option_copied old.entry) (option_copied new.entry) ≡ true }
+{
+    if !id.kind.can_be_copied() || current.forest.children(&id.ns).is_empty() {
+        return false;
+    }
+    is_any_sent(mode_at(current.store, id.kind), old, new)
+}
+
+/// Whether writes leave the tree as it is: none is of a Namespace or a HierarchyConfiguration.
+pub fn keeps_tree(writes: &[Change]) -> bool
+    ensures { result ≡ true → (s : State) → forest_of (state_after s writes.now) ≡ forest_of s }
+{
+    are_beside_tree(writes)
+}
+
+fn are_beside_tree(writes: &[Change]) -> bool
+    ensures { result ≡ list_all is_beside_tree writes.now }
+{
+    for write in writes {
+        if !is_beside_tree(write) {
+            return false;
+        }
+    }
+    true
+}
+
+/// Whether a write is of no Namespace, and of no HierarchyConfiguration.
+fn is_beside_tree(write: &Change) -> bool
+    ensures { result ≡ is_beside_tree write.now }
+{
+    let kind = write.id().kind;
+    !kind.is_namespace() && !kind.is_hierarchy()
+}
