@@ -130,8 +130,10 @@ class Run:
         self.answers.close()
 
 
-def compare(kind, names, runs, lines, part=248, count=32, statuses=SUCCESS):
-    """Prints the least time per request in two runs, which take turns in so many parts of the lines that each gives, and the ratio of the second to the first."""
+def compare(kind, names, runs, lines, part=2_480, count=32, statuses=SUCCESS):
+    """Prints the least time per request in two runs, which take turns in so many parts of the lines that each gives, and the ratio of the second to the first.
+
+    Parts are long, since each begins with caches that hold what the other run has read."""
     turns = [(run, parts(lines(run), part)) for run in runs]
     report(kind, names, [[run.seconds(next(its), statuses) for run, its in turns] for _ in range(count)], part)
 

@@ -5,7 +5,7 @@ Usage: bench/ring.py PROGRAM [PART]
 PROGRAM is the built program, which bin/hnc leaves as crates/hnc/out/hnc.
 Prints the time per PUT in each run, and their ratio. In both there are 4,096 namespaces: four leaves that move between two roots, and the
 others, which in the second run are each the parent of the next one, and the last of the first, by `admission=skip`. The PUTs come in parts of
-PART, 248 where it isn't given, in turns in both runs. The least of 32 parts counts. Everything runs on one processor.
+PART, 2,480 where it isn't given, in turns in both runs. The least of 32 parts counts. Everything runs on one processor.
 """
 import itertools
 import os

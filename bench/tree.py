@@ -6,8 +6,8 @@ PROGRAM is the built program, which bin/hnc leaves as crates/hnc/out/hnc.
 Prints one line per kind of request: the time per request at each size, and their ratio. A tree is a root and columns of eight namespaces, each
 the parent of the next one, with 16 ConfigMaps in each. A list is of the ConfigMaps of one namespace. A PUT moves a leaf below the seventh of
 another column, or the fourth with the four below it below the third of another one: so every PUT changes a parent, and the depth stays. GETs
-read the leaves' HierarchyConfigurations. All come in shuffled order and in parts of 248 requests, in turns at the small and the large size. The
-least of 32 parts counts. Everything runs on one processor.
+read the leaves' HierarchyConfigurations. All come in shuffled order and in parts of 2,480 requests, in turns at the small and the large size.
+The least of 32 parts counts. Everything runs on one processor.
 """
 import os
 import sys
