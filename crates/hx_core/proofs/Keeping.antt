@@ -1,12 +1,15 @@
 -- What a cluster keeps true where a worker takes a key or lets it go.
 --     again_free         a key that nobody holds isn't marked again
+--     next_in            a key that waits next
 --     short_by, given_job    a brief that is given
 --     sound_taken, sound_given, sound_let
 --     sound_ready              where nothing that is seen changes
 --     let_by, let_some, let_none, released, empty_after    a hand that is let go
 --     settled_now        where no key waits and none is held, the state is settled
 --     counts             how many keys wait and are held
-use Rattle.std.proofs.Common.{◌≡◌, ◌≢◌, ◌<◌, ◌^◌, ℕ, Bool, true, false, List, [], ◌∷◌, length, ◌||◌, Option, Some, None, IfSome, IfNone, is_some, refl, sym, ap, ◌∙◌, subst, true≢false}
+use Rattle.std.proofs.Common.{◌≡◌, ◌≢◌, ◌<◌, ◌^◌, ℕ, Bool, true, false, List, [], ◌∷◌, length, ◌||◌, Option, Some, None, IfSome, IfNone, is_some, refl, sym, ap, ◌∙◌, subst, true≢false, Ok, Err}
+use Rattle.std.specs.Prelude.{IfOk}
+use Rattle.std.specs.declared.result.Result.{Result}
 use Rattle.std.specs.List.{AllByRecursion}
 use Rattle.hx_ports.specs.Views.{KeeperView}
 use Rattle.hx_model.specs.Covered.{IsCovered, IsUpToDate}
@@ -31,7 +34,7 @@ use Rattle.hx_core.specs.Inside.{IsSound, view_of}
 use Rattle.hx_core.specs.Refinement.{ClusterView, HasWorld, Simulates}
 use Rattle.hx_core.specs.Turns.{IsOf}
 use Rattle.hx_queue.specs.Workers.{WorkersView, AreApart, IsTakenBy, IsLetGo}
-use Rattle.hx_core.specs.Working.{IsDone, IsGivenBy, IsJob, IsLet, IsReleased, IsSameKeeping, chain_in, sums_in}
+use Rattle.hx_core.specs.Working.{IsDone, IsGivenBy, IsJob, IsLet, IsNext, IsReleased, IsSameKeeping, chain_in, sums_in}
 use Rattle.hx_core.specs.declared.turns.Take.{Take}
 use Rattle.hx_core.specs.declared.turns.Take.TheVariants as take
 use Rattle.hx_core.proofs.Covering.{again_held, covered_taken, covered_let, waits_each}
@@ -43,6 +46,12 @@ use Rattle.std.proofs.lemmas.Bool.{false_from_ne_true}
 
 pub again_free : (v : WorkersView) (k : Key) → AreApart v → is_held k v.hands ≡ false → is_among k v.again ≡ false
 again_free v k apart free = false_from_ne_true (is_among k v.again) (λ e. true≢false (sym (again_held v k apart e) ∙ free))
+
+-- a key that waits, and that nobody holds
+pub next_in : {E : Type 0} (v : WorkersView) (r : Result (Option Key) E) → AreApart v → IfOk r (λ o. IfSome o (λ k. is_among k v.waiting ≡ true)) → IfOk r (λ o. IfSome o (λ k. is_held k v.hands ≡ false)) → IfOk r (λ o. IfSome o (IsNext v))
+next_in v (Err e) apart waits free = tt
+next_in v (Ok None) apart waits free = tt
+next_in v (Ok (Some k)) apart waits free = record { waits = waits; free = free; again = again_free v k apart free }
 
 -- ---- a key is taken
 

@@ -12,6 +12,7 @@ pub mod Meeting
 pub mod Starting
 pub mod Reopening
 pub mod Making
+pub mod Reached
 pub mod Committing
 pub mod Refusing
 pub mod Asking

@@ -1,16 +1,20 @@
 -- What a cluster keeps true of its fields.
 --     view_of          what a cluster is seen as
 --     IsSound          the state is valid, the keeper holds it, no work is forgotten, what is held was taken in an earlier state, there is a world for all, and nothing is staged
-use Rattle.std.specs.Prelude.{◌≡◌, List, []}
+--     IsInside         that, and what is marked as a whole is marked in the right namespaces
+use Rattle.std.specs.Prelude.{◌≡◌, List, [], Option}
 use Rattle.std.specs.List.{AllByRecursion}
 use Rattle.hx_ports.specs.Views.{KeeperView}
 use Rattle.hx_model.specs.Covered.{IsCovered}
 use Rattle.hx_model.specs.State.{State}
+use Rattle.hx_model.specs.Tree.{forest_of}
 use Rattle.hx_model.specs.Valid.{IsValid}
 use Rattle.hx_model.specs.declared.key.Write.{Write}
 use Rattle.hx_core.specs.Committing.{Holds}
+use Rattle.hx_core.specs.Reaching.{IsReachOf}
 use Rattle.hx_core.specs.Refinement.{ClusterView, HasWorld}
 use Rattle.hx_core.specs.Turns.{IsOf}
+use Rattle.hx_queue.specs.Spread.{Reach}
 use Rattle.hx_queue.specs.Workers.{WorkersView}
 
 -- a state, what workers hold and which keys wait, and what the keeper shows
@@ -25,3 +29,8 @@ pub record IsSound (s : State) (workers : WorkersView) (keeper : KeeperView) (st
   pub taken : AllByRecursion (IsOf s) workers.hands
   pub world : HasWorld (view_of s workers keeper)
   pub none : staged ≡ []
+
+-- The fields are sound, and the namespaces that keys are marked in as a whole are those of the state's tree
+pub record IsInside (s : State) (workers : WorkersView) (place : Option Reach) (keeper : KeeperView) (staged : List Write) : Type 0 where
+  pub sound : IsSound s workers keeper staged
+  pub reach : IsReachOf (forest_of s) place

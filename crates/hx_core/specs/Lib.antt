@@ -4,6 +4,7 @@ pub mod Refinement
 pub mod Committing
 pub mod Starting
 pub mod Loading
+pub mod Reaching
 pub mod Inside
 pub mod Working
 pub mod Settling

@@ -1,5 +1,6 @@
 -- What the parts of a worker's turn leave of a cluster.
 --     IsSameKeeping old new       the state and the keeper stay
+--     IsNext v k                  a key waits, and nobody holds it
 --     IsGiven worker k old take new    a worker was given a key that nobody holds, or no memory was left
 --     IsTake, IsTakeOf            what takes do
 --     IsDone s hand               a hand whose key needs no turn more: it isn't up to date, or its key wants nothing
@@ -10,7 +11,8 @@
 --     chain_in, sums_in           the chain of facts that have one;  the sums of those that have some
 --     is_removal                  the key of a removal: once its write is made it may want the next one
 use Rattle.std.specs.Prelude.{◌≡◌, ◌<◌, ◌+◌, ℕ, Bool, true, false, List, [], ◌∷◌, Option, Some, None}
-use Rattle.hx_model.specs.Hands.{Hand, hand_of, are_met, may_write, versioned}
+use Rattle.hx_model.specs.Hands.{Hand, hand_of, is_held, are_met, may_write, versioned}
+use Rattle.hx_model.specs.Keys.{is_among}
 use Rattle.hx_model.specs.Covered.{IsUpToDate}
 use Rattle.hx_model.specs.Limits.{greatest_version}
 use Rattle.hx_model.specs.State.{State}
@@ -37,6 +39,12 @@ pub record IsSameKeeping (old new : ClusterView) : Type 0 where
   pub keeper : new.keeper ≡ old.keeper
 
 -- ---- takes
+
+-- a key waits, nobody holds it, and it isn't marked again
+pub record IsNext (v : WorkersView) (k : Key) : Type 0 where
+  pub waits : is_among k v.waiting ≡ true
+  pub free : is_held k v.hands ≡ false
+  pub again : is_among k v.again ≡ false
 
 -- a worker was given a key, as the state is
 pub record IsJob (worker : ℕ) (k : Key) (old : ClusterView) (brief : Brief) (new : ClusterView) : Type 0 where

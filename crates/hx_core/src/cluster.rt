@@ -8,12 +8,14 @@ ghost use Rattle.hx_model.specs.Requests.{request_entry};
 ghost use Rattle.hx_model.specs.Serving.{IsServedAsk, IsLegalAnswer};
 ghost use Rattle.hx_model.specs.Settled.{IsSettled};
 ghost use Rattle.hx_model.specs.State.{State, state_after};
+ghost use Rattle.hx_model.specs.Tree.{forest_of};
 ghost use Rattle.hx_model.specs.Valid.{IsValid};
 ghost use Rattle.hx_model.specs.Wanted.{wanted_write};
 ghost use Rattle.hx_model.specs.Writes.{MayWriteAll};
 ghost use Rattle.hx_model.specs.declared.key.Key.{Key as key_of};
 ghost use Rattle.hx_core.specs.Committing.{HasLanded, HasFailed, HasMarked, IsOrderly};
 ghost use Rattle.hx_core.specs.Loading.{Asked};
+ghost use Rattle.hx_core.specs.Reaching.{IsReachOf};
 ghost use Rattle.hx_core.specs.Refinement.{Represents, HasWorld, Simulates, kept_of};
 ghost use Rattle.hx_core.specs.Starting.{AreTexts, IsDamagedAt, IfDamaged, IsUndamaged, IsUntouched};
 
@@ -43,7 +45,7 @@ pub struct Cluster<K: Keeper> {
 
 impl<K: Keeper> Model for Cluster<K> {
     ghost use Rattle.hx_core.specs.Refinement.{ClusterView, cluster_view_code};
-    ghost use Rattle.hx_core.specs.Inside.{IsSound, view_of};
+    ghost use Rattle.hx_core.specs.Inside.{IsInside, view_of};
 
     ghost Value = { ClusterView };
 
@@ -51,7 +53,7 @@ impl<K: Keeper> Model for Cluster<K> {
 
     ghost view = { λ c. view_of c.state.state c.workers.seen (K.shown c.keeper) };
 
-    ghost invariant = { λ c. IsSound c.state.state c.workers.seen (K.shown c.keeper) c.state.staged };
+    ghost invariant = { λ c. IsInside c.state.state c.workers.seen c.workers.reach (K.shown c.keeper) c.state.staged };
 }
 
 /// A keeper that no cluster was started on.
@@ -194,6 +196,7 @@ fn load_work<K: Keeper>(
     ensures waiting { IfOk result (λ p. (k : key_of) → is_among k p.1.seen.waiting ≡ wants p.0.state k) }
     ensures hands { IfOk result (λ p. p.1.seen.hands ≡ []) }
     ensures again { IfOk result (λ p. p.1.seen.again ≡ []) }
+    ensures reach { IfOk result (λ p. IsReachOf (forest_of p.0.state) p.1.reach) }
 {
     let state = load_state(alloc, keeper, config, keys)?;
     let mut workers = Workers::new(alloc, keys);

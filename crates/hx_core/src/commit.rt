@@ -1,15 +1,16 @@
 // The one way of writes: they are prepared, put to the keeper, and then made.
-ghost use Rattle.std.specs.Prelude.{◌≡◌, ◌≢◌, ◌≤◌, [], OnOk, OnErr, IfOk, IfSome, IfNone, IsErrOf, filter, length, not, option_copied};
-ghost use Rattle.hx_model.specs.Keys.{same_key};
+ghost use Rattle.std.specs.Prelude.{◌≡◌, ◌≢◌, ◌≤◌, ◌++◌, [], OnOk, OnErr, IfOk, IsErrOf, length, option_copied};
+ghost use Rattle.hx_model.specs.Tree.{forest_of};
 ghost use Rattle.hx_model.specs.Valid.{IsValid};
 ghost use Rattle.hx_model.specs.Writes.{MayWriteAll};
 ghost use Rattle.hx_marks.specs.Law.{all_marks};
 ghost use Rattle.hx_core.specs.Committing.{HasLanded, HasFailed, Holds, IsPrepared, marks_but};
+ghost use Rattle.hx_core.specs.Reaching.{IsReachOf, MayMark, whole_keys};
 ghost use Rattle.hx_queue.specs.Workers.{IsMarkedBy};
 
 use crate::rows::batch_of;
+use crate::touched::{Marks, mark, marks_of};
 use hx_admit::IndexedState;
-use hx_marks::marks;
 use hx_model::Key;
 use hx_object::NoMemory;
 use hx_ports::{Batch, KeepFault, Keeper};
@@ -112,6 +113,7 @@ pub fn write_marked<K: Keeper>(
     requires none { state.old.staged ≡ [] }
     requires may { MayWriteAll state.old.state writes.items }
     requires some { writes.items ≢ [] }
+    requires reach { IsReachOf (forest_of state.old.state) workers.old.reach }
     ensures landed { OnOk result (HasLanded state.old.state (K.shown keeper.old) writes.items state.new.state (K.shown keeper.new)) }
     ensures marked { OnOk result (IsMarkedBy (marks_but (option_copied own.entry) (all_marks state.old.state writes.items)) workers.old.seen workers.new.seen) }
     ensures seen { OnErr result (workers.new.seen ≡ workers.old.seen) }
@@ -119,9 +121,10 @@ pub fn write_marked<K: Keeper>(
     ensures keeper { IsErrOf result CommitFault.NoMemory → K.shown keeper.new ≡ K.shown keeper.old }
     ensures fault { IsErrOf result CommitFault.KeeperFault → HasFailed state.old.state (K.shown keeper.old) writes.items state.new.state (K.shown keeper.new) }
     ensures staged { state.new.staged ≡ [] }
+    ensures reach { IsReachOf (forest_of state.new.state) workers.new.reach }
 {
-    match keys_of(state, workers, writes.as_slice(), own) {
-        Ok(keys) => write_keys(keeper, state, workers, writes, keys),
+    match marks_of(state, workers, writes.as_slice(), own) {
+        Ok(marks) => write_marks(keeper, state, workers, writes, marks),
         Err(NoMemory) => {
             drop(writes);
             Err(CommitFault::NoMemory)
@@ -129,23 +132,25 @@ pub fn write_marked<K: Keeper>(
     }
 }
 
-/// Makes one write, and marks keys. There is room for them.
-fn write_keys<K: Keeper>(
+/// Makes writes, and marks keys. There is room for them.
+fn write_marks<K: Keeper>(
     keeper: &mut K,
     state: &mut IndexedState,
     workers: &mut Workers,
     writes: Vec<Change>,
-    keys: Vec<Key>,
+    marks: Marks,
 ) -> Result<(), CommitFault>
     requires valid { IsValid state.old.state }
     requires held { Holds state.old.state (K.shown keeper.old) }
     requires none { state.old.staged ≡ [] }
     requires may { MayWriteAll state.old.state writes.items }
     requires some { writes.items ≢ [] }
-    requires room { length keys.items ≤ workers.old.spare }
+    requires room { length marks.keys.items ≤ workers.old.spare }
+    requires spread { MayMark marks.spread workers.old }
     ensures landed { OnOk result (HasLanded state.old.state (K.shown keeper.old) writes.items state.new.state (K.shown keeper.new)) }
-    ensures marked { OnOk result (IsMarkedBy keys.items workers.old.seen workers.new.seen) }
+    ensures marked { OnOk result (IsMarkedBy (marks.keys.items ++ whole_keys marks.spread workers.old.reach) workers.old.seen workers.new.seen) }
     ensures seen { OnErr result (workers.new.seen ≡ workers.old.seen) }
+    ensures reach { workers.new.reach ≡ workers.old.reach }
     ensures state { IsErrOf result CommitFault.NoMemory → state.new.state ≡ state.old.state }
     ensures keeper { IsErrOf result CommitFault.NoMemory → K.shown keeper.new ≡ K.shown keeper.old }
     ensures fault { IsErrOf result CommitFault.KeeperFault → HasFailed state.old.state (K.shown keeper.old) writes.items state.new.state (K.shown keeper.new) }
@@ -153,11 +158,11 @@ fn write_keys<K: Keeper>(
 {
     match write_all(keeper, state, writes) {
         Ok(()) => {
-            workers.mark_all(keys);
+            mark(workers, marks);
             Ok(())
         }
         Err(fault) => {
-            drop(keys);
+            drop(marks);
             Err(fault)
         }
     }
@@ -184,58 +189,4 @@ fn write_all<K: Keeper>(
         return Err(CommitFault::NoMemory);
     };
     commit(keeper, state, prepared)
-}
-
-/// The keys that writes mark, but for one, with room for them.
-fn keys_of(
-    state: &IndexedState,
-    workers: &mut Workers,
-    writes: &[Change],
-    own: Option<&Key>,
-) -> Result<Vec<Key>, NoMemory>
-    requires valid { IsValid state.now.state }
-    requires may { MayWriteAll state.now.state writes.now }
-    ensures keys { IfOk result (λ keys. keys.items ≡ marks_but (option_copied own.entry) (all_marks state.now.state writes.now)) }
-    ensures room { IfOk result (λ keys. length keys.items ≤ workers.new.spare) }
-    ensures seen { workers.new.seen ≡ workers.old.seen }
-{
-    let mut keys = marks(state.store(), state.forest(), state.config(), writes)?;
-    leave_out(&mut keys, own);
-    match workers.reserve(keys.len()) {
-        Ok(()) => Ok(keys),
-        Err(NoMemory) => {
-            drop(keys);
-            Err(NoMemory)
-        }
-    }
-}
-
-/// Leaves a key out of others.
-fn leave_out(keys: &mut Vec<Key>, own: Option<&Key>)
-    ensures some { IfSome (option_copied own.entry) (λ key. keys.new.items ≡ filter (λ k. not (same_key key k)) keys.old.items) }
-    ensures none { IfNone (option_copied own.entry) (keys.new.items ≡ keys.old.items) }
-{
-    match own {
-        Some(key) => leave_out_key(keys, key),
-        None => {}
-    }
-}
-
-fn leave_out_key(keys: &mut Vec<Key>, key: &Key)
-    ensures { keys.new.items ≡ filter (λ k. not (same_key key.now k)) keys.old.items }
-{
-    keys.retain(|other| is_other(key, other));
-}
-
-fn is_other(key: &Key, other: &Key) -> bool
-    ensures { result ≡ not (same_key key.now other.now) }
-{
-    !is_same(key, other)
-}
-
-#[tactic(auto, unfolding(hx_model::specs::Keys::same_key))]
-fn is_same(key: &Key, other: &Key) -> bool
-    ensures { result ≡ same_key key.now other.now }
-{
-    key == other
 }

@@ -13,6 +13,7 @@ mod objects;
 mod rows;
 mod settle;
 mod start;
+mod touched;
 mod turns;
 mod wanted;
 mod working;

@@ -1,9 +1,10 @@
 // Turns of worker 0, one after the other, until nothing is left to do.
-ghost use Rattle.std.specs.Prelude.{◌≡◌, ◌≤◌, ◌<◌, [], ◌∷◌, ◌++◌, true, false, List, None, IfNone, IfOk, IfSome, length, vec_len, vec_capacity};
+ghost use Rattle.std.specs.Prelude.{◌≡◌, ◌≤◌, ◌<◌, [], ◌∷◌, ◌++◌, true, false, List, None, IfNone, IfSome, length, vec_len, vec_capacity};
 ghost use Rattle.hx_model.specs.Hands.{hand_of, is_held};
 ghost use Rattle.hx_model.specs.Keys.{is_among};
 ghost use Rattle.hx_core.specs.Refinement.{Simulates};
 ghost use Rattle.hx_core.specs.Settling.{IsEnded, IsRest, IsTurn, end_of, rest_of};
+ghost use Rattle.hx_core.specs.Working.{IsNext};
 ghost use Rattle.hx_core.specs.Turns.{IsSettleEnd, end_entries, turns_entries};
 ghost use Rattle.hx_core.specs.declared.turns.Turned.{Turned as turned_of};
 
@@ -37,14 +38,28 @@ impl<K: Keeper> Cluster<K> {
         ensures end { IfSome result (IsEnded self.old trace.old.items self.new trace.new.items) }
         ensures empty { hand_of 0 self.new.workers.hands ≡ None }
     {
-        match self.workers.next() {
-            None => Some(self.rest()),
-            Some(next) => {
-                self.law_of_again(next);
-                match twice(next) {
-                    Err(NoMemory) => Some(Settle::NoMemory),
-                    Ok((key, taken)) => self.turn_of(key, taken, trace),
-                }
+        self.law_of_worlds();
+        match self.next() {
+            Err(NoMemory) => Some(Settle::NoMemory),
+            Ok(None) => Some(self.rest()),
+            Ok(Some(key)) => self.turn_next(key, trace),
+        }
+    }
+
+    /// One turn of worker 0 with the next key.
+    fn turn_next(&mut self, key: Key, trace: &mut Vec<Turned>) -> Option<Settle>
+        requires nothing { hand_of 0 self.old.workers.hands ≡ None }
+        requires next { IsNext self.old.workers key }
+        ensures turn { IfNone result (IsTurn self.old trace.old.items self.new trace.new.items) }
+        ensures end { IfSome result (IsEnded self.old trace.old.items self.new trace.new.items) }
+        ensures empty { hand_of 0 self.new.workers.hands ≡ None }
+    {
+        self.law_of_worlds();
+        match copy_of(&key) {
+            Ok(taken) => self.turn_of(key, taken, trace),
+            Err(NoMemory) => {
+                drop(key);
+                Some(Settle::NoMemory)
             }
         }
     }
@@ -98,21 +113,6 @@ fn rest_of(waiting: u64, held: u64) -> Settle
         return Settle::Settled;
     }
     Settle::Unsettled { waiting, held }
-}
-
-/// A key twice over.
-fn twice(key: &Key) -> Result<(Key, Key), NoMemory>
-    ensures first { IfOk result (λ keys. keys.0 ≡ key.now) }
-    ensures second { IfOk result (λ keys. keys.1 ≡ key.now) }
-{
-    let first = copy_of(key)?;
-    match copy_of(key) {
-        Ok(second) => Ok((first, second)),
-        Err(NoMemory) => {
-            drop(first);
-            Err(NoMemory)
-        }
-    }
 }
 
 /// Puts a turn behind a trace that has room for it.

@@ -6,7 +6,8 @@ ghost use Rattle.hx_model.specs.Machine.{Checked, Dropped, Finished};
 ghost use Rattle.hx_rules.specs.Briefs.{IsShort, StandsFor, hand_by, planned_by};
 ghost use Rattle.hx_core.specs.Refinement.{Simulates};
 ghost use Rattle.hx_core.specs.Turns.{IsInHand, IsOfKey, take_entry, take_key_entry};
-ghost use Rattle.hx_core.specs.Working.{IsDone, IsGiven, IsGivenBy, IsKept, IsReleased, IsTake, IsTakeOf};
+ghost use Rattle.hx_core.specs.Working.{IsDone, IsGiven, IsGivenBy, IsKept, IsNext, IsReleased, IsTake, IsTakeOf};
+ghost use Rattle.hx_queue.specs.Spread.{is_spread};
 
 use crate::briefs::job_of;
 use crate::cluster::Cluster;
@@ -110,24 +111,30 @@ impl<K: Keeper> Cluster<K> {
         all_objects(self.state.store())
     }
 
-    /// A worker that holds nothing takes the key that has waited longest.
+    /// A worker that holds nothing takes the next key that waits.
     fn take_free(&mut self, worker: u32) -> Take
         requires { hand_of worker self.old.workers.hands ≡ None }
         ensures { IsTake worker self.old result self.new }
     {
-        match self.workers.next() {
-            None => {
+        self.law_of_worlds();
+        match self.next() {
+            Err(NoMemory) => Take::NoMemory,
+            Ok(None) => {
                 self.workers.law_apart();
                 Take::Idle
             }
-            Some(key) => {
-                self.law_of_again(key);
-                match copy_of(key) {
-                    Ok(copy) => self.give(worker, copy),
-                    Err(NoMemory) => Take::NoMemory,
-                }
-            }
+            Ok(Some(key)) => self.give(worker, key),
         }
+    }
+
+    /// A key that waits, once more.
+    pub(crate) fn next(&mut self) -> Result<Option<Key>, NoMemory>
+        ensures same { self.new ≡ self.old }
+        ensures some { IfOk result (λ o. IfSome o (IsNext self.old.workers)) }
+        ensures none { IfOk result (λ o. IfNone o (self.old.workers.waiting ≡ [])) }
+    {
+        self.workers.law_apart();
+        self.workers.next()
     }
 
     /// A worker that holds nothing takes a key that is named.
@@ -159,7 +166,7 @@ impl<K: Keeper> Cluster<K> {
     }
 
     /// A theorem, not to be called for what it does: a key that nobody holds isn't marked again.
-    pub(crate) fn law_of_again(&self, key: &Key)
+    fn law_of_again(&self, key: &Key)
         requires { is_held key.now self.now.workers.hands ≡ false }
         ensures { is_among key.now self.now.workers.again ≡ false }
     {
@@ -223,7 +230,8 @@ fn make_ready(state: &mut IndexedState, key: &Key)
 fn give_to(state: &IndexedState, workers: &mut Workers, worker: u32, key: Key) -> Take
     requires empty { hand_of worker workers.old.seen.hands ≡ None }
     requires free { is_held key workers.old.seen.hands ≡ false }
-    ensures { IsGivenBy worker key state.now.state workers.old.seen result workers.new.seen }
+    ensures given { IsGivenBy worker key state.now.state workers.old.seen result workers.new.seen }
+    ensures reach { workers.new.reach ≡ workers.old.reach }
 {
     match ready_job(state, workers, &key) {
         Ok((brief, shared)) => {
@@ -249,7 +257,10 @@ fn ready_job(
     ensures same { IfOk result (λ p. p.1 ≡ p.0) }
     ensures seen { workers.new.seen ≡ workers.old.seen }
     ensures room { OnOk result (1 ≤ workers.new.spare) }
+    ensures apart { OnOk result (is_spread workers.new.spread key.now ≡ false) }
+    ensures reach { workers.new.reach ≡ workers.old.reach }
 {
+    workers.line_up(key)?;
     workers.reserve(1)?;
     job_of(state, key)
 }

@@ -13,7 +13,7 @@ returns-then-not-may g c =
 pub returns-then-is_spent : goal.returns-then-is_spent
 returns-then-is_spent g c =
     let requires = rw (← c.self.view_is) at c.requires in
-    rw (← c.self.view_is) (tried_spent (view_of c.self.inside.state.state c.self.inside.workers.seen (g.K.Keeper.shown c.self.inside.keeper)) c.args.worker c.args.brief.now c.args.write (sym requires.may ∙ c.if-not-may.false) (ap (nat_le greatest_version) (sym c.version-now.ensures) ∙ (sym c.is_spent.ensures ∙ c.if-is_spent.true)) c.self.invariant.valid.fits)
+    rw (← c.self.view_is) (tried_spent (view_of c.self.inside.state.state c.self.inside.workers.seen (g.K.Keeper.shown c.self.inside.keeper)) c.args.worker c.args.brief.now c.args.write (sym requires.may ∙ c.if-not-may.false) (ap (nat_le greatest_version) (sym c.version-now.ensures) ∙ (sym c.is_spent.ensures ∙ c.if-is_spent.true)) c.self.invariant.sound.valid.fits)
 
 pub make-requires-clause-may : goal.make-requires-clause-may
 make-requires-clause-may g c =

@@ -13,4 +13,4 @@ pub returns-clause-simulates : goal.returns-clause-simulates
 returns-clause-simulates g c =
     let requires = rw (← c.self.view_is) at c.requires in
     let released = rw (← c.self.view_is) at c.let_go.ensures.released in
-    rw (← c.self.view_is) (ends_nothing (view_of c.self.inside.state.state c.self.inside.workers.seen (g.K.Keeper.shown c.self.inside.keeper)) c.let_go.new.self c.args.worker (hand_by c.args.worker c.args.brief.now) c.self.invariant.world requires.hand requires.planned released)
+    rw (← c.self.view_is) (ends_nothing (view_of c.self.inside.state.state c.self.inside.workers.seen (g.K.Keeper.shown c.self.inside.keeper)) c.let_go.new.self c.args.worker (hand_by c.args.worker c.args.brief.now) c.self.invariant.sound.world requires.hand requires.planned released)

@@ -15,5 +15,5 @@ pub returns-clause-simulates : goal.returns-clause-simulates
 returns-clause-simulates g c =
     let requires = rw (← c.self.view_is) at c.requires in
     let tried = rw (← c.self.view_is) at c.attempt-end.ensures in
-    rw (← c.self.view_is) (ends_tried (view_of c.self.inside.state.state c.self.inside.workers.seen (g.K.Keeper.shown c.self.inside.keeper)) c.let_go.new.self c.args.worker (hand_by c.args.worker c.args.brief.now) c.args.write c.self.invariant.world requires.hand (sym requires.planned) c.attempt-end.result c.attempt-end.new.self tried
+    rw (← c.self.view_is) (ends_tried (view_of c.self.inside.state.state c.self.inside.workers.seen (g.K.Keeper.shown c.self.inside.keeper)) c.let_go.new.self c.args.worker (hand_by c.args.worker c.args.brief.now) c.args.write c.self.invariant.sound.world requires.hand (sym requires.planned) c.attempt-end.result c.attempt-end.new.self tried
     (subst (λ b. IsReleased c.args.worker (not b) c.attempt-end.new.self c.let_go.new.self) c.is_written.ensures c.let_go.ensures.released))

@@ -6,4 +6,4 @@ pub returns-clause-simulates : goal.returns-clause-simulates
 returns-clause-simulates g c =
     let requires = rw (← c.self.view_is) at c.requires in
     let released = rw (← c.self.view_is) at c.let_go.ensures.released in
-    rw (← c.self.view_is) (ends_lost (view_of c.self.inside.state.state c.self.inside.workers.seen (g.K.Keeper.shown c.self.inside.keeper)) c.let_go.new.self c.args.worker c.self.invariant.world requires released)
+    rw (← c.self.view_is) (ends_lost (view_of c.self.inside.state.state c.self.inside.workers.seen (g.K.Keeper.shown c.self.inside.keeper)) c.let_go.new.self c.args.worker c.self.invariant.sound.world requires released)

@@ -2,4 +2,4 @@ use Rattle.hx_core.proofs.Keeping.{settled_now}
 use Rattle.hx_core.proofs.cluster.Cluster.law_of_worlds.Goals as goal
 
 pub returns-clause-settled : goal.returns-clause-settled
-returns-clause-settled g c = rw (← c.self.view_is) (settled_now c.self.inside.state.state c.self.inside.workers.seen c.self.invariant.valid c.self.invariant.covered c.law_apart.ensures)
+returns-clause-settled g c = rw (← c.self.view_is) (settled_now c.self.inside.state.state c.self.inside.workers.seen c.self.invariant.sound.valid c.self.invariant.sound.covered c.law_apart.ensures)

@@ -5,22 +5,22 @@ use Rattle.hx_core.proofs.cluster.Cluster.request.Goals as goal
 
 pub returns-in-Err-clause-simulates : goal.returns-in-Err-clause-simulates
 returns-in-Err-clause-simulates g c =
-    rw (← c.self.view_is) (asks_refused (view_of c.self.inside.state.state c.self.inside.workers.seen (g.K.Keeper.shown c.self.inside.keeper)) c.args.ask c.in-Err.refusal c.self.invariant.world c.in-Err.ensures.refused)
+    rw (← c.self.view_is) (asks_refused (view_of c.self.inside.state.state c.self.inside.workers.seen (g.K.Keeper.shown c.self.inside.keeper)) c.args.ask c.in-Err.refusal c.self.invariant.sound.world c.in-Err.ensures.refused)
 
 pub returns-then-is_empty-clause-simulates : goal.returns-then-is_empty-clause-simulates
 returns-then-is_empty-clause-simulates g c =
     let none : c.in-Ok.field-0.writes.items ≡ [] = search rules in
-    rw (← c.self.view_is) (asks_passed (view_of c.self.inside.state.state c.self.inside.workers.seen (g.K.Keeper.shown c.self.inside.keeper)) c.args.ask c.in-Ok.field-0.writes.items c.in-Ok.field-0.answer c.self.invariant.world c.in-Ok.ensures.passes none)
+    rw (← c.self.view_is) (asks_passed (view_of c.self.inside.state.state c.self.inside.workers.seen (g.K.Keeper.shown c.self.inside.keeper)) c.args.ask c.in-Ok.field-0.writes.items c.in-Ok.field-0.answer c.self.invariant.sound.world c.in-Ok.ensures.passes none)
 
 pub write-requires-clause-orderly : goal.write-requires-clause-orderly
 write-requires-clause-orderly g c =
-    rw (← c.self.view_is) (passes_orderly c.self.inside.state.state c.args.ask c.in-Ok.field-0.writes.items c.in-Ok.field-0.answer c.self.invariant.valid c.in-Ok.ensures.passes)
+    rw (← c.self.view_is) (passes_orderly c.self.inside.state.state c.args.ask c.in-Ok.field-0.writes.items c.in-Ok.field-0.answer c.self.invariant.sound.valid c.in-Ok.ensures.passes)
 
 pub returns-in-Ok-write-clause-simulates : goal.returns-in-Ok-write-clause-simulates
 returns-in-Ok-write-clause-simulates g c =
     let landed = rw (← c.self.view_is) at c.in-Ok-write.ensures.landed in
     let marked = rw (← c.self.view_is) at c.in-Ok-write.ensures.marked in
-    rw (← c.self.view_is) (asks_landed (view_of c.self.inside.state.state c.self.inside.workers.seen (g.K.Keeper.shown c.self.inside.keeper)) c.write.new.self c.args.ask c.in-Ok.field-0.writes.items c.in-Ok.field-0.answer c.self.invariant.world c.in-Ok.ensures.passes landed marked)
+    rw (← c.self.view_is) (asks_landed (view_of c.self.inside.state.state c.self.inside.workers.seen (g.K.Keeper.shown c.self.inside.keeper)) c.write.new.self c.args.ask c.in-Ok.field-0.writes.items c.in-Ok.field-0.answer c.self.invariant.sound.world c.in-Ok.ensures.passes landed marked)
 
 pub returns-in-Err-write-clause-simulates : goal.returns-in-Err-write-clause-simulates
 returns-in-Err-write-clause-simulates g c =
@@ -29,4 +29,4 @@ returns-in-Err-write-clause-simulates g c =
     let failed = rw (← c.self.view_is) at c.in-Err-write.ensures.fault in
     let workers = rw (← c.self.view_is) at c.in-Err-write.ensures.workers in
     rw (← c.self.view_is) (asks_lost (view_of c.self.inside.state.state c.self.inside.workers.seen (g.K.Keeper.shown c.self.inside.keeper)) c.write.new.self c.args.ask c.in-Ok.field-0.writes.items c.in-Ok.field-0.answer c.in-Err-write.fault c.lost.result
-    c.self.invariant.world c.in-Ok.ensures.passes some (λ e. memory (ap Err e)) (λ e. failed (ap Err e)) workers c.lost.ensures.keeper c.lost.ensures.memory)
+    c.self.invariant.sound.world c.in-Ok.ensures.passes some (λ e. memory (ap Err e)) (λ e. failed (ap Err e)) workers c.lost.ensures.keeper c.lost.ensures.memory)

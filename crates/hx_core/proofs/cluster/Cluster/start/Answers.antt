@@ -1,11 +1,20 @@
+use Rattle.std.proofs.Common.{◌≡◌, IfSome, subst, sym}
+use Rattle.hx_core.specs.Refinement.{kept_of}
 use Rattle.hx_core.proofs.Reopening.{intact, same_state}
-use Rattle.hx_core.proofs.Starting.{sound_opening}
+use Rattle.hx_core.proofs.Starting.{sound_opening, stands_opening}
 use Rattle.hx_core.proofs.cluster.Cluster.start.Goals as goal
 
 pub invariant_of-result : goal.invariant_of-result
 invariant_of-result g c =
-    sound_opening (g.K.Keeper.shown c.args.keeper) (g.K.Keeper.shown c.load_work.new.keeper) c.in-Ok.state.state c.in-Ok.workers.seen c.in-Ok.state.staged c.in-Ok.ensures.valid c.in-Ok.ensures.staged c.in-Ok.ensures.asked.same.kept c.in-Ok.ensures.holds
-    c.in-Ok.ensures.waiting c.in-Ok.ensures.hands c.in-Ok.ensures.again
+    record {
+      sound = sound_opening (g.K.Keeper.shown c.args.keeper) (g.K.Keeper.shown c.load_work.new.keeper) c.in-Ok.state.state c.in-Ok.workers.seen c.in-Ok.state.staged c.in-Ok.ensures.valid c.in-Ok.ensures.staged c.in-Ok.ensures.asked.same.kept c.in-Ok.ensures.holds
+          c.in-Ok.ensures.waiting c.in-Ok.ensures.hands c.in-Ok.ensures.again;
+      reach = c.in-Ok.ensures.reach;
+    }
+
+pub returns-in-Ok-clause-opens : goal.returns-in-Ok-clause-opens
+returns-in-Ok-clause-opens g c =
+    stands_opening (g.K.Keeper.shown c.load_work.new.keeper) c.in-Ok.state.state c.in-Ok.workers.seen (subst (λ kept. IfSome kept (λ held. held ≡ kept_of c.in-Ok.state.state)) (sym c.in-Ok.ensures.asked.same.kept) c.in-Ok.ensures.holds) c.in-Ok.ensures.waiting c.in-Ok.ensures.hands c.in-Ok.ensures.again
 
 pub returns-in-Ok-clause-reopens : goal.returns-in-Ok-clause-reopens
 returns-in-Ok-clause-reopens g c = λ s valid is.

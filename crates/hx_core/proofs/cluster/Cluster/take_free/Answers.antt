@@ -1,25 +1,26 @@
-use Rattle.std.proofs.Common.{ap, ◌∙◌}
-use Rattle.hx_model.specs.Hands.{is_held}
-use Rattle.hx_model.specs.Keys.{is_among}
+use Rattle.std.proofs.Common.{◌≡◌, sym, ap, ◌∙◌, subst}
+use Rattle.hx_model.specs.Hands.{hand_of}
 use Rattle.hx_core.specs.Inside.{view_of}
+use Rattle.hx_core.specs.Refinement.{ClusterView}
+use Rattle.hx_core.specs.Working.{IsGiven, IsTake}
+use Rattle.hx_core.specs.declared.turns.Take.TheVariants as take
 use Rattle.hx_core.proofs.Turning.{take_idle, take_lost, take_given}
 use Rattle.hx_core.proofs.cluster.Cluster.take_free.Goals as goal
 
-pub returns-in-None : goal.returns-in-None
-returns-in-None g c =
-    let requires = rw (← c.self.view_is) at c.requires in
-    rw (← c.self.view_is) (take_idle (view_of c.self.inside.state.state c.self.inside.workers.seen (g.K.Keeper.shown c.self.inside.keeper)) c.args.worker c.self.invariant.world c.self.invariant.covered c.law_apart.ensures c.in-None.ensures.none requires)
-
 pub returns-in-Err : goal.returns-in-Err
-returns-in-Err g c = rw (← c.self.view_is) (take_lost (view_of c.self.inside.state.state c.self.inside.workers.seen (g.K.Keeper.shown c.self.inside.keeper)) c.args.worker c.self.invariant.world)
+returns-in-Err g c = subst (λ (v : ClusterView). IsTake c.args.worker c.args.self.now take.NoMemory v) (sym c.next.ensures.same) (take_lost c.args.self.now c.args.worker c.law_of_worlds.ensures.world)
 
-pub give-requires-clause-free : goal.give-requires-clause-free
-give-requires-clause-free g c = rw (← c.self.view_is) (ap (λ k. is_held k c.self.inside.workers.seen.hands) c.in-Ok.ensures ∙ c.in-Some.ensures.free)
+pub returns-in-Ok-None : goal.returns-in-Ok-None
+returns-in-Ok-None g c =
+    let none = rw (c.in-Ok-None.field-0-is) at c.in-Ok-None.ensures.none in
+    let same : view_of c.self.inside.state.state c.self.inside.workers.seen (g.K.Keeper.shown c.self.inside.keeper) ≡ c.args.self.now = c.self.view_is ∙ c.next.ensures.same in
+    subst (λ (v : ClusterView). IsTake c.args.worker c.args.self.now take.Idle v) c.self.view_is
+    (subst (λ (v : ClusterView). IsTake c.args.worker v take.Idle (view_of c.self.inside.state.state c.self.inside.workers.seen (g.K.Keeper.shown c.self.inside.keeper))) same
+    (take_idle (view_of c.self.inside.state.state c.self.inside.workers.seen (g.K.Keeper.shown c.self.inside.keeper)) c.args.worker c.self.invariant.sound.world c.self.invariant.sound.covered c.law_apart.ensures
+    (ap (λ (v : ClusterView). v.workers.waiting) same ∙ none) (ap (λ (v : ClusterView). hand_of c.args.worker v.workers.hands) same ∙ c.requires)))
 
-pub returns-in-Ok : goal.returns-in-Ok
-returns-in-Ok g c =
-    let requires = rw (← c.self.view_is) at c.requires in
-    let again = rw (← c.self.view_is) at c.law_of_again.ensures in
-    let given = rw (← c.self.view_is) at c.give.ensures in
-    rw (← c.self.view_is) (take_given (view_of c.self.inside.state.state c.self.inside.workers.seen (g.K.Keeper.shown c.self.inside.keeper)) c.give.new.self c.args.worker c.in-Ok.copy c.give.result c.self.invariant.world requires
-    (ap (λ k. is_held k c.self.inside.workers.seen.hands) c.in-Ok.ensures ∙ c.in-Some.ensures.free) (ap (λ k. is_among k c.self.inside.workers.seen.waiting) c.in-Ok.ensures ∙ c.in-Some.ensures.some) (ap (λ k. is_among k c.self.inside.workers.seen.again) c.in-Ok.ensures ∙ again) given)
+pub returns-in-Ok-Some : goal.returns-in-Ok-Some
+returns-in-Ok-Some g c =
+    let next = rw (c.in-Ok-Some.field-0-is) at c.in-Ok-Some.ensures.some in
+    take_given c.args.self.now c.give.new.self c.args.worker c.in-Ok-Some.key c.give.result c.law_of_worlds.ensures.world c.requires next.free next.waits next.again
+    (subst (λ (v : ClusterView). IsGiven c.args.worker c.in-Ok-Some.key v c.give.result c.give.new.self) c.next.ensures.same c.give.ensures)

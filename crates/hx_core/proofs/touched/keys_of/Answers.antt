@@ -7,7 +7,7 @@ use Rattle.hx_model.specs.Writes.{MayWriteAll}
 use Rattle.hx_marks.specs.Law.{all_marks}
 use Rattle.hx_core.specs.Committing.{marks_but}
 use Rattle.hx_core.proofs.Marked.{but_by, state_is}
-use Rattle.hx_core.proofs.commit.keys_of.Goals as goal
+use Rattle.hx_core.proofs.touched.keys_of.Goals as goal
 
 pub marks-requires-clause-tree : goal.marks-requires-clause-tree
 marks-requires-clause-tree c = c.forest.ensures ∙ ap forest_of (sym (state_is c.args.state.now.state c.store.result.now c.config.result.now c.store.ensures.objects c.store.ensures.version c.config.ensures))

@@ -2,7 +2,7 @@ use Rattle.std.proofs.Common.{Bool, not, rules}
 use Rattle.std.proofs.lemmas.Fn.{filter_same}
 use Rattle.hx_model.specs.Keys.{same_key}
 use Rattle.hx_model.specs.declared.key.Key.{Key}
-use Rattle.hx_core.proofs.commit.leave_out_key.Goals as goal
+use Rattle.hx_core.proofs.touched.leave_out_key.Goals as goal
 
 pub returns : goal.returns
 returns c =

@@ -1,0 +1,48 @@
+-- How keys are marked one by one, and those of an object as a whole.
+--     IsReachOf f reach      the reach has what takes part below its root
+--     HasRoot n reach        it is that of a namespace, as the tree is
+--     whole_keys             the keys that are marked as a whole: of an object, in all of the reach
+--     IsSpreadable, MayMark  the keys of an object may be marked as a whole, in its namespace's subtree
+--     IsReady                keys and an object stand for all that writes mark, and may be marked
+use Rattle.std.specs.Prelude.{◌≡◌, ◌≤◌, ℕ, true, ◌||◌, List, [], Option, Some, None, IfSome, IsSomeAnd, length}
+use Rattle.hx_object.specs.declared.object.Id.{Id}
+use Rattle.hx_model.specs.Forest.{Forest}
+use Rattle.hx_model.specs.Keys.{is_among}
+use Rattle.hx_model.specs.State.{State, state_after}
+use Rattle.hx_model.specs.Tree.{forest_of}
+use Rattle.hx_model.specs.declared.key.Key.{Key}
+use Rattle.hx_model.specs.declared.key.Write.{Write}
+use Rattle.hx_marks.specs.Law.{all_marks, open_below}
+use Rattle.hx_queue.specs.Spread.{Reach, names_in, place_keys}
+use Rattle.hx_queue.specs.Workers.{WorkersKept, MaySpread}
+use Rattle.hx_core.specs.Committing.{marks_but}
+
+-- the reach has those of its root's subtree that take part, unless it is outdated
+abbrev pub IsReachOf : Forest → Option Reach → Type 0
+IsReachOf f reach = IfSome reach (λ (r : Reach). r.current ≡ true → r.names ≡ open_below f r.root)
+
+-- it isn't outdated, and is of a namespace
+abbrev pub HasRoot : List ℕ → Option Reach → Type 0
+HasRoot n reach = IsSomeAnd reach (λ (r : Reach). (r.root ≡ n) × (r.current ≡ true))
+
+-- the keys that are marked as a whole
+abbrev pub whole_keys : Option Id → Option Reach → List Key
+whole_keys None reach = []
+whole_keys (Some id) reach = place_keys (names_in reach) id
+
+-- the keys of an object may be marked in all of the reach, which is that of its namespace
+pub record IsSpreadable (id : Id) (w : WorkersKept) : Type 0 where
+  pub at : HasRoot id.ns w.reach
+  pub room : 1 ≤ w.places
+  pub may : MaySpread id w.seen.hands w.reach w.spread
+
+-- if there is one
+abbrev pub MayMark : Option Id → WorkersKept → Type 0
+MayMark spread w = IfSome spread (λ (id : Id). IsSpreadable id w)
+
+-- Keys, and those of an object in all of the reach, are the ones that writes mark, but for one. They may be marked, and the reach is right afterwards
+pub record IsReady (s : State) (writes : List Write) (own : Option Key) (keys : List Key) (spread : Option Id) (w : WorkersKept) : Type 0 where
+  pub named : (k : Key) → (is_among k keys || is_among k (whole_keys spread w.reach)) ≡ is_among k (marks_but own (all_marks s writes))
+  pub room : length keys ≤ w.spare
+  pub may : MayMark spread w
+  pub reach : IsReachOf (forest_of (state_after s writes)) w.reach
