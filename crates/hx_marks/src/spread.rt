@@ -3,13 +3,12 @@ ghost use Rattle.std.specs.Prelude.{◌≡◌, ◌||◌, true, IfOk, IfSome, opt
 ghost use Rattle.std.specs.List.{list_all};
 ghost use Rattle.hx_object.specs.Kinds.{can_be_copied};
 ghost use Rattle.hx_model.specs.Keys.{is_among};
-ghost use Rattle.hx_model.specs.Moves.{mode_at};
 ghost use Rattle.hx_model.specs.State.{State, state_after};
 ghost use Rattle.hx_model.specs.Tree.{forest_of};
 ghost use Rattle.hx_model.specs.Valid.{IsValid};
 ghost use Rattle.hx_model.specs.Writes.{MayWriteAll};
 ghost use Rattle.hx_marks.specs.Before.{state_of};
-ghost use Rattle.hx_marks.specs.Law.{all_marks, is_any_sent, open_below};
+ghost use Rattle.hx_marks.specs.Law.{all_marks, open_below};
 ghost use Rattle.hx_marks.specs.Reads.{state_in};
 ghost use Rattle.hx_marks.specs.Spread.{IsSpread, is_beside_tree, spread_keys};
 
@@ -19,7 +18,7 @@ use crate::lookups::{mode_at, object_in};
 use crate::objects::is_any_sent;
 use hx_forest::Forest;
 use hx_model::{Key, RunConfig};
-use hx_object::{Id, NoMemory, Object};
+use hx_object::{Id, NoMemory};
 use hx_store::{Change, Store};
 
 /// What a write of a source marks, by its subtree as a whole.
@@ -63,9 +62,12 @@ fn spread_of(current: &Current, write: &Change) -> Result<Option<SpreadMarks>, N
     ensures { IfOk result (λ o. IfSome o (λ spread. IsSpread (state_in current.now) write.now spread.id spread.others.items)) }
 {
     let id = write.id();
+    if !may_spread(current.forest, id) {
+        return Ok(None);
+    }
     let old = object_in(current.store.get(id));
     let new = object_in(write.object());
-    if !is_spread(current, id, old, new) {
+    if !is_any_sent(mode_at(current.store, id.kind), old, new) {
         return Ok(None);
     }
     let mut others = Vec::new(current.store.allocator());
@@ -76,15 +78,11 @@ fn spread_of(current: &Current, write: &Change) -> Result<Option<SpreadMarks>, N
     }))
 }
 
-/// Whether the write of an object is marked as a whole: it is sent, and something lies below its namespace.
-fn is_spread(current: &Current, id: &Id, old: Option<&Object>, new: Option<&Object>) -> bool
-    ensures copied { result ≡ true → can_be_copied id.now.kind ≡ true }
-    ensures sent { result ≡ true → is_any_sent (mode_at current.now.store.now.objects id.now.kind) (option_copied old.entry) (option_copied new.entry) ≡ true }
+/// Whether objects of this kind are sent at all, and something lies below the namespace. It looks at no object.
+fn may_spread(forest: &Forest, id: &Id) -> bool
+    ensures { result ≡ true → can_be_copied id.now.kind ≡ true }
 {
-    if !id.kind.can_be_copied() || current.forest.children(&id.ns).is_empty() {
-        return false;
-    }
-    is_any_sent(mode_at(current.store, id.kind), old, new)
+    id.kind.can_be_copied() && !forest.children(&id.ns).is_empty()
 }
 
 /// Whether writes leave the tree as it is: none is of a Namespace or a HierarchyConfiguration.
