@@ -1,5 +1,5 @@
 -- What runs leave.
-use Rattle.std.proofs.Common.{◌≡◌, ◌≢◌, ◌<◌, ◌≤◌, ℕ, Bool, List, [], None, Some, Ok, is_some, length, refl, sym, ap, subst, ◌∙◌, true≢false, ◌⊎◌, inl, inr}
+use Rattle.std.proofs.Common.{◌≡◌, ◌≢◌, ◌<◌, ◌≤◌, ℕ, Bool, false, List, [], None, Some, Ok, is_some, length, refl, sym, ap, subst, ◌∙◌, true≢false, ◌⊎◌, inl, inr}
 use Rattle.std.specs.Prelude.{IfSome, IsSome, IsSomeAnd}
 use Rattle.std.specs.declared.option.Option.{Option}
 use Rattle.hx_ports.specs.Keeping.{Kept}
@@ -23,7 +23,7 @@ use Rattle.hx_script.specs.Exchanges.{entries_of}
 use Rattle.hx_script.specs.Running.{Ran, Does, Cuts, OfScript, most_bytes}
 use Rattle.hx_model.proofs.Overrunning.{holds_throughout}
 use Rattle.hnc.proofs.Quiet.{quiet_settled}
-use Rattle.hnc.specs.Headline.{Leaves, LeavesWhole, LeavesFront, OfRun}
+use Rattle.hnc.specs.Headline.{Leaves, LeavesWhole, LeavesFront, OfRun, has_not_begun}
 
 -- a cluster was started on a keeper that took its place at the path of the words
 pub record Starts (run : RunWords) (keeper : KeeperView) (c : ClusterView) : Type 0 where
@@ -153,3 +153,14 @@ wants_memory status fault old attached faults (inr (inl is)) failed damaged stil
     never None now row s good bad = good
     never (Some held) now row s good bad = never_both held row good (subst (λ o. IfSome o (λ h. IsDamagedAt h row)) s bad)
 wants_memory status fault old attached faults (inr (inr is)) failed damaged still rose calm same sound found = is
+
+-- a run that began, and met no fault of reading or writing, was read to its end, was too long, or wanted memory
+pub ends_unharmed : (status : Status) (Read Write : Type 0) → has_not_begun status ≡ false → (status ≡ ending.ReadFault → Read) → (status ≡ ending.WriteFault → Write) → (Read → ⊥) → (Write → ⊥) → (status ≡ ending.Done) ⊎ (status ≡ ending.TooLong) ⊎ (status ≡ ending.NoMemory)
+ends_unharmed ending.Done Read Write begun read write unread unwritten = inl refl
+ends_unharmed ending.Usage Read Write begun read write unread unwritten = absurd (true≢false begun)
+ends_unharmed ending.ReadFault Read Write begun read write unread unwritten = absurd (unread (read refl))
+ends_unharmed ending.WriteFault Read Write begun read write unread unwritten = absurd (unwritten (write refl))
+ends_unharmed ending.KeeperFault Read Write begun read write unread unwritten = absurd (true≢false begun)
+ends_unharmed ending.Damaged Read Write begun read write unread unwritten = absurd (true≢false begun)
+ends_unharmed ending.NoMemory Read Write begun read write unread unwritten = inr (inr refl)
+ends_unharmed ending.TooLong Read Write begun read write unread unwritten = inr (inl refl)

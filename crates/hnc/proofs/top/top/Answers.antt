@@ -1,6 +1,8 @@
-use Rattle.std.proofs.Common.{◌∙◌, Some, ap, inr, sym}
-use Rattle.hnc.proofs.Leaving.{Starts, starts_on, not_done, of_run-front, of_run-long, of_run-whole, still_ok, wants_memory}
+use Rattle.std.proofs.Common.{◌≡◌, ◌∙◌, ◌⊎◌, Some, ap, inr, subst, sym}
+use Rattle.hnc.proofs.Leaving.{Starts, ends_unharmed, starts_on, not_done, of_run-front, of_run-long, of_run-whole, still_ok, wants_memory}
 use Rattle.hnc.specs.Headline.{is_cut_short}
+use Rattle.hnc.specs.declared.top.Status.{Status}
+use Rattle.hnc.specs.declared.top.Status.TheVariants as ending
 use Rattle.hnc.proofs.top.top.Given.{Over}
 use Rattle.hnc.proofs.top.top.Goals as goal
 use Rattle.hnc.proofs.top.top.Goals.{After-drop-db-2}
@@ -39,3 +41,8 @@ returns-clause-too_long g c = λ e.
 
 pub returns-clause-write_fault : goal.returns-clause-write_fault
 returns-clause-write_fault g c = λ e. c.run_script-end.ensures.write_fault (c.status_of_end.ensures.write_fault (sym c.end_with-in-Ok-start.ensures.0 ∙ e))
+
+pub returns-clause-complete : goal.returns-clause-complete
+returns-clause-complete g c = λ _ unread unwritten _ _.
+    subst (λ (status : Status). (status ≡ ending.Done) ⊎ (status ≡ ending.TooLong) ⊎ (status ≡ ending.NoMemory)) (sym c.end_with-in-Ok-start.ensures.0)
+    (ends_unharmed c.status_of_end.result _ _ c.status_of_end.ensures.begun (λ e. c.run_script-end.ensures.read_fault (c.status_of_end.ensures.read_fault e)) (λ e. c.run_script-end.ensures.write_fault (c.status_of_end.ensures.write_fault e)) unread unwritten)
