@@ -27,7 +27,8 @@ class Beside(Run):
         self.ask([namespace(name) for name in (*ROOTS, *LEAVES, *(f"n{i}" for i in range(RING)))])
         self.ask([plant(leaf, ROOTS[0]) for leaf in LEAVES])
         if is_ring:
-            self.ask([plant(f"n{i}", f"n{(i + 1) % RING}", "?admission=skip") for i in range(RING)])
+            # each is put below one that has its parent, so that nothing lies below it yet; the last one closes the ring
+            self.ask([plant(f"n{i}", f"n{(i + 1) % RING}", "?admission=skip") for i in (*reversed(range(RING - 1)), RING - 1)])
 
     def moves(self):
         """PUTs that move the leaves below the other root, over and over."""
