@@ -1,4 +1,5 @@
 -- Walks up the parents still end after a change.
+--     back_out, none_back, back_alike      none comes back to itself that isn't there, where all walks end, or whose parent's chain has no more
 --     ends_added, ends_removed, ends_shifted, ends_moved      where a namespace comes, goes, gets other sums, or another parent
 use Rattle.std.specs.Prelude.{is_some, option_and_then, IfSome}
 use Rattle.std.proofs.Common.{◌≡◌, ℕ, ◌⊎◌, Bool, true, false, cond, Option, Some, None, option_map, List, [], ◌∷◌, refl, sym, ap, ◌∙◌, subst, inl, inr, true≢false}
@@ -25,14 +26,14 @@ use Rattle.hx_quota.proofs.UsedSums.{added_new, closed_added, removed_new, close
 -- ---- who comes back to itself
 
 -- none does that isn't there
-back_out : (f : Forest) (n : List ℕ) → is_there f n ≡ false → comes_back f n ≡ false
+pub back_out : (f : Forest) (n : List ℕ) → is_there f n ≡ false → comes_back f n ≡ false
 back_out f n out = at (node_of f n) out
   where
     at : (o : Option Node) → is_some o ≡ false → option_map_or (λ p. in_chain f p n) (option_and_then (λ node. node.parent) o) false ≡ false
     at None h = refl
     at (Some node) h = absurd (true≢false h)
 
-none_back : (f : Forest) → AllEnd f → (n : List ℕ) → comes_back f n ≡ false
+pub none_back : (f : Forest) → AllEnd f → (n : List ℕ) → comes_back f n ≡ false
 none_back f all n = at (is_there f n) refl
   where
     at : (b : Bool) → is_there f n ≡ b → comes_back f n ≡ false
@@ -40,7 +41,7 @@ none_back f all n = at (is_there f n) refl
     at false out = back_out f n out
 
 -- under the same parent, whose chain has no more
-back_alike : (f g : Forest) (m : List ℕ) → parent_of g m ≡ parent_of f m → ((p : List ℕ) → parent_of f m ≡ Some p → in_chain g p m ≡ true → in_chain f p m ≡ true) → comes_back f m ≡ false → comes_back g m ≡ false
+pub back_alike : (f g : Forest) (m : List ℕ) → parent_of g m ≡ parent_of f m → ((p : List ℕ) → parent_of f m ≡ Some p → in_chain g p m ≡ true → in_chain f p m ≡ true) → comes_back f m ≡ false → comes_back g m ≡ false
 back_alike f g m same down none = false_from_ne_true (comes_back g m) (λ h. at (parent_of f m) refl (subst (λ (o : Option (List ℕ)). option_map_or (λ p. in_chain g p m) o false ≡ true) same h))
   where
     at : (o : Option (List ℕ)) → parent_of f m ≡ o → option_map_or (λ p. in_chain g p m) o false ≡ true → ⊥

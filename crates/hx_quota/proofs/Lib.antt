@@ -20,6 +20,7 @@ pub mod Formed
 pub mod Reached
 pub mod Rounds
 pub mod Lasting
+pub mod Circling
 pub mod Totals
 pub mod CountingRegular
 pub mod CountingSums

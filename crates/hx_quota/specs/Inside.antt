@@ -17,7 +17,8 @@
 --     IsFree                a namespace isn't in the chain of a parent
 --     is_plain_move         a move neither parts nor makes a cycle
 --     HasUsage              the sums of places are those of subtrees
---     IsSummed, IsKept      the sums of places are those of their subtrees, unless that is lost
+--     IsSummed              the sums of places are those of their subtrees
+--     IsKept                they are unless that is lost, all parents are there, and a cycle that is known is in the tree
 use Rattle.std.specs.Prelude.{◌≡◌, ℕ, zero, suc, ◌+◌, ◌-◌, ◌<◌, ◌≤◌, ◌^◌, Bool, true, false, not, ◌&&◌, List, [], ◌∷◌, length, map, Option, Some, None, slice_index, slice_set, if◌then◌else◌}
 use Rattle.std.specs.Option.{option_map_or}
 use Rattle.std.specs.Str.{bytes_eq}
@@ -132,6 +133,8 @@ pub record IsSummed (at : List ℕ → Option Place) (es : Entries) : Type 0 whe
   pub sums : (n : List ℕ) (p : Place) → at n ≡ Some p → (r : Resource) → slice_index p.sums (place_of r) ≡ used_in es n r
   pub ends : AllEnd (tree_of es)
 
--- that, unless it is lost
-abbrev pub IsKept : Ledger → Type 0
-IsKept ledger = ledger.summed ≡ true → IsSummed (place_at ledger.places.entries) (entries_of ledger)
+-- that, unless it is lost; all parents are there; and some walk up doesn't end, where that is known
+pub record IsKept (ledger : Ledger) : Type 0 where
+  pub summed : ledger.summed ≡ true → IsSummed (place_at ledger.places.entries) (entries_of ledger)
+  pub closed : AreClosed (entries_of ledger)
+  pub circular : ledger.circular ≡ true → AllEnd (tree_of (entries_of ledger)) → ⊥

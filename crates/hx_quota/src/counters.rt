@@ -15,7 +15,7 @@ use std::marker::Model;
 ///
 /// What all namespaces have together of a resource is below 2^128. Room is made first, and all changes are made without taking memory.
 ///
-/// The sums over subtrees are kept too, and each change goes along a chain. As long as parents go in a cycle, they aren't kept, and are formed by walks where they are asked for. The move that parts the last cycle forms them anew, in as many steps as all chains together have members.
+/// The sums over subtrees are kept too, and each change goes along a chain. As long as parents go in a cycle, they aren't kept, and are formed by walks where they are asked for. The move that parts the last cycle forms them anew, in as many steps as all chains together have members; a move of a namespace that is in no cycle costs no more than elsewhere.
 pub struct Counters {
     pub(crate) ledger: Ledger,
 }

@@ -20,6 +20,8 @@ pub(crate) struct Ledger {
     pub(crate) places: PlaceTable,
     /// The sums of the places are those of their subtrees, and each walk up the parents ends. This is lost where a move makes a cycle, and is so again after a move that leaves none.
     pub(crate) summed: bool,
+    /// Some walk up doesn't end, so that no move of a namespace that isn't in a cycle makes the sums right again.
+    pub(crate) circular: bool,
 }
 
 impl Drop for Ledger {
@@ -27,6 +29,7 @@ impl Drop for Ledger {
         let Ledger {
             places: _,
             summed: _,
+            circular: _,
         } = self;
     }
 }
@@ -40,6 +43,7 @@ impl Ledger {
         Ledger {
             places: PlaceTable::new(alloc, keys),
             summed: true,
+            circular: false,
         }
     }
 
@@ -73,6 +77,7 @@ impl Ledger {
         ensures room { self.old.places.spare ≤ self.new.places.spare }
         ensures kept { IsKept self.old → IsKept self.new }
     {
+        self.circular = self.stays_circular(ns);
         self.places.swap_remove(ns);
     }
 
@@ -98,7 +103,7 @@ impl Ledger {
 
     /// Gives a namespace another parent, or none, and takes what it has with all below it from the namespaces that were above it to those that are.
     ///
-    /// Where that parts or makes a cycle, or one was there before, all sums are formed anew, if each walk up the parents ends then. It takes as many steps as all chains together have members, and no memory. No other move does so.
+    /// Where that parts or makes a cycle, all sums are formed anew, if each walk up the parents ends then. It takes as many steps as all chains together have members, and no memory. Beside a cycle that stays no sums are kept, and none are formed.
     pub(crate) fn move_subtree(&mut self, moved: &Text, parent: Option<Text>)
         requires there { is_some (entry_of (entries_of self.old) moved.now) ≡ true }
         requires given { IfSome parent (λ p. is_some (entry_of (entries_of self.old) p) ≡ true) }
@@ -109,6 +114,10 @@ impl Ledger {
         ensures kept { IsKept self.new }
         ensures again { AllEnd (tree_of (entries_of self.new)) → self.new.summed ≡ true }
     {
+        if self.stays_circular(moved) {
+            set_parent(&mut self.places, moved, parent);
+            return;
+        }
         if self.is_plain_move(moved, parent.as_ref()) {
             take_over(&mut self.places, moved, parent.as_ref());
             set_parent(&mut self.places, moved, parent);
@@ -116,6 +125,7 @@ impl Ledger {
             set_parent(&mut self.places, moved, parent);
             let ended = form_anew(&mut self.places);
             self.summed = ended;
+            self.circular = !ended;
         }
     }
 }

@@ -1,7 +1,7 @@
 // Walks up the parents, and what namespaces have with all below them.
-ghost use Rattle.std.specs.Prelude.{◌≡◌, ◌&&◌, false, option_copied, slice_get};
+ghost use Rattle.std.specs.Prelude.{◌≡◌, ◌&&◌, not, false, option_copied, slice_get};
 ghost use Rattle.std.specs.Option.{option_map_or};
-ghost use Rattle.hx_model.specs.Forest.{in_chain, parent_of};
+ghost use Rattle.hx_model.specs.Forest.{in_chain, parent_of, comes_back};
 ghost use Rattle.hx_quota.specs.Counters.{tree_of, part_of, used_in, AllFit};
 ghost use Rattle.hx_quota.specs.Inside.{entries_in, entries_of, IsKept, is_plain_move};
 
@@ -54,6 +54,17 @@ impl Ledger {
             Some(own) => own[place_of(resource)],
             None => 0,
         }
+    }
+
+    /// Whether a cycle is known that isn't through a namespace, and so stays where that one moves or goes.
+    pub(crate) fn stays_circular(&self, ns: &Text) -> bool
+        ensures { result ≡ (self.now.circular && not (comes_back (tree_of (entries_of self.now)) ns.now)) }
+    {
+        if !self.circular {
+            return false;
+        }
+        let is_in_cycle = self.is_in_cycle(ns);
+        !is_in_cycle
     }
 
     /// Whether the sums of places are those of subtrees, and a move neither parts nor makes a cycle.

@@ -1,9 +1,13 @@
-use Rattle.std.proofs.Common.{◌≡◌, Option, Some, None, List, ℕ, cond, ap, refl, sym, ◌∙◌}
+use Rattle.std.proofs.Common.{◌≡◌, Option, Some, None, List, ℕ, cond, ap, refl, sym, subst, ◌∙◌}
 use Rattle.std.specs.Str.{bytes_eq}
 use Rattle.std.proofs.lemmas.Option.{none-some}
 use Rattle.hx_quota.specs.PlaceRows.{Place, new_place, place_at}
 use Rattle.hx_quota.proofs.Indexed.{place_added}
+use Rattle.hx_quota.specs.Counters.{Entries, tree_of}
+use Rattle.hx_quota.specs.Inside.{entries_of, AreClosed, AllEnd}
+use Rattle.hx_quota.proofs.Circling.{ended_added}
 use Rattle.hx_quota.proofs.Keeping.{summed_added}
+use Rattle.hx_quota.proofs.UsedSums.{closed_added}
 use Rattle.hx_quota.proofs.Placed.{entry_in, entry_at, put_places}
 use Rattle.hx_quota.proofs.ledger.Ledger.add.Goals as goal
 
@@ -21,4 +25,11 @@ pub returns-clause-entries : goal.returns-clause-entries
 returns-clause-entries c = put_places c.insert.new.self.entries c.args.self.now.places.entries c.args.ns new_place (looks c)
 
 pub returns-clause-kept : goal.returns-clause-kept
-returns-clause-kept c = λ kept up. summed_added c.args.self.now.places.entries c.insert.new.self.entries c.args.ns new_place c.requires.absent refl (looks c) (returns-clause-entries c) (kept up)
+returns-clause-kept c = λ kept.
+    let es = entries_of c.args.self.now in
+    let new = returns-clause-entries c in
+    record {
+      summed = λ up. summed_added c.args.self.now.places.entries c.insert.new.self.entries c.args.ns new_place c.requires.absent refl (looks c) new (kept.summed up);
+      closed = subst (λ (xs : Entries). AreClosed xs) (sym new) (closed_added es c.args.ns c.requires.absent kept.closed);
+      circular = λ known all. kept.circular known (ended_added es c.args.ns c.requires.absent kept.closed (subst (λ (xs : Entries). AllEnd (tree_of xs)) new all));
+    }

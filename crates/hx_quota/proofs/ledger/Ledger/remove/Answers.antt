@@ -1,14 +1,29 @@
+use Rattle.std.proofs.Common.{not, sym, subst, ◌∙◌}
+use Rattle.std.proofs.lemmas.Bool.{and_parts, not-true}
+use Rattle.hx_model.specs.Forest.{comes_back}
+use Rattle.hx_quota.specs.Counters.{Entries, tree_of}
+use Rattle.hx_quota.specs.Inside.{entries_of, AreClosed, AllEnd}
+use Rattle.hx_quota.proofs.Circling.{ended_removed}
 use Rattle.hx_quota.proofs.Keeping.{summed_removed}
 use Rattle.hx_quota.proofs.Placed.{cut_places}
+use Rattle.hx_quota.proofs.UsedSums.{closed_removed}
 use Rattle.hx_quota.proofs.ledger.Ledger.remove.Goals as goal
 
 pub returns-clause-entries : goal.returns-clause-entries
 returns-clause-entries c = cut_places c.swap_remove.new.self.entries c.args.self.now.places.entries c.args.ns.now c.swap_remove.ensures.places
 
 pub returns-clause-kept : goal.returns-clause-kept
-returns-clause-kept c = λ kept up.
+returns-clause-kept c = λ kept.
+    let es = entries_of c.args.self.now in
     let old = c.args.self.now.places.entries in
     let new = c.swap_remove.new.self.entries in
     let ns = c.args.ns.now in
     let updates = c.swap_remove.ensures.places in
-    summed_removed old new ns c.requires.there c.requires.nothing c.requires.alone updates (cut_places new old ns updates) (kept up)
+    let less = cut_places new old ns updates in
+    record {
+      summed = λ up. summed_removed old new ns c.requires.there c.requires.nothing c.requires.alone updates less (kept.summed up);
+      closed = subst (λ (xs : Entries). AreClosed xs) (sym less) (closed_removed es ns c.requires.alone c.requires.there kept.closed);
+      circular = λ known all.
+          let parts = and_parts c.args.self.now.circular (not (comes_back (tree_of es) ns)) (sym c.stays_circular-self.ensures ∙ known) in
+          kept.circular parts.0 (ended_removed es ns c.requires.alone c.requires.there (not-true (comes_back (tree_of es) ns) parts.1) kept.closed (subst (λ (xs : Entries). AllEnd (tree_of xs)) less all));
+    }

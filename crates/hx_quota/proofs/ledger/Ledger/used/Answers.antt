@@ -11,7 +11,7 @@ returns-in-Some c =
     let places = c.args.self.now.places.entries in
     let ns = c.args.ns.now in
     let lies : IsFoundAt places ns (Some c.in-Some.at) = subst (λ (o : Option ℕ). IsFoundAt places ns o) c.in-Some.is c.index_of.ensures.place in
-    c.sum_at.ensures ns lies.0 lies.1 ∙ ap (slice_index lies.0.sums) c.place_of.ensures.place ∙ (c.requires.kept c.if-not-self.false).sums ns lies.0 lies.2 c.args.resource
+    c.sum_at.ensures ns lies.0 lies.1 ∙ ap (slice_index lies.0.sums) c.place_of.ensures.place ∙ (c.requires.kept.summed c.if-not-self.false).sums ns lies.0 lies.2 c.args.resource
 
 pub returns-in-None : goal.returns-in-None
 returns-in-None c =
