@@ -19,7 +19,7 @@ use hx_quota::Usage;
 use hx_rules::{Brief, Plan, SharedBrief, plan};
 use hx_store::Store;
 
-/// Marks the keys that want a write, and no other ones.
+/// Marks the keys that want a write one by one, and no other ones.
 pub fn mark_wanting(
     store: &Store,
     forest: &Forest,
@@ -29,7 +29,8 @@ pub fn mark_wanting(
 ) -> Result<(), NoMemory>
     requires idle { workers.old.seen ≡ no_work }
     requires counted { IsCounted store.now.objects forest.now.nodes usage.now.now }
-    ensures { OnOk result ((s : State) → HasTree config.now.excluded store.now.objects forest.now.nodes s → AreMarked s workers.new.seen) }
+    ensures marked { OnOk result ((s : State) → HasTree config.now.excluded store.now.objects forest.now.nodes s → AreMarked s workers.new.seen) }
+    ensures reach { workers.new.reach ≡ workers.old.reach }
 {
     let wanting = wanting_keys(store, forest, usage, config)?;
     workers.reserve(wanting.len())?;

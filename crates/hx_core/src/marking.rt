@@ -2,10 +2,8 @@
 ghost use Rattle.std.specs.Prelude.{◌≡◌, [], OnOk};
 ghost use Rattle.hx_model.specs.Keys.{is_among};
 ghost use Rattle.hx_model.specs.Machine.{wants};
-ghost use Rattle.hx_model.specs.Tree.{forest_of};
 ghost use Rattle.hx_model.specs.Valid.{IsValid};
 ghost use Rattle.hx_model.specs.declared.key.Key.{Key as key_of};
-ghost use Rattle.hx_core.specs.Reaching.{IsReachOf};
 ghost use Rattle.hx_queue.specs.Workers.{no_work};
 
 use hx_admit::IndexedState;
@@ -19,20 +17,7 @@ pub fn mark_wanting(state: &IndexedState, workers: &mut Workers) -> Result<(), N
     ensures waiting { OnOk result ((k : key_of) → is_among k workers.new.seen.waiting ≡ wants state.now.state k) }
     ensures hands { OnOk result (workers.new.seen.hands ≡ []) }
     ensures again { OnOk result (workers.new.seen.again ≡ []) }
-    ensures reach { OnOk result (IsReachOf (forest_of state.now.state) workers.new.reach) }
-{
-    mark_each(state, workers)?;
-    // Where keys are marked as a whole is told by writes.
-    workers.outdate();
-    Ok(())
-}
-
-fn mark_each(state: &IndexedState, workers: &mut Workers) -> Result<(), NoMemory>
-    requires idle { workers.old.seen ≡ no_work }
-    requires valid { IsValid state.now.state }
-    ensures waiting { OnOk result ((k : key_of) → is_among k workers.new.seen.waiting ≡ wants state.now.state k) }
-    ensures hands { OnOk result (workers.new.seen.hands ≡ []) }
-    ensures again { OnOk result (workers.new.seen.again ≡ []) }
+    ensures reach { workers.new.reach ≡ workers.old.reach }
 {
     hx_briefs::mark_wanting(
         state.store(),
