@@ -9,13 +9,14 @@ below it under its name, or above it. A Role is made in a leaf, or in the root, 
 copy in every namespace; what the review of it takes is seen where it has the name of a Role in a leaf, so that it is refused. A PUT changes the
 contents of a Role in a leaf. A move takes the fourth of a column with the four below it, and their 75 Roles, below the third of another one. All
 come in shuffled order and in parts of 2,480 requests, in turns at the small and the large size; moves in parts of 248, since each marks some 450
-keys, which nobody takes here. The least of 32 parts counts. Everything runs on one processor.
+keys, which nobody takes here. The PUTs and the moves come once more in as many columns of the large tree as the small one has: there the two
+differ in what they hold, and not in how much of it is asked about. The least of 32 parts counts. Everything runs on one processor.
 """
 import itertools
 import os
 import sys
 
-from program import Kind, compare
+from program import Kind, compare, numbered
 from trees import Columns
 
 DEPTH = 8
@@ -28,6 +29,11 @@ ROLE = Kind("rbac.authorization.k8s.io/v1", "Role", "roles")
 
 def rules(verb):
     return [{"apiGroups": [""], "resources": ["pods"], "verbs": [verb]}]
+
+
+def role(ns, number):
+    """The name of one of a namespace's Roles, which no other namespace has."""
+    return f"r{ns[1:]}-{number:02}"
 
 
 def make(ns, name):
@@ -48,12 +54,12 @@ class Filled(Columns):
     def __init__(self, program, namespaces, filled):
         super().__init__(program, (namespaces - 1) // DEPTH, DEPTH, namespaces)
         self.filled = filled
-        self.ask([make(f"n{i}", f"r{i}-{at}") for i in range(filled) for at in range(OBJECTS)])
+        self.ask([make(numbered(i), role(numbered(i), at)) for i in range(filled) for at in range(OBJECTS)])
 
     def leaves(self):
         """The leaves' namespaces that have Roles."""
         for column, turn in self.shuffled():
-            yield f"n{column % (self.filled // DEPTH - 1) * DEPTH + DEPTH}", turn
+            yield numbered(column % (self.filled // DEPTH - 1) * DEPTH + DEPTH), turn
 
     def comes_and_goes(self, place):
         """A Role that is made and removed, by turns, in the places that are given."""
@@ -65,17 +71,17 @@ class Filled(Columns):
         return self.comes_and_goes(ns for ns, _ in self.leaves())
 
     def at_root(self):
-        return self.comes_and_goes(itertools.repeat("n0"))
+        return self.comes_and_goes(itertools.repeat(numbered(0)))
 
     def refused(self):
         """POSTs of Roles in the root that would overwrite one of a leaf."""
         for number, (ns, _) in enumerate(self.leaves()):
-            yield make("n0", f"r{ns[1:]}-{number % OBJECTS}")
+            yield make(numbered(0), role(ns, number % OBJECTS))
 
     def contents(self):
         """PUTs that change a Role of a leaf."""
         for number, (ns, turn) in enumerate(self.leaves()):
-            yield change(ns, f"r{ns[1:]}-{number % OBJECTS}", f"verb{number}")
+            yield change(ns, role(ns, number % OBJECTS), f"verb{number}")
 
 
 def main():
@@ -88,6 +94,11 @@ def main():
     compare("POST of a Role in the root that is refused", names, trees, Filled.refused, statuses=b"403 ")
     compare("PUT of a Role's contents", names, trees, Filled.contents)
     compare("PUT that moves an inner subtree", names, trees, lambda tree: tree.moves(DEPTH // 2), part=248)
+    few = len(trees[0].columns)
+    for tree in trees:
+        tree.ask_among(few)
+    compare(f"PUT of a Role's contents in {few} columns", names, trees, Filled.contents)
+    compare(f"PUT that moves an inner subtree of {few} columns", names, trees, lambda tree: tree.moves(DEPTH // 2), part=248)
     for tree in trees:
         tree.close()
 

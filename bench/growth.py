@@ -15,7 +15,7 @@ import os
 import random
 import sys
 
-from program import CONFIG_MAP, Kind, Run, create, listing, namespace, parts, read, remove, replace, report
+from program import CONFIG_MAP, Kind, Run, create, listing, namespace, numbered, parts, read, remove, replace, report
 
 KINDS = (CONFIG_MAP, Kind("v1", "Secret", "secrets"), Kind("v1", "Service", "services"), Kind("rbac.authorization.k8s.io/v1", "Role", "roles"))
 LENGTHS = (3, 33, 64, 300)
@@ -31,12 +31,12 @@ class Store(Run):
 
     def __init__(self, program, namespaces, objects, length):
         super().__init__(program)
-        self.places = [(f"n{i % namespaces}", f"c{i}", KINDS[i // namespaces % len(KINDS)]) for i in range(objects)]
+        self.places = [(numbered(i % namespaces), f"c{i:05}", KINDS[i // namespaces % len(KINDS)]) for i in range(objects)]
         self.chance = random.Random(objects)
         self.length = length
         self.numbers = itertools.count()
         self.chance.shuffle(self.places)
-        self.ask([namespace(f"n{i}") for i in range(namespaces)])
+        self.ask([namespace(numbered(i)) for i in range(namespaces)])
         self.ask(list(map(self.create, self.places[: objects // 2])))
         self.creates = parts(map(self.create, self.places[objects // 2 :]), PART)
 

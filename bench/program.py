@@ -33,6 +33,11 @@ CONFIG_MAP = Kind("v1", "ConfigMap", "configmaps")
 SUCCESS = (b"200 ", b"201 ")
 
 
+def numbered(number):
+    """The name of a namespace by its number. It is as long in a small run as in a large one, since a name's length tells in what is read, hashed and compared."""
+    return f"n{number:04}"
+
+
 def namespace(name):
     return f"POST /api/v1/namespaces {Kind('v1', 'Namespace', 'namespaces').body(name)}\n"
 

@@ -14,7 +14,7 @@ counts. Everything runs on one processor.
 import os
 import sys
 
-from program import Kind, compare, parts, remove, report
+from program import Kind, compare, numbered, parts, remove, report
 from trees import Columns
 
 POD = Kind("v1", "Pod", "pods")
@@ -64,7 +64,7 @@ class Telling(Columns):
 def along_chains(program):
     trees = [Columns(program, 1_024 // depth, depth) for depth in DEPTHS]
     for tree in trees:
-        tree.ask([quota(f"n{i}") for i in range(1_025)])
+        tree.ask([quota(numbered(i)) for i in range(1_025)])
     compare("POST and DELETE of a Pod under a quota at each level", [f"depth {depth}" for depth in DEPTHS], trees, comes_and_goes, PART, COUNT)
     for tree in trees:
         tree.close()
@@ -74,10 +74,10 @@ def in_large_trees(program):
     trees = [Telling(program, (namespaces - 1) // DEPTH, DEPTH, namespaces) for namespaces in SIZES]
     names = [f"{namespaces:,} namespaces" for namespaces in SIZES]
     for tree, filled in zip(trees, FILLED):
-        tree.ask([pod(f"n{i}", f"q{at}") for i in range(filled) for at in range(PODS)])
+        tree.ask([pod(numbered(i), f"q{at:02}") for i in range(filled) for at in range(PODS)])
     compare("POST and DELETE of a Pod without quotas", names, trees, comes_and_goes, PART, COUNT)
     for tree in trees:
-        tree.ask([quota("n0")] + [quota(f"n{i * DEPTH + 1}") for i in tree.columns])
+        tree.ask([quota(numbered(0))] + [quota(numbered(i * DEPTH + 1)) for i in tree.columns])
     compare("POST and DELETE of a Pod under two quotas", names, trees, comes_and_goes, PART, COUNT)
     compare("PUT of a parent that moves an inner subtree of five with 75 Pods", names, trees, lambda tree: tree.moves(DEPTH // 2), PART, COUNT)
     for tree in trees:

@@ -2,7 +2,7 @@
 import itertools
 import random
 
-from program import Kind, Run, namespace, read
+from program import Kind, Run, namespace, numbered, read
 
 
 HIERARCHY = Kind("hnc.x-k8s.io/v1alpha2", "HierarchyConfiguration", "hierarchyconfigurations")
@@ -31,12 +31,16 @@ class Columns(Run):
         self.columns = list(range(columns))
         namespaces = max(namespaces, columns * depth + 1)
         self.chance = random.Random(namespaces)
-        self.ask([namespace(f"n{i}") for i in range(namespaces)])
-        self.ask([plant(f"n{i}", f"n{i - 1}" if i % depth != 1 else "n0") for i in range(1, namespaces)])
+        self.ask([namespace(numbered(i)) for i in range(namespaces)])
+        self.ask([plant(numbered(i), numbered(i - 1 if i % depth != 1 else 0)) for i in range(1, namespaces)])
+
+    def ask_among(self, columns):
+        """From now on only the first so many columns are asked about."""
+        self.columns = list(range(columns))
 
     def at(self, column, level):
         """The namespace that stood in a column at a level at first. The root is at level 0."""
-        return f"n{column % len(self.columns) * self.depth + level}"
+        return numbered(column % len(self.columns) * self.depth + level)
 
     def shuffled(self):
         """The columns, over and over, and how often they came before."""

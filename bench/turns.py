@@ -18,8 +18,8 @@ import shutil
 import sys
 import tempfile
 
-from conflicts import ROLE, change, make, remove, rules
-from program import namespace, parts, report
+from conflicts import ROLE, change, make, remove, role, rules
+from program import namespace, numbered, parts, report
 from start import NOTHING, READER, seconds
 from trees import Columns
 
@@ -54,15 +54,15 @@ class Settled(Columns):
     def __init__(self, program, namespaces, filled):
         super().__init__(program, (namespaces - 1) // DEPTH, DEPTH, namespaces)
         self.filled = filled
-        self.ask([(make if i and i % DEPTH == 0 else kept)(f"n{i}", f"r{i}-{at}") for i in range(filled) for at in range(OBJECTS)])
+        self.ask([(make if i and i % DEPTH == 0 else kept)(numbered(i), role(numbered(i), at)) for i in range(filled) for at in range(OBJECTS)])
         self.settle()
         self.changes = parts(self.contents(), PART)
 
     def contents(self):
         """PUTs that change a Role of a leaf."""
         for number, (column, _) in enumerate(self.shuffled()):
-            leaf = column % (self.filled // DEPTH - 1) * DEPTH + DEPTH
-            yield change(f"n{leaf}", f"r{leaf}-{number % OBJECTS}", f"verb{number}")
+            leaf = numbered(column % (self.filled // DEPTH - 1) * DEPTH + DEPTH)
+            yield change(leaf, role(leaf, number % OBJECTS), f"verb{number}")
 
     def after(self, lines):
         """The time of lines, before it settles again."""
@@ -115,7 +115,7 @@ def measure_settle(program, file):
     """Settles a tree over a file, and in memory, and gives the number of its rows."""
     for options in ((), ("--db", file)):
         run = Columns(program, (SIZES[1] - 1) // DEPTH, DEPTH, SIZES[1], *options)
-        run.ask([make("n0", f"r{at}") for at in range(SOURCES)])
+        run.ask([make(numbered(0), f"r{at:02}") for at in range(SOURCES)])
         before = run.used(), run.resident()
         ends = run.settle()
         took = run.used() - before[0]
