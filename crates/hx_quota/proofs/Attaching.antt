@@ -103,7 +103,7 @@ pub record IsNew (f g : Forest) (n : List ℕ) : Type 0 where
   pub closed : (m q : List ℕ) → parent_of g m ≡ Some q → is_there g q ≡ true
 
 module _ (f g : Forest) (n : List ℕ) (is : IsNew f g n) where
-  alike : (m : List ℕ) → is_there g m ≡ true → node_of f m ≡ node_of g m
+  pub alike : (m : List ℕ) → is_there g m ≡ true → node_of f m ≡ node_of g m
   alike m there = at (bytes_eq n m) refl
     where
       at : (b : Bool) → bytes_eq n m ≡ b → node_of f m ≡ node_of g m

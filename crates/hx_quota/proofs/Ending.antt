@@ -1,8 +1,10 @@
 -- Walks up the parents that end at a namespace without one.
 --     ends_on, ends_out, ends_top      a step of a walk: on, before a name that isn't there, past the last one
 --     free, chain_on         a walk that ends doesn't come round:  a chain is its namespace and the chain of the parent
+--     more, shorter          a walk that ends does so in more steps, and from those above
+--     there_by, parent_by    who is on it is there
 --     closed_all             where all walks end, all parents are there
---     all_from, from_all     all walks end where all of those from places do, and so the other way round
+--     all_from               all walks end where all of those from places do
 use Rattle.std.specs.Prelude.{is_some, option_and_then}
 use Rattle.std.proofs.Common.{◌≡◌, ℕ, zero, suc, ◌-◌, ◌<◌, Bool, true, false, cond, ◌&&◌, Option, Some, None, List, [], ◌∷◌, length, refl, sym, ap, ◌∙◌, subst, arith, true≢false}
 use Rattle.std.specs.List.{list_all, IsDistinct}
@@ -12,7 +14,7 @@ use Rattle.std.proofs.lemmas.Option.{none-some}
 use Rattle.hx_model.specs.declared.node.Node.{Node}
 use Rattle.hx_model.specs.Forest.{Forest, node_of, is_there, parent_of, chain_of, in_chain, tail_of}
 use Rattle.hx_model.specs.Moves.{chain_from}
-use Rattle.hx_model.proofs.Climbing.{Above, itself, through, chain_above, is_same, same_itself, none_there}
+use Rattle.hx_model.proofs.Climbing.{Above, itself, through, chain_above, is_same, none_there}
 use Rattle.hx_model.proofs.Opening.{chain_first}
 use Rattle.hx_model.proofs.Walking.{chain_there}
 use Rattle.hx_quota.specs.PlaceRows.{Place}
@@ -43,14 +45,14 @@ ends_top left f next is = ap (λ o. ends_by left f o) is
 
 -- ---- a walk that ends doesn't come round
 
-more : (f : Forest) (left : ℕ) (next : Option (List ℕ)) → ends_by left f next ≡ true → ends_by (suc left) f next ≡ true
+pub more : (f : Forest) (left : ℕ) (next : Option (List ℕ)) → ends_by left f next ≡ true → ends_by (suc left) f next ≡ true
 more f left None h = refl
 more f zero (Some n) h = absurd (true≢false (sym h))
 more f (suc left) (Some n) h =
     let parts = and_parts (is_there f n) (ends_by left f (parent_of f n)) h in
     and_from (is_there f n) (ends_by (suc left) f (parent_of f n)) parts.0 (more f left (parent_of f n) parts.1)
 
-shorter : (f : Forest) (m a : List ℕ) → Above f m a → (left : ℕ) → ends_by left f (Some m) ≡ true → ends_by left f (Some a) ≡ true
+pub shorter : (f : Forest) (m a : List ℕ) → Above f m a → (left : ℕ) → ends_by left f (Some m) ≡ true → ends_by left f (Some a) ≡ true
 shorter f m a (itself there) left h = h
 shorter f m a (through {p = p} there on rest) zero h = absurd (true≢false (sym h))
 shorter f m a (through {p = p} there on rest) (suc left) h =
@@ -80,11 +82,11 @@ distinct_from f (Some n) = (chain_there f n).distinct
 
 -- ---- parents
 
-there_by : (f : Forest) (left : ℕ) (q : List ℕ) → ends_by left f (Some q) ≡ true → is_there f q ≡ true
+pub there_by : (f : Forest) (left : ℕ) (q : List ℕ) → ends_by left f (Some q) ≡ true → is_there f q ≡ true
 there_by f zero q h = absurd (true≢false (sym h))
 there_by f (suc left) q h = (and_parts (is_there f q) (ends_by left f (parent_of f q)) h).0
 
-parent_by : (f : Forest) (left : ℕ) (m q : List ℕ) → ends_by left f (Some m) ≡ true → parent_of f m ≡ Some q → is_there f q ≡ true
+pub parent_by : (f : Forest) (left : ℕ) (m q : List ℕ) → ends_by left f (Some m) ≡ true → parent_of f m ≡ Some q → is_there f q ≡ true
 parent_by f zero m q h on = absurd (true≢false (sym h))
 parent_by f (suc left) m q h on =
     there_by f left q (subst (λ (o : Option (List ℕ)). ends_by left f o ≡ true) on (and_parts (is_there f m) (ends_by left f (parent_of f m)) h).1)
@@ -114,17 +116,5 @@ found_passes t (e ∷ es) n all there =
       | false ↦ λ out h. found_passes t es n parts.1 h
     ] refl there
 
-all_pass : (t : List ℕ → Bool) (es : Places) → ((n : List ℕ) → is_some (place_at es n) ≡ true → t n ≡ true) → list_all (λ e. t e.0) es ≡ true
-all_pass t [] pass = refl
-all_pass t (e ∷ es) pass =
-    and_from (t e.0) (list_all (λ (y : List ℕ × Place). t y.0) es) (pass e.0 (ap (λ b. is_some (cond b (Some e.1) (place_at es e.0))) (same_itself e.0))) (all_pass t es (λ n there. pass n (either (bytes_eq n e.0) (place_at es n) there)))
-  where
-    either : (b : Bool) (o : Option Place) → is_some o ≡ true → is_some (cond b (Some e.1) o) ≡ true
-    either true o there = refl
-    either false o there = there
-
 pub all_from : (places : Places) → all_ended places ≡ true → AllEnd (tree_of (ordered places))
 all_from places all n there = found_passes (ends_up (tree_of (ordered places))) places n all (sym (in_places places n) ∙ there)
-
-pub from_all : (places : Places) → AllEnd (tree_of (ordered places)) → all_ended places ≡ true
-from_all places all = all_pass (ends_up (tree_of (ordered places))) places (λ n there. all n (in_places places n ∙ there))

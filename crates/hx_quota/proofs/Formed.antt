@@ -3,11 +3,11 @@
 --     IsUnderway                       the sums along a chain are adjusted, but for those of names that are left
 --     begun, more_of, ended            it is so at first, after a step, and at the end
 --     shorter_left, may_step           less is left after a step;  the next sums may be adjusted
---     parent_index, index_chain, index_walks, all_named, name_found, own_is   what is found by an index
+--     parent_index, index_chain, index_walks, all_named, name_found, named_place, own_is   what is found by an index
 --     ends_next                        whether walks from a place and from those behind it end
 --     sum_on, sum_on_le                what the first of some entries add, and one more
---     may_add, added                   what a namespace has may be added, and then one more of the first places is in the sums
---     cleared_end, cleared_none        where no place has sums
+--     may_add, added, passed_by        what a namespace has may be added, and then one more of the first places is in the sums, as it is where its walk has no end
+--     cleared_none                     where no place has sums
 --     all_added                        where all are in the sums, these are those of subtrees
 use Rattle.std.specs.Prelude.{is_some, option_and_then, slice_get, slice_index, sum_by, take, drop, get_or, position, IfSome}
 use Rattle.std.proofs.Common.{◌≡◌, ℕ, zero, suc, ◌+◌, ◌-◌, ◌<◌, ◌≤◌, ◌^◌, Bool, true, false, cond, not, ◌&&◌, Option, Some, None, option_map, List, [], ◌∷◌, length, replicate, refl, sym, ap, ◌∙◌, subst, arith, true≢false}
@@ -17,24 +17,27 @@ use Rattle.std.specs.Option.{option_map_or}
 use Rattle.std.specs.Str.{bytes_eq}
 use Rattle.std.proofs.lemmas.List.{take_all}
 use Rattle.std.proofs.lemmas.List.Sums.{sum_by_more, sum_by_more_le}
+use Rattle.std.proofs.lemmas.Bool.{or_left, false_from_ne_true}
 use Rattle.std.proofs.lemmas.Cmp.{nat_list_eq_equiv}
 use Rattle.std.proofs.lemmas.Map.Entries.{lookup_from_place}
 use Rattle.std.proofs.lemmas.Option.{none-some, same_Some, slice_get_within, slice_get-get_or, get_or_from_slice_get}
-use Rattle.hx_model.specs.Forest.{Forest, is_in, is_there, parent_of, chain_of, in_chain}
+use Rattle.hx_model.specs.Forest.{Forest, is_in, is_there, parent_of, chain_of, in_chain, tail_of}
 use Rattle.hx_model.specs.Moves.{chain_from}
 use Rattle.hx_model.specs.Walks.{walk_has}
 use Rattle.hx_model.specs.declared.node.Node.{Node}
 use Rattle.hx_model.specs.declared.resource.Resource.{Resource}
-use Rattle.hx_model.proofs.Climbing.{is_same, same_itself}
+use Rattle.hx_model.proofs.Climbing.{chain_above, is_same, same_itself}
+use Rattle.hx_model.proofs.Opening.{chain_first}
 use Rattle.hx_model.proofs.Walking.{chain_missing}
 use Rattle.hx_quota.specs.Counters.{Entry}
-use Rattle.hx_quota.specs.PlaceRows.{Place}
-use Rattle.hx_quota.specs.Counters.{Entries, node_for, new_entry, tree_of, own_of, part_of, place_of, AllFit}
-use Rattle.hx_quota.specs.Inside.{Places, entries_from, entries_in, ordered, place_at, adjusted, MayAdjust, IsAdjusted, IsSummed, AllEnd, ends_by, ends_up}
-use Rattle.hx_quota.specs.Anew.{all_ended, name_at, chain_at, chain_behind, walk_from, with_sums, cleared, HasFirst}
+use Rattle.hx_quota.specs.PlaceRows.{Place, IsFoundAt}
+use Rattle.hx_quota.specs.Counters.{node_for, new_entry, tree_of, own_of, part_of, place_of, AllFit}
+use Rattle.hx_quota.specs.Inside.{Places, entries_from, entries_in, ordered, place_at, adjusted, MayAdjust, IsAdjusted, HasUsage, ends_by, ends_up}
+use Rattle.hx_quota.specs.Anew.{name_at, chain_at, chain_behind, walk_from, with_sums, cleared, HasFirst}
 use Rattle.hx_quota.proofs.Adjusting.{is_done, here_left, next_distinct, next_inside, may_now, adjusted_one, may_by, was_there}
 use Rattle.hx_quota.proofs.Deltas.{in_place}
-use Rattle.hx_quota.proofs.Ending.{chain_on, distinct_from, in_places, all_from}
+use Rattle.hx_quota.proofs.Ended.{ends_below, ends_chain}
+use Rattle.hx_quota.proofs.Ending.{chain_on, distinct_from, in_places, shorter}
 use Rattle.hx_quota.proofs.Fitting.{has_nothing, used_within}
 use Rattle.hx_quota.proofs.Indexed.{entry_index, found_index, entries_with, place_with, index_found, cleared_entries, cleared_first}
 use Rattle.hx_quota.proofs.Placed.{entry_in, entry_at, same_count}
@@ -47,7 +50,7 @@ Rows = List Pair
 -- ---- the first name
 
 -- the name at the index of a place
-name_of : (es : Rows) (places : Places) → entries_in places ≡ es → (at : ℕ) (m : List ℕ) (p : Place) → slice_get places at ≡ Some (m, p) → name_at es at ≡ Some m
+pub name_of : (es : Rows) (places : Places) → entries_in places ≡ es → (at : ℕ) (m : List ℕ) (p : Place) → slice_get places at ≡ Some (m, p) → name_at es at ≡ Some m
 name_of es places same at m p is =
     ap (λ (xs : Rows). name_at xs at) (sym same) ∙ ap (λ (o : Option Pair). option_map (λ e. e.0) o) (entry_index places at ∙ ap (λ (o : Option (List ℕ × Place)). option_map (λ x. (x.0, x.1.entry)) o) is)
 
@@ -56,19 +59,25 @@ no_name es places same at none =
     ap (λ (o : Option (List ℕ)). chain_from (tree_of (entries_from es)) o)
     (ap (λ (xs : Rows). name_at xs at) (sym same) ∙ ap (λ (o : Option Pair). option_map (λ e. e.0) o) (entry_index places at ∙ ap (λ (o : Option (List ℕ × Place)). option_map (λ x. (x.0, x.1.entry)) o) none))
 
-module _ (es : Rows) (places : Places) (same : entries_in places ≡ es) (all : AllEnd (tree_of (entries_from es))) (distinct : IsDistinct bytes_eq (keys_of es))
+module _ (es : Rows) (places : Places) (same : entries_in places ≡ es) (distinct : IsDistinct bytes_eq (keys_of es))
     (at : ℕ) (m : List ℕ) (p : Place) (is : slice_get places at ≡ Some (m, p)) where
   pub here : place_at places m ≡ Some p
   here = found_index places at m p (subst (λ (xs : Rows). IsDistinct bytes_eq (keys_of xs)) (sym same) distinct) is
 
-  here_there : is_there (tree_of (entries_from es)) m ≡ true
+  pub here_there : is_there (tree_of (entries_from es)) m ≡ true
   here_there = ap (λ (xs : Rows). is_there (tree_of (entries_from xs)) m) (sym same) ∙ in_places places m ∙ ap is_some here
 
-  pub step_left : chain_at es (Some at) ≡ m ∷ chain_behind es at
-  step_left =
+  -- its chain begins with it
+  pub first_left : is_in m (chain_at es (Some at)) ≡ true
+  first_left =
+      let f = tree_of (entries_from es) in
+      ap (λ (o : Option (List ℕ)). is_in m (chain_from f o)) (name_of es places same at m p is) ∙ ap (is_in m) (chain_first f m here_there) ∙ or_left (bytes_eq m m) (is_in m (tail_of (chain_of f m))) (same_itself m)
+
+  pub step_left : ends_up (tree_of (entries_from es)) m ≡ true → chain_at es (Some at) ≡ m ∷ chain_behind es at
+  step_left ends =
       let f = tree_of (entries_from es) in
       let name = name_of es places same at m p is in
-      ap (λ (o : Option (List ℕ)). chain_from f o) name ∙ chain_on f m here_there (all m here_there)
+      ap (λ (o : Option (List ℕ)). chain_from f o) name ∙ chain_on f m here_there ends
       ∙ ap (λ ns. m ∷ ns) (sym (ap (λ (o : Option (List ℕ)). chain_from f (option_and_then (parent_of f) o)) name))
 
 -- ---- along a chain
@@ -112,7 +121,7 @@ pub by_sums : (o : Option (List ℕ × Place)) (sums : List ℕ) → Some sums �
 by_sums None sums is = absurd (none-some sums (sym is))
 by_sums (Some e) sums is = (e.0, e.1, refl, sym (same_Some sums e.1.sums is))
 
-module _ (take give : List ℕ) (was now : Places) (names : List (List ℕ)) (all : AllEnd (tree_of (ordered was))) (distinct : IsDistinct bytes_eq (keys_of (entries_in was))) (at : ℕ) (o : Option ℕ) (here_is : o ≡ Some at)
+module _ (take give : List ℕ) (was now : Places) (names : List (List ℕ)) (ends : (q : List ℕ) → is_in q names ≡ true → ends_up (tree_of (ordered was)) q ≡ true) (distinct : IsDistinct bytes_eq (keys_of (entries_in was))) (at : ℕ) (o : Option ℕ) (here_is : o ≡ Some at)
     (before : List ℕ) (found : Some before ≡ option_map (λ (e : List ℕ × Place). e.1.sums) (slice_get now at)) where
   pub may_step : IsUnderway take give was now names (chain_at (entries_in was) o) → ((q : List ℕ) (x : Place) → is_in q names ≡ true → place_at was q ≡ Some x → MayAdjust take give x.sums) → MayAdjust take give before
   may_step under may =
@@ -122,10 +131,10 @@ module _ (take give : List ℕ) (was now : Places) (names : List (List ℕ)) (al
       let m = place.0 in
       let p = place.1 in
       let is = place.2 in
-      let first = step_left es now far.same all distinct at m p is in
+      let first = step_left es now far.same distinct at m p is (ends m (far.inside m (first_left es now far.same distinct at m p is))) in
       subst (λ (s : List ℕ). MayAdjust take give s) place.3
       (may_now take give names (chain_at es (Some at)) (chain_behind es at) m first (place_at was m) p
-      (subst (λ (w : Option Place). IsAdjusted take give (is_done names (chain_at es (Some at)) m) (place_at was m) w) (here es now far.same all distinct at m p is) (far.places m))
+      (subst (λ (w : Option Place). IsAdjusted take give (is_done names (chain_at es (Some at)) m) (place_at was m) w) (here es now far.same distinct at m p is) (far.places m))
       (λ x there. may m x (far.inside m (here_left take give names (chain_at es (Some at)) (chain_behind es at) m first)) there))
 
   module _ (under : IsUnderway take give was now names (chain_at (entries_in was) o)) (new : Places) (sums : List ℕ) (new_is : new ≡ with_sums at sums now) (next : Option ℕ)
@@ -137,7 +146,8 @@ module _ (take give : List ℕ) (was now : Places) (names : List (List ℕ)) (al
     left_is =
         let es = entries_in was in
         let place = by_sums (slice_get now at) before found in
-        ap (chain_at es) here_is ∙ step_left es now under.same all distinct at place.0 place.1 place.2
+        let inside : is_in place.0 names ≡ true = under.inside place.0 (ap (λ (x : Option ℕ). is_in place.0 (chain_at es x)) here_is ∙ first_left es now under.same distinct at place.0 place.1 place.2) in
+        ap (chain_at es) here_is ∙ step_left es now under.same distinct at place.0 place.1 place.2 (ends place.0 inside)
         ∙ ap (λ ns. place.0 ∷ ns) (sym ((λ i. chain_at (sym entries_stay i) next) ∙ behind ∙ (λ i. chain_behind (entries_stay i) at)))
 
     pub more_of : ((k : ℕ) → k < 15 → slice_index sums k ≡ adjusted take give before k) → IsUnderway take give was new names (chain_at (entries_in was) next)
@@ -154,7 +164,7 @@ module _ (take give : List ℕ) (was now : Places) (names : List (List ℕ)) (al
         record {
           distinct = next_distinct take give names left rest m left_is under.distinct;
           inside = next_inside take give names left rest m left_is under.inside;
-          places = adjusted_one take give names left rest m left_is was now new p (record p { sums = sums }) under.distinct under.inside under.places (here es now under.same all distinct at m p is) refl same_sums
+          places = adjusted_one take give names left rest m left_is was now new p (record p { sums = sums }) under.distinct under.inside under.places (here es now under.same distinct at m p is) refl same_sums
               (λ q. ap (λ (xs : Places). place_at xs q) new_is ∙ place_with at sums now m p alone is q);
           same = entries_stay;
         }
@@ -227,6 +237,16 @@ pub name_found : (o : Option (List ℕ)) (n : List ℕ) → option_map_or (λ m.
 name_found None n h = absurd (true≢false (sym h))
 name_found (Some m) n h = ap Some (is_same m n h)
 
+-- and its place lies there
+pub named_place : (places : Places) (at : ℕ) (n : List ℕ) → IsDistinct bytes_eq (keys_of places) → name_at (entries_in places) at ≡ Some n → IsFoundAt places n (Some at)
+named_place places at n distinct named = by (slice_get places at) refl (sym (ap (λ (o : Option Pair). option_map (λ e. e.0) o) (entry_index places at)) ∙ named)
+  where
+    by : (o : Option (List ℕ × Place)) → slice_get places at ≡ o → option_map (λ (e : Pair). e.0) (option_map (λ (x : List ℕ × Place). (x.0, x.1.entry)) o) ≡ Some n → IsFoundAt places n (Some at)
+    by None is h = absurd (none-some n h)
+    by (Some e) is h =
+        let here : slice_get places at ≡ Some (n, e.1) = is ∙ ap (λ (k : List ℕ). Some (k, e.1)) (same_Some e.0 n h) in
+        (e.1, here, lookup_from_place nat_list_eq_equiv places at n e.1 distinct here)
+
 pub own_is : (es : Rows) (at : ℕ) (o : Option (List ℕ)) → o ≡ option_map (λ (e : Pair). e.1.own) (slice_get es at) → (n : List ℕ) (entry : Entry) → slice_get es at ≡ Some (n, entry) → o ≡ Some entry.own
 own_is es at o is n entry found = is ∙ ap (λ (w : Option Pair). option_map (λ e. e.1.own) w) found
 
@@ -265,8 +285,8 @@ module _ (was : Places) (distinct : IsDistinct bytes_eq (keys_of (entries_in was
   at_hand : get_or (entries_in was) at (n, entry) ≡ (n, entry)
   at_hand = get_or_from_slice_get {X = Pair} (entries_in was) at (n, entry) (n, entry) is
 
-  pub may_add : AllFit (ordered was) → (q : List ℕ) (p : Place) → is_in q (chain_at (entries_in was) (Some at)) ≡ true → place_at was q ≡ Some p → MayAdjust (replicate 15 0) entry.own p.sums
-  may_add fits q p inside there = may_by (replicate 15 0) entry.own p.sums (λ r. each r)
+  pub may_add : ends_up f n ≡ true → AllFit (ordered was) → (q : List ℕ) (p : Place) → is_in q (chain_at (entries_in was) (Some at)) ≡ true → place_at was q ≡ Some p → MayAdjust (replicate 15 0) entry.own p.sums
+  may_add ends fits q p inside there = may_by (replicate 15 0) entry.own p.sums (λ r. each r)
     where
       has : in_chain f n q ≡ true
       has = ap (is_in q) (sym chain_is) ∙ inside
@@ -275,7 +295,7 @@ module _ (was : Places) (distinct : IsDistinct bytes_eq (keys_of (entries_in was
       each r =
           let part = part_of f q r in
           let zero_is : slice_index (replicate 15 0) (place_of r) ≡ 0 = has_nothing r in
-          let sum : slice_index p.sums (place_of r) ≡ sum_by part (take at (entries_in was)) = so_far q p there r in
+          let sum : slice_index p.sums (place_of r) ≡ sum_by part (take at (entries_in was)) = so_far q p there (shorter f n q (chain_above f n q has) (length f) ends) r in
           let own : part (n, entry) ≡ slice_index entry.own (place_of r) = ap (λ b. cond b (own_of r entry) 0) has in
           let mine : part (get_or (entries_in was) at (n, entry)) ≡ part (n, entry) = ap part at_hand in
           let less = sum_by_more_le part (entries_in was) at (n, entry) (slice_get_within (entries_in was) at (n, entry) is) in
@@ -283,11 +303,11 @@ module _ (was : Places) (distinct : IsDistinct bytes_eq (keys_of (entries_in was
           (omega (arith, zero_is), omega (arith, zero_is, sum, own, mine, less, whole, used_within f q r (ordered was), fits r))
 
   pub added : (new : Places) → entries_in new ≡ entries_in was → ((q : List ℕ) → IsAdjusted (replicate 15 0) entry.own (is_in q (chain_at (entries_in was) (Some at))) (place_at was q) (place_at new q)) → HasFirst (at + 1) new
-  added new same moved = λ q x there r.
+  added new same moved = λ q x there ends r.
       let part = part_of f q r in
       let b : Bool = is_in q (chain_at (entries_in was) (Some at)) in
       let from = was_there (replicate 15 0) entry.own b (place_at was q) x (subst (λ (w : Option Place). IsAdjusted (replicate 15 0) entry.own b (place_at was q) w) there (moved q)) in
-      let sum : slice_index (from.0).sums (place_of r) ≡ sum_by part (take at (entries_in was)) = so_far q from.0 from.1 r in
+      let sum : slice_index (from.0).sums (place_of r) ≡ sum_by part (take at (entries_in was)) = so_far q from.0 from.1 (ap (λ (xs : Rows). ends_up (tree_of (entries_from xs)) q) (sym same) ∙ ends) r in
       let next : sum_by part (take (at + 1) (entries_in was)) ≡ sum_by part (take at (entries_in was)) + part (n, entry) =
       sum_by_more part (entries_in was) at (n, entry) (slice_get_within (entries_in was) at (n, entry) is) ∙ ap (λ (e : Pair). sum_by part (take at (entries_in was)) + part e) at_hand in
       from.2 (place_of r) (in_place r)
@@ -299,21 +319,47 @@ module _ (was : Places) (distinct : IsDistinct bytes_eq (keys_of (entries_in was
       total true s z k none = omega (arith, none)
       total false s z k none = omega arith
 
+  -- what has no end is in no such sum
+  pub passed_by : ends_up f n ≡ false → HasFirst (at + 1) was
+  passed_by endless = λ q p there ends r.
+      let part = part_of f q r in
+      let out : in_chain f n q ≡ false = false_from_ne_true (in_chain f n q) (λ h. true≢false (sym (ends_below f n q (chain_above f n q h) ends) ∙ endless)) in
+      let nothing : part (n, entry) ≡ 0 = ap (λ b. cond b (own_of r entry) 0) out in
+      let next : sum_by part (take (at + 1) (entries_in was)) ≡ sum_by part (take at (entries_in was)) + part (n, entry) =
+      sum_by_more part (entries_in was) at (n, entry) (slice_get_within (entries_in was) at (n, entry) is) ∙ ap (λ (e : Pair). sum_by part (take at (entries_in was)) + part e) at_hand in
+      let sum = so_far q p there ends r in
+      omega (arith, nothing, next, sum)
+
 -- the same, where what the namespace has is read at the index
-module _ (was : Places) (distinct : IsDistinct bytes_eq (keys_of (entries_in was))) (at : ℕ) (within : at < length was) (so_far : HasFirst at was) (own : List ℕ)
-    (own_at : (n : List ℕ) (entry : Entry) → slice_get (entries_in was) at ≡ Some (n, entry) → own ≡ entry.own) where
+module _ (was : Places) (distinct : IsDistinct bytes_eq (keys_of (entries_in was))) (at : ℕ) (within : at < length was) (so_far : HasFirst at was) where
   abbrev row : Pair
   row = get_or (entries_in was) at ([], new_entry)
 
   row_is : slice_get (entries_in was) at ≡ Some (row.0, row.1)
   row_is = slice_get-get_or (entries_in was) at ([], new_entry) (let long = same_count was in omega (arith, within, long))
 
-  pub may_add_own : AllFit (ordered was) → (q : List ℕ) (p : Place) → is_in q (chain_at (entries_in was) (Some at)) ≡ true → place_at was q ≡ Some p → MayAdjust (replicate 15 0) own p.sums
-  may_add_own fits q p inside there = subst (λ (o : List ℕ). MayAdjust (replicate 15 0) o p.sums) (sym (own_at row.0 row.1 row_is)) (may_add was distinct at row.0 row.1 row_is so_far fits q p inside there)
+  named : name_at (entries_in was) at ≡ Some row.0
+  named = ap (λ (o : Option Pair). option_map (λ e. e.0) o) row_is
 
-  pub added_own : (new : Places) → entries_in new ≡ entries_in was → ((q : List ℕ) → IsAdjusted (replicate 15 0) own (is_in q (chain_at (entries_in was) (Some at))) (place_at was q) (place_at new q)) → HasFirst (at + 1) new
-  added_own new same moved = added was distinct at row.0 row.1 row_is so_far new same
-      (subst (λ (o : List ℕ). (q : List ℕ) → IsAdjusted (replicate 15 0) o (is_in q (chain_at (entries_in was) (Some at))) (place_at was q) (place_at new q)) (own_at row.0 row.1 row_is) moved)
+  -- whether the walk up from there ends
+  row_ends : (b : Bool) → ends_by (length (tree_of (ordered was))) (tree_of (ordered was)) (name_at (entries_in was) at) ≡ b → ends_up (tree_of (ordered was)) row.0 ≡ b
+  row_ends b is = ap (λ (o : Option (List ℕ)). ends_by (length (tree_of (ordered was))) (tree_of (ordered was)) o) (sym named) ∙ is
+
+  pub passed_endless : ends_by (length (tree_of (ordered was))) (tree_of (ordered was)) (name_at (entries_in was) at) ≡ false → HasFirst (at + 1) was
+  passed_endless is = passed_by was distinct at row.0 row.1 row_is so_far (row_ends false is)
+
+  -- all of its chain end
+  pub chain_ends : ends_by (length (tree_of (ordered was))) (tree_of (ordered was)) (name_at (entries_in was) at) ≡ true → (q : List ℕ) → is_in q (chain_at (entries_in was) (Some at)) ≡ true → ends_up (tree_of (ordered was)) q ≡ true
+  chain_ends is q inside = ends_chain (tree_of (ordered was)) (name_at (entries_in was) at) is q inside
+
+  module _ (own : List ℕ) (own_at : (n : List ℕ) (entry : Entry) → slice_get (entries_in was) at ≡ Some (n, entry) → own ≡ entry.own) where
+    pub may_add_own : ends_by (length (tree_of (ordered was))) (tree_of (ordered was)) (name_at (entries_in was) at) ≡ true → AllFit (ordered was)
+        → (q : List ℕ) (p : Place) → is_in q (chain_at (entries_in was) (Some at)) ≡ true → place_at was q ≡ Some p → MayAdjust (replicate 15 0) own p.sums
+    may_add_own ends fits q p inside there = subst (λ (o : List ℕ). MayAdjust (replicate 15 0) o p.sums) (sym (own_at row.0 row.1 row_is)) (may_add was distinct at row.0 row.1 row_is so_far (row_ends true ends) fits q p inside there)
+
+    pub added_own : (new : Places) → entries_in new ≡ entries_in was → ((q : List ℕ) → IsAdjusted (replicate 15 0) own (is_in q (chain_at (entries_in was) (Some at))) (place_at was q) (place_at new q)) → HasFirst (at + 1) new
+    added_own new same moved = added was distinct at row.0 row.1 row_is so_far new same
+        (subst (λ (o : List ℕ). (q : List ℕ) → IsAdjusted (replicate 15 0) o (is_in q (chain_at (entries_in was) (Some at))) (place_at was q) (place_at new q)) (own_at row.0 row.1 row_is) moved)
 
 -- ---- all
 
@@ -324,21 +370,14 @@ module _ (old new : Places) (is : new ≡ cleared old) where
   pub cleared_ordered : ordered new ≡ ordered old
   cleared_ordered = ap entries_from stay
 
-  pub cleared_end : all_ended old ≡ true → AllEnd (tree_of (ordered new))
-  cleared_end all = subst (λ (es : Entries). AllEnd (tree_of es)) (sym cleared_ordered) (all_from old all)
-
   pub cleared_none : HasFirst 0 new
   cleared_none = subst (λ (xs : Places). HasFirst 0 xs) (sym is) (cleared_first old)
 
 -- all are in the sums
-pub all_added : (was new : Places) → IsDistinct bytes_eq (keys_of (entries_in was)) → AllEnd (tree_of (ordered was)) → entries_in new ≡ entries_in was → HasFirst (length was) new → IsSummed (place_at new) (ordered new)
-all_added was new distinct all same sums = record {
-  sums = λ n p there r. sums n p there r ∙ ap (sum_by (part_of f n r)) (take_all (length was) (entries_in new) enough) ∙ sym (sum-entries (part_of f n r) (entries_in new) (subst (λ (xs : Rows). IsDistinct bytes_eq (keys_of xs)) (sym same) distinct));
-  ends = subst (λ (xs : Rows). AllEnd (tree_of (entries_from xs))) (sym same) all;
-}
+pub all_added : (was new : Places) → IsDistinct bytes_eq (keys_of (entries_in was)) → entries_in new ≡ entries_in was → HasFirst (length was) new → HasUsage new (ordered new)
+all_added was new distinct same sums n p there ends r =
+    let f = tree_of (ordered new) in
+    sums n p there ends r ∙ ap (sum_by (part_of f n r)) (take_all (length was) (entries_in new) enough) ∙ sym (sum-entries (part_of f n r) (entries_in new) (subst (λ (xs : Rows). IsDistinct bytes_eq (keys_of xs)) (sym same) distinct))
   where
-    f : Forest
-    f = tree_of (ordered new)
-
     enough : length (entries_in new) ≤ length was
     enough = let long : length (entries_in new) ≡ length was = ap length same ∙ same_count was in omega (arith, long)

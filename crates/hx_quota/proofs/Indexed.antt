@@ -134,4 +134,4 @@ no_sums (e ∷ places) q p is = elim (bytes_eq q e.0) as (λ b. cond b (Some (re
 ] is
 
 pub cleared_first : (places : Places) → HasFirst 0 (cleared places)
-cleared_first places = λ q p there r. ap (λ (xs : List ℕ). slice_index xs (place_of r)) (no_sums places q p there) ∙ has_nothing r
+cleared_first places = λ q p there ends r. ap (λ (xs : List ℕ). slice_index xs (place_of r)) (no_sums places q p there) ∙ has_nothing r

@@ -1,72 +1,145 @@
 -- The sums of places are those of subtrees after a change.
 --     summed_added, summed_removed, summed_moved      after one comes, goes or moves
+--     usage_set, usage_taken                          after one gets a parent from which no walk up ends
 --     closed_by_shift, closed_by_move                 all parents are there after one gets other sums, or another parent
---     ended_by_shift                                  all walks up that end then ended before
-use Rattle.std.specs.Prelude.{slice_index, is_some, IfSome}
-use Rattle.std.proofs.Common.{◌≡◌, ℕ, Bool, true, false, cond, Option, Some, None, List, [], ◌∷◌, replicate, refl, sym, ap, subst, ◌∙◌}
+--     ended_by_shift, ended_by_move                   all walks up end then
+--     all_ends                                        where all do, that from a name ends
+use Rattle.std.specs.Prelude.{slice_index, is_some, IfSome, sum_by}
+use Rattle.std.proofs.Common.{◌≡◌, ℕ, Bool, true, false, cond, Option, Some, None, List, [], ◌∷◌, length, replicate, refl, sym, ap, subst, ◌∙◌, inr, true≢false}
 use Rattle.std.specs.Str.{bytes_eq}
+use Rattle.std.proofs.lemmas.Bool.{false_from_ne_true}
 use Rattle.std.proofs.lemmas.Option.{none-some, same_Some}
-use Rattle.hx_model.specs.Forest.{Forest, is_there, parent_of, subtree_of}
+use Rattle.hx_model.specs.Forest.{Forest, is_there, parent_of, in_chain, subtree_of, with_parent as forest_with_parent}
 use Rattle.hx_model.specs.declared.resource.Resource.{Resource}
-use Rattle.hx_model.proofs.Climbing.{is_same}
+use Rattle.hx_model.proofs.Climbing.{chain_above, is_same}
+use Rattle.hx_model.proofs.Moving.{moved_there}
 use Rattle.hx_quota.specs.declared.entry.Delta.{Delta}
 use Rattle.hx_quota.specs.PlaceRows.{Place}
-use Rattle.hx_quota.specs.Counters.{Entries, entry_of, tree_of, own_in, place_of, used_in, with_entry, new_entry, without_entry, with_parent, with_shifted}
-use Rattle.hx_quota.specs.Inside.{Places, place_at, entries_in, ordered, AllEnd, HasUsage, SameSums, IsFree, IsSummed, AreClosed}
-use Rattle.hx_quota.proofs.Ending.{closed_all}
+use Rattle.hx_quota.specs.Counters.{Entries, entry_of, tree_of, own_of, own_in, part_of, place_of, used_in, with_entry, new_entry, without_entry, with_parent, with_shifted}
+use Rattle.hx_quota.specs.Inside.{Places, place_at, entries_in, ordered, ends_by, ends_up, AllEnd, HasUsage, SameSums, AreClosed, IsFree}
+use Rattle.hx_quota.proofs.Cutting.{sum-alike}
+use Rattle.hx_quota.proofs.Ended.{ends_below, ends_shrunk, ends_grown, ended_before, parted_chain}
+use Rattle.hx_quota.proofs.Ending.{in_places}
 use Rattle.hx_quota.proofs.Entries.{ascends-entries}
 use Rattle.hx_quota.proofs.Fitting.{has_nothing}
-use Rattle.hx_quota.proofs.Lasting.{ends_added, ends_removed, ends_moved}
-use Rattle.hx_quota.proofs.Moved.{closed_moved}
-use Rattle.hx_quota.proofs.UsedSums.{in_tree, same_tree, used_absent, used_added, used_removed}
+use Rattle.hx_quota.proofs.Lasting.{ends_moved}
+use Rattle.hx_quota.proofs.Moved.{tree_moved, usage_kept, closed_moved}
+use Rattle.hx_quota.proofs.UsedSums.{in_tree, same_tree, used_absent, added_new, used_added, removed_new, used_removed}
 
 in_forest : (es : Entries) (o : Option (List ℕ)) → IfSome o (λ p. is_some (entry_of es p) ≡ true) → IfSome o (λ p. is_there (tree_of es) p ≡ true)
 in_forest es None h = tt
 in_forest es (Some p) h = in_tree es p ∙ h
 
-pub summed_added : (old new : Places) (n : List ℕ) (place : Place) → entry_of (ordered old) n ≡ None → place.sums ≡ replicate 15 0 → ((q : List ℕ) → place_at new q ≡ cond (bytes_eq n q) (Some place) (place_at old q))
-    → ordered new ≡ with_entry n new_entry (ordered old) → IsSummed (place_at old) (ordered old) → IsSummed (place_at new) (ordered new)
-summed_added old new n place none empty is same was = record {
-  sums = λ q p there r. at q p r (bytes_eq n q) refl (sym (is q) ∙ there);
-  ends = subst (λ (es : Entries). AllEnd (tree_of es)) (sym same) (ends_added (ordered old) n none was.ends);
-}
-  where
-    used : (q : List ℕ) (r : Resource) → used_in (ordered new) q r ≡ used_in (ordered old) q r
-    used q r = ap (λ (es : Entries). used_in es q r) same ∙ used_added (ordered old) n none (closed_all (ordered old) was.ends) q r
+-- a place is in the tree
+there_by_place : (places : Places) (q : List ℕ) (p : Place) → place_at places q ≡ Some p → is_there (tree_of (ordered places)) q ≡ true
+there_by_place places q p found = in_places places q ∙ ap is_some found
 
-    at : (q : List ℕ) (p : Place) (r : Resource) (b : Bool) → bytes_eq n q ≡ b → cond b (Some place) (place_at old q) ≡ Some p → slice_index p.sums (place_of r) ≡ used_in (ordered new) q r
-    at q p r true here h =
+pub summed_added : (old new : Places) (n : List ℕ) (place : Place) → entry_of (ordered old) n ≡ None → place.sums ≡ replicate 15 0 → ((q : List ℕ) → place_at new q ≡ cond (bytes_eq n q) (Some place) (place_at old q))
+    → ordered new ≡ with_entry n new_entry (ordered old) → AreClosed (ordered old) → HasUsage old (ordered old) → HasUsage new (ordered new)
+summed_added old new n place none empty is same closed was q p found ends r = at (bytes_eq n q) refl (sym (is q) ∙ found)
+  where
+    used : used_in (ordered new) q r ≡ used_in (ordered old) q r
+    used = ap (λ (es : Entries). used_in es q r) same ∙ used_added (ordered old) n none closed q r
+
+    top : is_there (tree_of (ordered old)) q ≡ true → ends_up (tree_of (ordered old)) q ≡ true
+    top there = ends_shrunk (tree_of (with_entry n new_entry (ordered old))) (tree_of (ordered old)) n (added_new (ordered old) n none closed) q there (subst (λ (es : Entries). ends_up (tree_of es) q ≡ true) same ends)
+
+    at : (b : Bool) → bytes_eq n q ≡ b → cond b (Some place) (place_at old q) ≡ Some p → slice_index p.sums (place_of r) ≡ used_in (ordered new) q r
+    at true here h =
         ap (λ (x : Place). slice_index x.sums (place_of r)) (sym (same_Some place p h)) ∙ ap (λ (xs : List ℕ). slice_index xs (place_of r)) empty ∙ has_nothing r
-        ∙ sym (used q r ∙ used_absent (ordered old) q r (subst (λ (k : List ℕ). entry_of (ordered old) k ≡ None) (is_same n q here) none))
-    at q p r false out h = was.sums q p h r ∙ sym (used q r)
+        ∙ sym (used ∙ used_absent (ordered old) q r (subst (λ (k : List ℕ). entry_of (ordered old) k ≡ None) (is_same n q here) none))
+    at false out h = was q p h (top (there_by_place old q p h)) r ∙ sym used
 
 pub summed_removed : (old new : Places) (n : List ℕ) → is_some (entry_of (ordered old) n) ≡ true → ((r : Resource) → own_in (ordered old) n r ≡ 0) → subtree_of (tree_of (ordered old)) n ≡ n ∷ []
-    → ((q : List ℕ) → place_at new q ≡ cond (bytes_eq n q) None (place_at old q)) → ordered new ≡ without_entry n (ordered old) → IsSummed (place_at old) (ordered old) → IsSummed (place_at new) (ordered new)
-summed_removed old new n there nothing alone is same was = record {
-  sums = λ q p found r. at q p r (bytes_eq n q) (sym (is q) ∙ found);
-  ends = subst (λ (es : Entries). AllEnd (tree_of es)) (sym same) (ends_removed (ordered old) n alone there was.ends);
-}
+    → ((q : List ℕ) → place_at new q ≡ cond (bytes_eq n q) None (place_at old q)) → ordered new ≡ without_entry n (ordered old) → AreClosed (ordered old) → HasUsage old (ordered old) → HasUsage new (ordered new)
+summed_removed old new n there nothing alone is same closed was q p found ends r = at (bytes_eq n q) (sym (is q) ∙ found)
   where
-    used : (q : List ℕ) (r : Resource) → used_in (ordered new) q r ≡ used_in (ordered old) q r
-    used q r = ap (λ (es : Entries). used_in es q r) same ∙ used_removed (ordered old) n alone there (closed_all (ordered old) was.ends) (ascends-entries (entries_in old)) nothing q r
+    used : used_in (ordered new) q r ≡ used_in (ordered old) q r
+    used = ap (λ (es : Entries). used_in es q r) same ∙ used_removed (ordered old) n alone there closed (ascends-entries (entries_in old)) nothing q r
 
-    at : (q : List ℕ) (p : Place) (r : Resource) (b : Bool) → cond b None (place_at old q) ≡ Some p → slice_index p.sums (place_of r) ≡ used_in (ordered new) q r
-    at q p r true h = absurd (none-some p h)
-    at q p r false h = was.sums q p h r ∙ sym (used q r)
+    top : ends_up (tree_of (ordered old)) q ≡ true
+    top = ends_grown (tree_of (ordered old)) (tree_of (without_entry n (ordered old))) n (removed_new (ordered old) n alone there closed) q
+        (subst (λ (es : Entries). is_there (tree_of es) q ≡ true) same (there_by_place new q p found)) (subst (λ (es : Entries). ends_up (tree_of es) q ≡ true) same ends)
+
+    at : (b : Bool) → cond b None (place_at old q) ≡ Some p → slice_index p.sums (place_of r) ≡ used_in (ordered new) q r
+    at true h = absurd (none-some p h)
+    at false h = was q p h top r ∙ sym used
 
 -- after a move, where the sums were made those of the subtrees before the parent was set
-pub summed_moved : (old mid new : Places) (n : List ℕ) (parent : Option (List ℕ)) → is_some (entry_of (ordered old) n) ≡ true → IfSome parent (λ p. is_some (entry_of (ordered old) p) ≡ true) → IsFree (tree_of (ordered old)) n parent
-    → ordered mid ≡ ordered old → HasUsage mid (with_parent n parent (ordered old)) → ordered new ≡ with_parent n parent (ordered mid)
-    → ((q : List ℕ) (p : Place) → place_at new q ≡ Some p → SameSums (place_at mid q) p) → IsSummed (place_at old) (ordered old) → IsSummed (place_at new) (ordered new)
-summed_moved old mid new n parent there given free same usage moved sums was = record {
-  sums = λ q p found r.
-      let kept = sums q p found in
-      ap (λ (xs : List ℕ). slice_index xs (place_of r)) kept.2 ∙ usage q kept.0 kept.1 r ∙ sym (ap (λ (es : Entries). used_in es q r) whole);
-  ends = subst (λ (es : Entries). AllEnd (tree_of es)) (sym whole) (ends_moved (ordered old) n parent (in_tree (ordered old) n ∙ there) (in_forest (ordered old) parent given) free was.ends);
-}
+pub summed_moved : (old mid new : Places) (n : List ℕ) (parent : Option (List ℕ)) → ordered mid ≡ ordered old → HasUsage mid (with_parent n parent (ordered old)) → ordered new ≡ with_parent n parent (ordered mid)
+    → ((q : List ℕ) (p : Place) → place_at new q ≡ Some p → SameSums (place_at mid q) p) → HasUsage new (ordered new)
+summed_moved old mid new n parent same usage moved sums q p found ends r =
+    let kept = sums q p found in
+    ap (λ (xs : List ℕ). slice_index xs (place_of r)) kept.2 ∙ usage q kept.0 kept.1 (subst (λ (es : Entries). ends_up (tree_of es) q ≡ true) whole ends) r ∙ sym (ap (λ (es : Entries). used_in es q r) whole)
   where
     whole : ordered new ≡ with_parent n parent (ordered old)
     whole = moved ∙ ap (with_parent n parent) same
+
+-- ---- a namespace from which the walk up doesn't end
+
+-- the last parent counts
+pub parent_over : (n : List ℕ) (last first : Option (List ℕ)) (es : Entries) → with_parent n last (with_parent n first es) ≡ with_parent n last es
+parent_over n last first [] = refl
+parent_over n last first (e ∷ es) = λ i. (e.0, either (bytes_eq n e.0) i) ∷ parent_over n last first es i
+  where
+    either : (b : Bool) → cond b (record (cond b (record (e.1) { parent = first }) e.1) { parent = last }) (cond b (record (e.1) { parent = first }) e.1) ≡ cond b (record (e.1) { parent = last }) e.1
+    either true = refl
+    either false = refl
+
+-- those above which it isn't have what they would have if it had no parent
+used_parted : (es : Entries) (n : List ℕ) → is_some (entry_of es n) ≡ true → ends_up (tree_of es) n ≡ false → (q : List ℕ) → ends_up (tree_of es) q ≡ true → (r : Resource) → used_in es q r ≡ used_in (with_parent n None es) q r
+used_parted es n here endless q top r =
+    sum-alike (part_of f q r) (part_of parted q r) es (λ e there. ap (λ b. cond b (own_of r e.1) 0) (parted_chain f n (in_tree es n ∙ here) q out e.0))
+    ∙ sym (ap (λ (t : Forest). sum_by (part_of t q r) (with_parent n None es)) (tree_moved n None es) ∙ usage_kept parted n None es q r)
+  where
+    f : Forest
+    f = tree_of es
+
+    parted : Forest
+    parted = forest_with_parent n None f
+
+    out : in_chain f n q ≡ false
+    out = false_from_ne_true (in_chain f n q) (λ h. true≢false (sym (ends_below f n q (chain_above f n q h) top) ∙ endless))
+
+-- the sums stay where it gets another parent from which none ends
+module _ (es : Entries) (n : List ℕ) (parent : Option (List ℕ)) (here : is_some (entry_of es n) ≡ true) (endless : ends_up (tree_of (with_parent n parent es)) n ≡ false) where
+  abbrev then : Entries
+  then = with_parent n parent es
+
+  ended : (q : List ℕ) → ends_up (tree_of then) q ≡ true → ends_up (tree_of es) q ≡ true
+  ended q top = ended_before (tree_of es) n parent (in_tree es n ∙ here) (inr (subst (λ (f : Forest). ends_up f n ≡ false) (tree_moved n parent es) endless)) q (subst (λ (f : Forest). ends_up f q ≡ true) (tree_moved n parent es) top)
+
+  here_then : is_some (entry_of then n) ≡ true
+  here_then = sym (in_tree then n) ∙ ap (λ (f : Forest). is_there f n) (tree_moved n parent es) ∙ moved_there (tree_of es) n parent n ∙ in_tree es n ∙ here
+
+  parted_then : (q : List ℕ) → ends_up (tree_of then) q ≡ true → (r : Resource) → used_in then q r ≡ used_in (with_parent n None es) q r
+  parted_then q top r = used_parted then n here_then endless q top r ∙ ap (λ (xs : Entries). used_in xs q r) (parent_over n None parent es)
+
+  -- it didn't end before
+  pub usage_set : (places : Places) → ends_up (tree_of es) n ≡ false → HasUsage places es → HasUsage places then
+  usage_set places never was q p found top r = was q p found (ended q top) r ∙ used_parted es n here never q (ended q top) r ∙ sym (parted_then q top r)
+
+-- or what it had was taken from all above it
+pub usage_taken : (places : Places) (es : Entries) (n : List ℕ) (parent : Option (List ℕ)) → is_some (entry_of es n) ≡ true → ends_up (tree_of (with_parent n parent es)) n ≡ false → HasUsage places (with_parent n None es)
+    → HasUsage places (with_parent n parent es)
+usage_taken places es n parent here endless was q p found top r =
+    was q p found (ended parted n parent here_parted endless_parted q top_parted) r
+    ∙ sym (ap (λ (xs : Entries). used_in xs q r) (sym over) ∙ parted_then parted n parent here_parted endless_parted q top_parted r ∙ ap (λ (xs : Entries). used_in xs q r) (parent_over n None None es))
+  where
+    parted : Entries
+    parted = with_parent n None es
+
+    over : with_parent n parent parted ≡ with_parent n parent es
+    over = parent_over n parent None es
+
+    here_parted : is_some (entry_of parted n) ≡ true
+    here_parted = sym (in_tree parted n) ∙ ap (λ (f : Forest). is_there f n) (tree_moved n None es) ∙ moved_there (tree_of es) n None n ∙ in_tree es n ∙ here
+
+    endless_parted : ends_up (tree_of (with_parent n parent parted)) n ≡ false
+    endless_parted = subst (λ (xs : Entries). ends_up (tree_of xs) n ≡ false) (sym over) endless
+
+    top_parted : ends_up (tree_of (with_parent n parent parted)) q ≡ true
+    top_parted = subst (λ (xs : Entries). ends_up (tree_of xs) q ≡ true) (sym over) top
 
 -- ---- parents
 
@@ -75,8 +148,17 @@ closed_by_shift old new n deltas is closed = λ m q on.
     let tree : tree_of new ≡ tree_of old = ap tree_of is ∙ same_tree n deltas old in
     subst (λ (f : Forest). is_there f q ≡ true) (sym tree) (closed m q (subst (λ (f : Forest). parent_of f m ≡ Some q) tree on))
 
-pub ended_by_shift : (old new : Entries) (n : List ℕ) (deltas : List Delta) → new ≡ with_shifted (n ∷ []) deltas old → AllEnd (tree_of new) → AllEnd (tree_of old)
-ended_by_shift old new n deltas is all = subst (λ (f : Forest). AllEnd f) (ap tree_of is ∙ same_tree n deltas old) all
-
 pub closed_by_move : (old new : Entries) (n : List ℕ) (parent : Option (List ℕ)) → is_some (entry_of old n) ≡ true → IfSome parent (λ p. is_some (entry_of old p) ≡ true) → new ≡ with_parent n parent old → AreClosed old → AreClosed new
 closed_by_move old new n parent there given is closed = subst (λ (es : Entries). AreClosed es) (sym is) (closed_moved old n parent (in_tree old n ∙ there) (in_forest old parent given) closed)
+
+-- all walks up end as before, where one gets other sums or a parent that isn't below it
+pub ended_by_shift : (old new : Entries) (n : List ℕ) (deltas : List Delta) → new ≡ with_shifted (n ∷ []) deltas old → AllEnd (tree_of old) → AllEnd (tree_of new)
+ended_by_shift old new n deltas is all = subst (λ (f : Forest). AllEnd f) (sym (ap tree_of is ∙ same_tree n deltas old)) all
+
+pub ended_by_move : (old new : Entries) (n : List ℕ) (parent : Option (List ℕ)) → is_some (entry_of old n) ≡ true → IfSome parent (λ p. is_some (entry_of old p) ≡ true) → IsFree (tree_of old) n parent → new ≡ with_parent n parent old → AllEnd (tree_of old) → AllEnd (tree_of new)
+ended_by_move old new n parent there given free is all = subst (λ (es : Entries). AllEnd (tree_of es)) (sym is) (ends_moved old n parent (in_tree old n ∙ there) (in_forest old parent given) free all)
+
+-- where all walks up end, that from a name ends that may be none
+pub all_ends : (es : Entries) (o : Option (List ℕ)) → IfSome o (λ n. is_some (entry_of es n) ≡ true) → AllEnd (tree_of es) → ends_by (length (tree_of es)) (tree_of es) o ≡ true
+all_ends es None there all = refl
+all_ends es (Some n) there all = all n (in_tree es n ∙ there)

@@ -14,13 +14,13 @@ pub mod Keeping
 pub mod Shifted
 pub mod Taken
 pub mod Ending
+pub mod Ended
 pub mod Indexed
 pub mod Joined
 pub mod Formed
 pub mod Reached
 pub mod Rounds
 pub mod Lasting
-pub mod Circling
 pub mod Totals
 pub mod CountingRegular
 pub mod CountingSums

@@ -1,5 +1,6 @@
 -- What namespaces have with all below them, after one has moved.
 --     tree_moved         the forest then
+--     usage_kept         what namespaces have together is read from no parent
 --     used_before, used_after      what it has is in the sums of those that were above it, and then of those that are
 --     closed_moved       all parents are there
 -- The namespace is in the chain of neither parent.
@@ -33,7 +34,7 @@ tree_moved n parent (e ∷ es) = λ i. (e.0, either (bytes_eq n e.0) i) ∷ tree
 abbrev pub usage : Forest → Entries → List ℕ → Resource → ℕ
 usage f es a r = sum_by (part_of f a r) es
 
-usage_kept : (f : Forest) (n : List ℕ) (parent : Option (List ℕ)) (es : Entries) (a : List ℕ) (r : Resource) → usage f (with_parent n parent es) a r ≡ usage f es a r
+pub usage_kept : (f : Forest) (n : List ℕ) (parent : Option (List ℕ)) (es : Entries) (a : List ℕ) (r : Resource) → usage f (with_parent n parent es) a r ≡ usage f es a r
 usage_kept f n parent [] a r = refl
 usage_kept f n parent (e ∷ es) a r =
     let here : part_of f a r (e.0, cond (bytes_eq n e.0) (record (e.1) { parent = parent }) e.1) ≡ part_of f a r e = either (bytes_eq n e.0) in

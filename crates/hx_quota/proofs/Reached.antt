@@ -12,10 +12,10 @@ use Rattle.hx_model.specs.Moves.{chain_from}
 use Rattle.hx_model.proofs.Opening.{chain_first}
 use Rattle.hx_quota.specs.PlaceRows.{Place}
 use Rattle.hx_quota.specs.Counters.{tree_of}
-use Rattle.hx_quota.specs.Inside.{Places, entries_in, ordered, place_at, AllEnd}
+use Rattle.hx_quota.specs.Inside.{Places, entries_in, ordered, place_at, ends_up}
 use Rattle.hx_quota.specs.Anew.{chain_at, chain_behind}
 use Rattle.hx_quota.proofs.Ending.{chain_on}
-use Rattle.hx_quota.proofs.Formed.{no_name, here, step_left, by_sums}
+use Rattle.hx_quota.proofs.Formed.{name_of, no_name, here, here_there, step_left, by_sums}
 
 -- the first name
 abbrev head_of : List ℕ → List (List ℕ) → List ℕ
@@ -23,18 +23,21 @@ head_of d [] = d
 head_of d (x ∷ xs) = x
 
 -- the place at the index of a name, and those above it
-pub at_index : (places : Places) → AllEnd (tree_of (ordered places)) → IsDistinct bytes_eq (keys_of (entries_in places)) → (n : List ℕ) → is_there (tree_of (ordered places)) n ≡ true → (at : ℕ)
+pub at_index : (places : Places) → IsDistinct bytes_eq (keys_of (entries_in places)) → (n : List ℕ) → is_there (tree_of (ordered places)) n ≡ true → ends_up (tree_of (ordered places)) n ≡ true → (at : ℕ)
     → chain_at (entries_in places) (Some at) ≡ chain_of (tree_of (ordered places)) n → (sums : List ℕ) → Some sums ≡ option_map (λ (e : List ℕ × Place). e.1.sums) (slice_get places at)
     → (p : Place) × (place_at places n ≡ Some p) × (p.sums ≡ sums) × (chain_behind (entries_in places) at ≡ chain_from (tree_of (ordered places)) (parent_of (tree_of (ordered places)) n))
-at_index places all distinct n there at along sums found =
+at_index places distinct n there ends at along sums found =
     let es = entries_in places in
     let f = tree_of (ordered places) in
     let row = by_sums (slice_get places at) sums found in
     let m = row.0 in
     let p = row.1 in
-    let first : chain_at es (Some at) ≡ m ∷ chain_behind es at = step_left es places refl all distinct at m p row.2 in
-    let whole : m ∷ chain_behind es at ≡ n ∷ chain_from f (parent_of f n) = sym first ∙ along ∙ chain_on f n there (all n there) in
-    (p, subst (λ (k : List ℕ). place_at places k ≡ Some p) (ap (head_of n) whole) (here es places refl all distinct at m p row.2), row.3, ap tail_of whole)
+    let is = row.2 in
+    let first : chain_of f m ≡ chain_of f n = sym (ap (λ (o : Option (List ℕ)). chain_from f o) (name_of es places refl at m p is)) ∙ along in
+    let same : m ≡ n = ap (head_of n) (sym (chain_first f m (here_there es places refl distinct at m p is)) ∙ first ∙ chain_first f n there) in
+    let mine : ends_up f m ≡ true = subst (λ (k : List ℕ). ends_up f k ≡ true) (sym same) ends in
+    let whole : m ∷ chain_behind es at ≡ n ∷ chain_from f (parent_of f n) = sym (step_left es places refl distinct at m p is mine) ∙ along ∙ chain_on f n there ends in
+    (p, subst (λ (k : List ℕ). place_at places k ≡ Some p) same (here es places refl distinct at m p is), row.3, ap tail_of whole)
 
 -- one that is there has an index
 pub no_index : (places : Places) (n : List ℕ) → is_there (tree_of (ordered places)) n ≡ true → chain_of (tree_of (ordered places)) n ≡ [] → ⊥

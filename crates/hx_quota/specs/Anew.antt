@@ -7,8 +7,8 @@
 --     with_sums, with_parent_at, with_shifted_at      other sums, another parent, own sums after deltas
 --     cleared               places with no sums
 --     HasAdjusted           the sums at an index are adjusted
---     HasFirst              the sums of places are those of subtrees, as far as the first places are in them
-use Rattle.std.specs.Prelude.{◌≡◌, ℕ, zero, suc, ◌<◌, Bool, List, [], ◌∷◌, map, replicate, sum_by, take, Option, Some, option_and_then, option_map, slice_get, slice_index}
+--     HasFirst              the sums of places from which the walk up ends are those of subtrees, as far as the first places are in them
+use Rattle.std.specs.Prelude.{◌≡◌, ℕ, zero, suc, ◌<◌, Bool, true, List, [], ◌∷◌, map, replicate, sum_by, take, Option, Some, option_and_then, option_map, slice_get, slice_index}
 use Rattle.std.specs.List.{list_all}
 use Rattle.hx_model.specs.Forest.{parent_of}
 use Rattle.hx_model.specs.Moves.{chain_from}
@@ -72,6 +72,6 @@ cleared places = map (λ p. (p.0, record (p.1) { sums = replicate 15 0 })) place
 abbrev pub all_ended : Places → Bool
 all_ended places = list_all (λ p. ends_up (tree_of (ordered places)) p.0) places
 
--- the sums of each place are those of the first places that are in its subtree
+-- where the walk up from a place ends, its sums are those of the first places that are in its subtree
 abbrev pub HasFirst : ℕ → Places → Type 0
-HasFirst count places = (q : List ℕ) (p : Place) → place_at places q ≡ Some p → (r : Resource) → slice_index p.sums (place_of r) ≡ sum_by (part_of (tree_of (ordered places)) q r) (take count (entries_in places))
+HasFirst count places = (q : List ℕ) (p : Place) → place_at places q ≡ Some p → ends_up (tree_of (ordered places)) q ≡ true → (r : Resource) → slice_index p.sums (place_of r) ≡ sum_by (part_of (tree_of (ordered places)) q r) (take count (entries_in places))

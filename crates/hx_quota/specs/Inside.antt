@@ -15,11 +15,9 @@
 --     AllEnd                all walks do
 --     AreClosed             all parents are there
 --     IsFree                a namespace isn't in the chain of a parent
---     is_plain_move         a move neither parts nor makes a cycle
---     HasUsage              the sums of places are those of subtrees
---     IsSummed              the sums of places are those of their subtrees
---     IsKept                they are unless that is lost, all parents are there, and a cycle that is known is in the tree
-use Rattle.std.specs.Prelude.{◌≡◌, ℕ, zero, suc, ◌+◌, ◌-◌, ◌<◌, ◌≤◌, ◌^◌, Bool, true, false, not, ◌&&◌, List, [], ◌∷◌, length, map, Option, Some, None, slice_index, slice_set, if◌then◌else◌}
+--     HasUsage              the sums of places are those of subtrees, where a walk up ends
+--     IsKept                they are, all parents are there, and all walks up end unless it is noted that one may not
+use Rattle.std.specs.Prelude.{◌≡◌, ℕ, zero, suc, ◌+◌, ◌-◌, ◌<◌, ◌≤◌, ◌^◌, Bool, true, false, ◌&&◌, List, [], ◌∷◌, length, map, Option, Some, None, slice_index, slice_set, if◌then◌else◌}
 use Rattle.std.specs.Option.{option_map_or}
 use Rattle.std.specs.Str.{bytes_eq}
 use Rattle.hx_model.specs.Forest.{Forest, is_there, parent_of, in_chain}
@@ -120,21 +118,12 @@ AreClosed es = (m q : List ℕ) → parent_of (tree_of es) m ≡ Some q → is_t
 abbrev pub IsFree : Forest → List ℕ → Option (List ℕ) → Type 0
 IsFree f n parent = option_map_or (λ p. in_chain f p n) parent false ≡ false
 
--- a namespace is in the chain neither of its parent nor of the one that it gets
-abbrev pub is_plain_move : Entries → List ℕ → Option (List ℕ) → Bool
-is_plain_move es n parent = not (option_map_or (λ p. in_chain (tree_of es) p n) (parent_of (tree_of es) n) false) && not (option_map_or (λ p. in_chain (tree_of es) p n) parent false)
-
--- the sums of places are those of subtrees
+-- where the walk up from a place ends, its sums are those of its subtree
 abbrev pub HasUsage : Places → Entries → Type 0
-HasUsage places es = (n : List ℕ) (p : Place) → place_at places n ≡ Some p → (r : Resource) → slice_index p.sums (place_of r) ≡ used_in es n r
+HasUsage places es = (n : List ℕ) (p : Place) → place_at places n ≡ Some p → ends_up (tree_of es) n ≡ true → (r : Resource) → slice_index p.sums (place_of r) ≡ used_in es n r
 
--- the sums of each place are those of its subtree, and each walk up the parents ends
-pub record IsSummed (at : List ℕ → Option Place) (es : Entries) : Type 0 where
-  pub sums : (n : List ℕ) (p : Place) → at n ≡ Some p → (r : Resource) → slice_index p.sums (place_of r) ≡ used_in es n r
-  pub ends : AllEnd (tree_of es)
-
--- that, unless it is lost; all parents are there; and some walk up doesn't end, where that is known
+-- that; all parents are there; and all walks up end, unless it is noted that one may not
 pub record IsKept (ledger : Ledger) : Type 0 where
-  pub summed : ledger.summed ≡ true → IsSummed (place_at ledger.places.entries) (entries_of ledger)
+  pub summed : HasUsage ledger.places.entries (entries_of ledger)
   pub closed : AreClosed (entries_of ledger)
-  pub circular : ledger.circular ≡ true → AllEnd (tree_of (entries_of ledger)) → ⊥
+  pub ended : ledger.circular ≡ false → AllEnd (tree_of (entries_of ledger))

@@ -8,21 +8,23 @@ ghost use Rattle.hx_model.specs.Forest.{is_in, parent_of, chain_of};
 ghost use Rattle.hx_model.specs.Moves.{chain_from};
 ghost use Rattle.hx_model.specs.Walks.{walk_has};
 ghost use Rattle.hx_quota.specs.Counters.{entry_of, tree_of, with_parent, AllFit};
-ghost use Rattle.hx_quota.specs.PlaceRows.{Place, place_at};
-ghost use Rattle.hx_quota.specs.Inside.{entries_in, ordered, MayAdjust, IsAdjusted, HasUsage, IsFree, IsSummed, AllEnd};
+ghost use Rattle.hx_quota.specs.PlaceRows.{Place, place_at, IsFoundAt};
+ghost use Rattle.hx_quota.specs.Inside.{entries_in, ordered, MayAdjust, IsAdjusted, HasUsage, IsFree, ends_by, ends_up};
 ghost use Rattle.hx_quota.specs.Anew.{name_at, chain_at, chain_behind, walk_from, walk_behind};
 
 use crate::place_table::PlaceTable;
 use crate::places::Change;
 use hx_object::Text;
 
-/// Takes the sums of a namespace that gets another parent from the namespaces above it to those above that one. It takes no memory.
+/// Takes the sums of a namespace that gets another parent from the namespaces above it to those above that one. The walks up end then as before. It takes no memory.
 pub(crate) fn take_over(places: &mut PlaceTable, moved: &Text, parent: Option<&Text>)
     requires there { is_some (entry_of (ordered places.old.entries) moved.now) ≡ true }
     requires given { IfSome (option_copied parent) (λ p. is_some (entry_of (ordered places.old.entries) p) ≡ true) }
+    requires ended { ends_up (tree_of (ordered places.old.entries)) moved.now ≡ true }
+    requires ends { ends_by (length (tree_of (ordered places.old.entries))) (tree_of (ordered places.old.entries)) (option_copied parent) ≡ true }
     requires open { IsFree (tree_of (ordered places.old.entries)) moved.now (option_copied parent) }
     requires fits { AllFit (ordered places.old.entries) }
-    requires summed { IsSummed (place_at places.old.entries) (ordered places.old.entries) }
+    requires summed { HasUsage places.old.entries (ordered places.old.entries) }
     ensures entries { ordered places.new.entries ≡ ordered places.old.entries }
     ensures sums { HasUsage places.new.entries (with_parent moved.now (option_copied parent.entry) (ordered places.old.entries)) }
     ensures room { places.old.spare ≤ places.new.spare }
@@ -49,7 +51,7 @@ pub(crate) fn take_over(places: &mut PlaceTable, moved: &Text, parent: Option<&T
 
 /// Changes the sums of the namespace at an index, and of all above it. It takes no memory.
 pub(crate) fn adjust_up(places: &mut PlaceTable, first: Option<usize>, change: &Change)
-    requires ends { AllEnd (tree_of (ordered places.old.entries)) }
+    requires ends { (q : List ℕ) → is_in q (chain_at (entries_in places.old.entries) first) ≡ true → ends_up (tree_of (ordered places.old.entries)) q ≡ true }
     requires distinct { IsDistinct bytes_eq (keys_of (entries_in places.old.entries)) }
     requires may { (q : List ℕ) (p : Place) → is_in q (chain_at (entries_in places.old.entries) first) ≡ true → place_at places.old.entries q ≡ Some p → MayAdjust change.now.take change.now.give p.sums }
     ensures entries { entries_in places.new.entries ≡ entries_in places.old.entries }
@@ -84,14 +86,36 @@ pub(crate) fn passes(places: &PlaceTable, first: Option<usize>, above: &Text) ->
     false
 }
 
+/// Whether the walk up from a name, where there is one, ends at a namespace without a parent. It is at most as long as there are namespaces.
+pub(crate) fn ends(places: &PlaceTable, first: Option<&Text>) -> bool
+    ensures { result ≡ ends_by (length (tree_of (ordered places.now.entries))) (tree_of (ordered places.now.entries)) (option_copied first.entry) }
+{
+    let mut next = first;
+    let mut up = 0;
+    let mut left = count(places);
+    while left > 0 {
+        left -= 1;
+        let Some(member) = next else {
+            return true;
+        };
+        let Some(at) = index_near(places, up, member) else {
+            return false;
+        };
+        next = places.parent_at(at);
+        up = places.up_at(at);
+    }
+    next.is_none()
+}
+
 /// How many namespaces there are.
-pub(crate) fn count(places: &PlaceTable) -> usize
-    ensures { result ≡ length (tree_of (ordered places.now.entries)) }
+fn count(places: &PlaceTable) -> usize
+    ensures count { result ≡ length (tree_of (ordered places.now.entries)) }
+    ensures distinct { IsDistinct bytes_eq (keys_of places.now.entries) }
 {
     places.len()
 }
 
-/// The index of the parent of the namespace at an index. It is found without hashing, unless the parent lies elsewhere than when it was looked up.
+/// The index of the parent of the namespace at an index.
 fn parent_index(places: &PlaceTable, at: usize) -> Option<usize>
     ensures chain { chain_at (entries_in places.now.entries) result ≡ chain_behind (entries_in places.now.entries) at }
     ensures walks { (left : ℕ) (above : List ℕ) → walk_from left places.now.entries result above ≡ walk_behind left places.now.entries at above }
@@ -99,11 +123,20 @@ fn parent_index(places: &PlaceTable, at: usize) -> Option<usize>
     let Some(parent) = parent_at(places, at) else {
         return None;
     };
-    let up = places.up_at(at);
-    if is_named(places, up, parent) {
+    index_near(places, places.up_at(at), parent)
+}
+
+/// The index of a namespace. It is found without hashing, unless it lies elsewhere than when it was looked up.
+fn index_near(places: &PlaceTable, up: usize, name: &Text) -> Option<usize>
+    requires { IsDistinct bytes_eq (keys_of places.now.entries) }
+    ensures place { IsFoundAt places.now.entries name.now result }
+    ensures chain { chain_at (entries_in places.now.entries) result ≡ chain_of (tree_of (ordered places.now.entries)) name.now }
+    ensures walks { (left : ℕ) (above : List ℕ) → walk_from left places.now.entries result above ≡ walk_has left (tree_of (ordered places.now.entries)) (Some name.now) above }
+{
+    if is_named(places, up, name) {
         return Some(up);
     }
-    index_of(places, parent)
+    index_of(places, name)
 }
 
 /// Whether the namespace at an index has a name.
@@ -118,7 +151,8 @@ fn is_named(places: &PlaceTable, at: usize, name: &Text) -> bool
 
 /// The name of the parent of the namespace at an index.
 fn parent_at(places: &PlaceTable, at: usize) -> Option<&Text>
-    ensures { option_copied result ≡ option_and_then (parent_of (tree_of (ordered places.now.entries))) (name_at (entries_in places.now.entries) at) }
+    ensures parent { option_copied result ≡ option_and_then (parent_of (tree_of (ordered places.now.entries))) (name_at (entries_in places.now.entries) at) }
+    ensures distinct { IsDistinct bytes_eq (keys_of places.now.entries) }
 {
     places.parent_at(at)
 }
@@ -128,6 +162,7 @@ pub(crate) fn index_of(places: &PlaceTable, name: &Text) -> Option<usize>
     ensures chain { chain_at (entries_in places.now.entries) result ≡ chain_of (tree_of (ordered places.now.entries)) name.now }
     ensures walks { (left : ℕ) (above : List ℕ) → walk_from left places.now.entries result above ≡ walk_has left (tree_of (ordered places.now.entries)) (Some name.now) above }
     ensures distinct { IsDistinct bytes_eq (keys_of (entries_in places.now.entries)) }
+    ensures place { IsFoundAt places.now.entries name.now result }
 {
     places.index_of(name)
 }

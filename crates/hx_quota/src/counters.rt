@@ -15,7 +15,7 @@ use std::marker::Model;
 ///
 /// What all namespaces have together of a resource is below 2^128. Room is made first, and all changes are made without taking memory.
 ///
-/// The sums over subtrees are kept too, and each change goes along a chain. As long as parents go in a cycle, they aren't kept, and are formed by walks where they are asked for. The move that parts the last cycle forms them anew, in as many steps as all chains together have members; a move of a namespace that is in no cycle costs no more than elsewhere.
+/// The sums over subtrees are kept too, and each change goes along a chain. Where a walk up the parents comes to no end, in a cycle or below one, they aren't kept, and are formed by a walk from each namespace where they are asked for; all others are kept beside it. A move out of a cycle, or from below one, forms the sums anew.
 pub struct Counters {
     pub(crate) ledger: Ledger,
 }

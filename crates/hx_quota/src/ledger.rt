@@ -1,9 +1,9 @@
 // Namespaces, what they have by themselves, and with all below them.
-ghost use Rattle.std.specs.Prelude.{◌≡◌, ◌+◌, ◌≤◌, true, None, is_some, [], ◌∷◌, IfSome, OnOk};
+ghost use Rattle.std.specs.Prelude.{◌≡◌, ◌+◌, ◌≤◌, true, false, None, is_some, [], ◌∷◌, IfSome, OnOk};
 ghost use Rattle.hx_model.specs.Forest.{subtree_of};
 ghost use Rattle.hx_model.specs.declared.resource.Resource.{Resource};
 ghost use Rattle.hx_quota.specs.Counters.{entry_of, tree_of, own_in, with_entry, new_entry, without_entry, with_parent, with_shifted, sums_of, AreApart, HaveOld, AllFit};
-ghost use Rattle.hx_quota.specs.Inside.{entries_of, IsKept, AllEnd};
+ghost use Rattle.hx_quota.specs.Inside.{entries_of, IsKept, ends_up};
 
 use crate::climbing::{adjust_up, index_of, take_over};
 use crate::entry::Delta;
@@ -17,10 +17,9 @@ use std::hash::RandomState;
 
 /// Places by the names of their namespaces, in no order.
 pub(crate) struct Ledger {
+    /// With the sums of subtrees, where the walk up the parents ends at a namespace without one. Below a cycle, and in it, they aren't kept.
     pub(crate) places: PlaceTable,
-    /// The sums of the places are those of their subtrees, and each walk up the parents ends. This is lost where a move makes a cycle, and is so again after a move that leaves none.
-    pub(crate) summed: bool,
-    /// Some walk up doesn't end, so that no move of a namespace that isn't in a cycle makes the sums right again.
+    /// Some walk up may not end, so that each is made to see whether it does.
     pub(crate) circular: bool,
 }
 
@@ -28,7 +27,6 @@ impl Drop for Ledger {
     fn drop(self) {
         let Ledger {
             places: _,
-            summed: _,
             circular: _,
         } = self;
     }
@@ -42,7 +40,6 @@ impl Ledger {
     {
         Ledger {
             places: PlaceTable::new(alloc, keys),
-            summed: true,
             circular: false,
         }
     }
@@ -77,7 +74,6 @@ impl Ledger {
         ensures room { self.old.places.spare ≤ self.new.places.spare }
         ensures kept { IsKept self.old → IsKept self.new }
     {
-        self.circular = self.stays_circular(ns);
         self.places.swap_remove(ns);
     }
 
@@ -92,18 +88,19 @@ impl Ledger {
         ensures room { self.old.places.spare ≤ self.new.places.spare }
         ensures kept { IsKept self.new }
     {
+        let ends = self.ends(Some(ns));
         let Some(change) = shift_own(&mut self.places, ns, deltas) else {
             return;
         };
-        if self.summed {
+        if ends {
             let first = index_of(&self.places, ns);
             adjust_up(&mut self.places, first, &change);
         }
     }
 
-    /// Gives a namespace another parent, or none, and takes what it has with all below it from the namespaces that were above it to those that are.
+    /// Gives a namespace another parent, or none, and takes what it has with all below it from the namespaces that were above it to those that are. It takes no memory.
     ///
-    /// Where that parts or makes a cycle, all sums are formed anew, if each walk up the parents ends then. It takes as many steps as all chains together have members, and no memory. Beside a cycle that stays no sums are kept, and none are formed.
+    /// Where it comes out of a cycle, or from below one, all sums are formed anew, in as many steps as all chains together have members, and as all walks that come to no end have.
     pub(crate) fn move_subtree(&mut self, moved: &Text, parent: Option<Text>)
         requires there { is_some (entry_of (entries_of self.old) moved.now) ≡ true }
         requires given { IfSome parent (λ p. is_some (entry_of (entries_of self.old) p) ≡ true) }
@@ -112,19 +109,36 @@ impl Ledger {
         ensures entries { entries_of self.new ≡ with_parent moved.now parent (entries_of self.old) }
         ensures room { self.old.places.spare ≤ self.new.places.spare }
         ensures kept { IsKept self.new }
-        ensures again { AllEnd (tree_of (entries_of self.new)) → self.new.summed ≡ true }
     {
-        if self.stays_circular(moved) {
-            set_parent(&mut self.places, moved, parent);
+        if !self.ends(Some(moved)) {
+            self.move_endless(moved, parent);
             return;
         }
-        if self.is_plain_move(moved, parent.as_ref()) {
+        if self.stays_ended(moved, parent.as_ref()) {
             take_over(&mut self.places, moved, parent.as_ref());
             set_parent(&mut self.places, moved, parent);
         } else {
+            take_over(&mut self.places, moved, None);
             set_parent(&mut self.places, moved, parent);
+            self.circular = true;
+        }
+    }
+
+    /// The same where the walk up comes to no end before.
+    fn move_endless(&mut self, moved: &Text, parent: Option<Text>)
+        requires there { is_some (entry_of (entries_of self.old) moved.now) ≡ true }
+        requires given { IfSome parent (λ p. is_some (entry_of (entries_of self.old) p) ≡ true) }
+        requires fits { AllFit (entries_of self.old) }
+        requires kept { IsKept self.old }
+        requires endless { ends_up (tree_of (entries_of self.old)) moved.now ≡ false }
+        ensures entries { entries_of self.new ≡ with_parent moved.now parent (entries_of self.old) }
+        ensures room { self.old.places.spare ≤ self.new.places.spare }
+        ensures kept { IsKept self.new }
+    {
+        let ends = self.ends(parent.as_ref());
+        set_parent(&mut self.places, moved, parent);
+        if ends {
             let ended = form_anew(&mut self.places);
-            self.summed = ended;
             self.circular = !ended;
         }
     }

@@ -1,30 +1,54 @@
 // Walks up the parents, and what namespaces have with all below them.
-ghost use Rattle.std.specs.Prelude.{◌≡◌, ◌&&◌, not, false, option_copied, slice_get};
+ghost use Rattle.std.specs.Prelude.{◌≡◌, ◌&&◌, not, true, false, is_some, length, option_copied, slice_get, IfSome};
 ghost use Rattle.std.specs.Option.{option_map_or};
-ghost use Rattle.hx_model.specs.Forest.{in_chain, parent_of, comes_back};
-ghost use Rattle.hx_quota.specs.Counters.{tree_of, part_of, used_in, AllFit};
-ghost use Rattle.hx_quota.specs.Inside.{entries_in, entries_of, IsKept, is_plain_move};
+ghost use Rattle.hx_model.specs.Forest.{in_chain};
+ghost use Rattle.hx_quota.specs.Counters.{entry_of, tree_of, part_of, used_in, AllFit};
+ghost use Rattle.hx_quota.specs.Inside.{entries_in, entries_of, IsKept, ends_by};
 
-use crate::climbing::{index_of, passes};
+use crate::climbing::{ends, index_of, passes};
 use crate::entry::place_of;
 use crate::ledger::Ledger;
 use hx_model::Resource;
 use hx_object::Text;
 
 impl Ledger {
-    /// What a namespace has of a resource with all below it.
+    /// What a namespace has of a resource with all below it. It is read where the walk up ends, and else is summed up by a walk from each namespace.
     pub(crate) fn used(&self, ns: &Text, resource: Resource) -> u128
         requires fits { AllFit (entries_of self.now) }
         requires kept { IsKept self.now }
         ensures { result ≡ used_in (entries_of self.now) ns.now resource }
     {
-        if !self.summed {
+        let Some(at) = self.places.index_of(ns) else {
+            return 0;
+        };
+        if !self.ends(Some(ns)) {
             return self.used_by_walks(ns, resource);
         }
-        match self.places.index_of(ns) {
-            Some(at) => self.places.sum_at(at, place_of(resource)),
-            None => 0,
+        self.places.sum_at(at, place_of(resource))
+    }
+
+    /// Whether the walk up from a namespace, where there is one, ends at one without a parent. No walk is made where all do.
+    pub(crate) fn ends(&self, first: Option<&Text>) -> bool
+        requires there { IfSome (option_copied first) (λ n. is_some (entry_of (entries_of self.now) n) ≡ true) }
+        requires kept { IsKept self.now }
+        ensures ends { result ≡ ends_by (length (tree_of (entries_of self.now))) (tree_of (entries_of self.now)) (option_copied first.entry) }
+        ensures known { result ≡ false → self.now.circular ≡ true }
+    {
+        if !self.circular {
+            return true;
         }
+        ends(&self.places, first)
+    }
+
+    /// Whether it does where a namespace has another parent, from which it did.
+    pub(crate) fn stays_ended(&self, moved: &Text, parent: Option<&Text>) -> bool
+        requires given { IfSome (option_copied parent) (λ p. is_some (entry_of (entries_of self.now) p) ≡ true) }
+        requires kept { IsKept self.now }
+        ensures { result ≡ (ends_by (length (tree_of (entries_of self.now))) (tree_of (entries_of self.now)) (option_copied parent.entry) && not (option_map_or (λ p. in_chain (tree_of (entries_of self.now)) p moved.now) (option_copied parent.entry) false)) }
+    {
+        let ends = self.ends(parent);
+        let makes_cycle = self.is_above(parent, moved);
+        ends && !makes_cycle
     }
 
     /// The same, by a walk up from each namespace.
@@ -53,36 +77,6 @@ impl Ledger {
         match self.places.own_at(at) {
             Some(own) => own[place_of(resource)],
             None => 0,
-        }
-    }
-
-    /// Whether a cycle is known that isn't through a namespace, and so stays where that one moves or goes.
-    pub(crate) fn stays_circular(&self, ns: &Text) -> bool
-        ensures { result ≡ (self.now.circular && not (comes_back (tree_of (entries_of self.now)) ns.now)) }
-    {
-        if !self.circular {
-            return false;
-        }
-        let is_in_cycle = self.is_in_cycle(ns);
-        !is_in_cycle
-    }
-
-    /// Whether the sums of places are those of subtrees, and a move neither parts nor makes a cycle.
-    pub(crate) fn is_plain_move(&self, moved: &Text, parent: Option<&Text>) -> bool
-        ensures { result ≡ (self.now.summed && is_plain_move (entries_of self.now) moved.now (option_copied parent.entry)) }
-    {
-        let is_in_cycle = self.is_in_cycle(moved);
-        let makes_cycle = self.is_above(parent, moved);
-        self.summed && (!is_in_cycle && !makes_cycle)
-    }
-
-    /// Whether the parent of a namespace has it in its chain.
-    fn is_in_cycle(&self, ns: &Text) -> bool
-        ensures { result ≡ option_map_or (λ p. in_chain (tree_of (entries_of self.now)) p ns.now) (parent_of (tree_of (entries_of self.now)) ns.now) false }
-    {
-        match self.places.index_of(ns) {
-            Some(at) => self.is_above(self.places.parent_at(at), ns),
-            None => false,
         }
     }
 

@@ -7,8 +7,8 @@ use Rattle.hx_quota.proofs.Sums.{length-entries}
 use Rattle.hx_quota.proofs.Trees.{tree_length}
 use Rattle.hx_quota.proofs.climbing.count.Goals as goal
 
-pub returns : goal.returns
-returns c =
+pub returns-clause-count : goal.returns-clause-count
+returns-clause-count c =
     let places = c.args.places.now.entries in
     c.len.ensures.len
     ∙ sym (tree_length (ordered places) ∙ length-entries (entries_in places) (subst (λ (ks : List (List ℕ)). IsDistinct bytes_eq ks) (sym (same_keys places)) c.len.ensures.distinct) ∙ same_count places)

@@ -7,7 +7,7 @@ use Rattle.hx_quota.proofs.Trees.{goes_on, has_come}
 use Rattle.hx_quota.proofs.climbing.passes.Goals as goal
 
 pub loop-left-init : goal.loop-left-init
-loop-left-init c = ap (λ left. walk_from left c.args.places.now.entries c.args.first c.args.above.now) c.count-left.ensures
+loop-left-init c = ap (λ left. walk_from left c.args.places.now.entries c.args.first c.args.above.now) c.count-left.ensures.count
 
 pub returns-then-is_named : goal.returns-then-is_named
 returns-then-is_named c =

@@ -5,8 +5,8 @@ use Rattle.hx_quota.specs.PlaceRows.{Place, new_place, place_at}
 use Rattle.hx_quota.proofs.Indexed.{place_added}
 use Rattle.hx_quota.specs.Counters.{Entries, tree_of}
 use Rattle.hx_quota.specs.Inside.{entries_of, AreClosed, AllEnd}
-use Rattle.hx_quota.proofs.Circling.{ended_added}
 use Rattle.hx_quota.proofs.Keeping.{summed_added}
+use Rattle.hx_quota.proofs.Lasting.{ends_added}
 use Rattle.hx_quota.proofs.UsedSums.{closed_added}
 use Rattle.hx_quota.proofs.Placed.{entry_in, entry_at, put_places}
 use Rattle.hx_quota.proofs.ledger.Ledger.add.Goals as goal
@@ -29,7 +29,7 @@ returns-clause-kept c = λ kept.
     let es = entries_of c.args.self.now in
     let new = returns-clause-entries c in
     record {
-      summed = λ up. summed_added c.args.self.now.places.entries c.insert.new.self.entries c.args.ns new_place c.requires.absent refl (looks c) new (kept.summed up);
+      summed = summed_added c.args.self.now.places.entries c.insert.new.self.entries c.args.ns new_place c.requires.absent refl (looks c) new kept.closed kept.summed;
       closed = subst (λ (xs : Entries). AreClosed xs) (sym new) (closed_added es c.args.ns c.requires.absent kept.closed);
-      circular = λ known all. kept.circular known (ended_added es c.args.ns c.requires.absent kept.closed (subst (λ (xs : Entries). AllEnd (tree_of xs)) new all));
+      ended = λ none. subst (λ (xs : Entries). AllEnd (tree_of xs)) (sym new) (ends_added es c.args.ns c.requires.absent (kept.ended none));
     }

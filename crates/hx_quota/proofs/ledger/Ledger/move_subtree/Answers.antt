@@ -1,68 +1,50 @@
-use Rattle.std.proofs.Common.{◌≡◌, ◌&&◌, true, rules, not, Option, List, ℕ, option_copied, ap, sym, subst, ◌∙◌, true≢false}
+use Rattle.std.proofs.Common.{◌≡◌, ◌&&◌, false, not, Option, List, ℕ, length, option_copied, ap, sym, subst, ◌∙◌, true≢false}
+use Rattle.std.specs.Option.{option_map_or}
 use Rattle.std.proofs.lemmas.Bool.{and_parts, not-true}
-use Rattle.hx_model.specs.Forest.{comes_back}
-use Rattle.hx_quota.specs.Counters.{Entries, tree_of, with_parent}
-use Rattle.hx_quota.specs.Inside.{entries_of, ordered, HasUsage, IsFree, AllEnd, is_plain_move}
-use Rattle.hx_quota.proofs.Circling.{ended_moved}
-use Rattle.hx_quota.proofs.Fitting.{fits_moved}
-use Rattle.hx_quota.proofs.Keeping.{summed_moved, closed_by_move}
+use Rattle.hx_model.specs.Forest.{Forest, in_chain}
+use Rattle.hx_quota.specs.Counters.{tree_of, with_parent}
+use Rattle.hx_quota.specs.Inside.{entries_of, ordered, HasUsage, IsFree, ends_by, ends_up}
+use Rattle.hx_quota.proofs.Ended.{endless}
+use Rattle.hx_quota.proofs.Keeping.{summed_moved, usage_taken, closed_by_move, ended_by_move}
+use Rattle.hx_quota.proofs.Moved.{tree_moved}
+use Rattle.hx_quota.proofs.UsedSums.{in_tree}
 use Rattle.hx_quota.proofs.ledger.Ledger.move_subtree.Goals as goal
 
-pub returns-then-is_plain_move-clause-kept : goal.returns-then-is_plain_move-clause-kept
-returns-then-is_plain_move-clause-kept c =
+pub returns-then-stays_ended-clause-kept : goal.returns-then-stays_ended-clause-kept
+returns-then-stays_ended-clause-kept c =
     let es = entries_of c.args.self.now in
+    let f = tree_of es in
     let old = c.args.self.now.places.entries in
     let mid = c.take_over.new.places.entries in
+    let new = c.set_parent.new.places.entries in
     let n = c.args.moved.now in
-    let given = c.as_ref-then-is_plain_move.ensures.value in
-    let plain : c.args.self.now.summed && is_plain_move es n (option_copied c.as_ref.result) ≡ true = sym c.is_plain_move.ensures ∙ c.if-is_plain_move.true in
-    let apart : IsFree (tree_of es) n (option_copied c.as_ref-then-is_plain_move.result) = search rules in
-    let free : IsFree (tree_of es) n c.args.parent = subst (λ (o : Option (List ℕ)). IsFree (tree_of es) n o) given apart in
-    let usage : HasUsage mid (with_parent n c.args.parent es) = subst (λ (o : Option (List ℕ)). HasUsage mid (with_parent n o es)) given c.take_over.ensures.sums in
-    let moved = c.set_parent-then-is_plain_move.ensures.entries ∙ ap (with_parent n c.args.parent) c.take_over.ensures.entries in
+    let parent = c.args.parent in
+    let on = option_map_or (λ p. in_chain f p n) (option_copied c.as_ref.result) false in
+    let parts = and_parts (ends_by (length f) f (option_copied c.as_ref.result)) (not on) (sym c.stays_ended.ensures ∙ c.if-stays_ended.true) in
+    let free : IsFree f n parent = subst (λ (o : Option (List ℕ)). IsFree f n o) c.as_ref.ensures.value (not-true on parts.1) in
+    let usage : HasUsage mid (with_parent n parent es) = subst (λ (o : Option (List ℕ)). HasUsage mid (with_parent n o es)) c.as_ref-then-stays_ended.ensures.value c.take_over.ensures.sums in
+    let moved = c.set_parent.ensures.entries ∙ ap (with_parent n parent) c.take_over.ensures.entries in
     record {
-      summed = λ up. summed_moved old mid c.set_parent-then-is_plain_move.new.places.entries n c.args.parent c.requires.there c.requires.given free c.take_over.ensures.entries usage c.set_parent-then-is_plain_move.ensures.entries c.set_parent-then-is_plain_move.ensures.sums (c.requires.kept.summed up);
-      closed = closed_by_move es (ordered c.set_parent-then-is_plain_move.new.places.entries) n c.args.parent c.requires.there c.requires.given moved c.requires.kept.closed;
-      circular = λ known all.
-          let up = (and_parts c.args.self.now.summed (is_plain_move es n (option_copied c.as_ref.result)) plain).0 in
-          c.requires.kept.circular known (c.requires.kept.summed up).ends;
+      summed = summed_moved old mid new n parent c.take_over.ensures.entries usage c.set_parent.ensures.entries c.set_parent.ensures.sums;
+      closed = closed_by_move es (ordered new) n parent c.requires.there c.requires.given moved c.requires.kept.closed;
+      ended = λ none. ended_by_move es (ordered new) n parent c.requires.there c.requires.given free moved (c.requires.kept.ended none);
     }
 
-pub form_anew-ended-requires : goal.form_anew-ended-requires
-form_anew-ended-requires c = fits_moved (entries_of c.args.self.now) (ordered c.set_parent-else-is_plain_move.new.places.entries) c.args.moved.now c.args.parent c.set_parent-else-is_plain_move.ensures.entries c.requires.fits
-
-pub returns-else-is_plain_move-clause-again : goal.returns-else-is_plain_move-clause-again
-returns-else-is_plain_move-clause-again c = λ all. c.form_anew-ended.ensures.again (subst (λ (es : Entries). AllEnd (tree_of es)) c.form_anew-ended.ensures.entries all)
-
--- not all walks end where a cycle stays
-stays : (c : goal.After-set_parent) → AllEnd (tree_of (ordered c.set_parent.new.places.entries)) → ⊥
-stays c all =
+pub returns-else-stays_ended-clause-kept : goal.returns-else-stays_ended-clause-kept
+returns-else-stays_ended-clause-kept c =
     let es = entries_of c.args.self.now in
+    let f = tree_of es in
+    let old = c.args.self.now.places.entries in
+    let mid = c.take_over-else-stays_ended.new.places.entries in
+    let new = c.set_parent-else-stays_ended.new.places.entries in
     let n = c.args.moved.now in
-    let parts = and_parts c.args.self.now.circular (not (comes_back (tree_of es) n)) (sym c.stays_circular.ensures ∙ c.if-stays_circular.true) in
-    let ended = ended_moved es n c.args.parent (not-true (comes_back (tree_of es) n) parts.1) c.requires.kept.closed in
-    c.requires.kept.circular parts.0 (ended (subst (λ (xs : Entries). AllEnd (tree_of xs)) c.set_parent.ensures.entries all))
-
-pub returns-then-stays_circular-clause-kept : goal.returns-then-stays_circular-clause-kept
-returns-then-stays_circular-clause-kept c =
-    let es = entries_of c.args.self.now in
-    let parts = and_parts c.args.self.now.circular (not (comes_back (tree_of es) c.args.moved.now)) (sym c.stays_circular.ensures ∙ c.if-stays_circular.true) in
+    let parent = c.args.parent in
+    let moved = c.set_parent-else-stays_ended.ensures.entries ∙ ap (with_parent n parent) c.take_over-else-stays_ended.ensures.entries in
+    let no_end : ends_up (tree_of (with_parent n parent es)) n ≡ false =
+    ap (λ (t : Forest). ends_up t n) (tree_moved n parent es)
+    ∙ endless f n parent (in_tree es n ∙ c.requires.there) (ap (λ (o : Option (List ℕ)). ends_by (length f) f o && not (option_map_or (λ p. in_chain f p n) o false)) (sym c.as_ref.ensures.value) ∙ sym c.stays_ended.ensures ∙ c.if-stays_ended.false) in
     record {
-      summed = λ up. absurd (c.requires.kept.circular parts.0 (c.requires.kept.summed up).ends);
-      closed = closed_by_move es (ordered c.set_parent.new.places.entries) c.args.moved.now c.args.parent c.requires.there c.requires.given c.set_parent.ensures.entries c.requires.kept.closed;
-      circular = λ known. stays c;
-    }
-
-pub returns-then-stays_circular-clause-again : goal.returns-then-stays_circular-clause-again
-returns-then-stays_circular-clause-again c = λ all. absurd (stays c all)
-
-pub returns-else-is_plain_move-clause-kept : goal.returns-else-is_plain_move-clause-kept
-returns-else-is_plain_move-clause-kept c =
-    let formed = c.form_anew-ended.ensures in
-    let moved = formed.entries ∙ c.set_parent-else-is_plain_move.ensures.entries in
-    let ended = c.form_anew-ended.result in
-    record {
-      summed = formed.summed;
-      closed = closed_by_move (entries_of c.args.self.now) (ordered c.form_anew-ended.new.places.entries) c.args.moved.now c.args.parent c.requires.there c.requires.given moved c.requires.kept.closed;
-      circular = λ known all. true≢false (sym (formed.again (subst (λ (xs : Entries). AllEnd (tree_of xs)) formed.entries all)) ∙ not-true ended known);
+      summed = summed_moved old mid new n parent c.take_over-else-stays_ended.ensures.entries (usage_taken mid es n parent c.requires.there no_end c.take_over-else-stays_ended.ensures.sums) c.set_parent-else-stays_ended.ensures.entries c.set_parent-else-stays_ended.ensures.sums;
+      closed = closed_by_move es (ordered new) n parent c.requires.there c.requires.given moved c.requires.kept.closed;
+      ended = λ none. absurd (true≢false none);
     }

@@ -1,10 +1,8 @@
-use Rattle.std.proofs.Common.{not, sym, subst, ◌∙◌}
-use Rattle.std.proofs.lemmas.Bool.{and_parts, not-true}
-use Rattle.hx_model.specs.Forest.{comes_back}
+use Rattle.std.proofs.Common.{sym, subst}
 use Rattle.hx_quota.specs.Counters.{Entries, tree_of}
 use Rattle.hx_quota.specs.Inside.{entries_of, AreClosed, AllEnd}
-use Rattle.hx_quota.proofs.Circling.{ended_removed}
 use Rattle.hx_quota.proofs.Keeping.{summed_removed}
+use Rattle.hx_quota.proofs.Lasting.{ends_removed}
 use Rattle.hx_quota.proofs.Placed.{cut_places}
 use Rattle.hx_quota.proofs.UsedSums.{closed_removed}
 use Rattle.hx_quota.proofs.ledger.Ledger.remove.Goals as goal
@@ -21,9 +19,7 @@ returns-clause-kept c = λ kept.
     let updates = c.swap_remove.ensures.places in
     let less = cut_places new old ns updates in
     record {
-      summed = λ up. summed_removed old new ns c.requires.there c.requires.nothing c.requires.alone updates less (kept.summed up);
+      summed = summed_removed old new ns c.requires.there c.requires.nothing c.requires.alone updates less kept.closed kept.summed;
       closed = subst (λ (xs : Entries). AreClosed xs) (sym less) (closed_removed es ns c.requires.alone c.requires.there kept.closed);
-      circular = λ known all.
-          let parts = and_parts c.args.self.now.circular (not (comes_back (tree_of es) ns)) (sym c.stays_circular-self.ensures ∙ known) in
-          kept.circular parts.0 (ended_removed es ns c.requires.alone c.requires.there (not-true (comes_back (tree_of es) ns) parts.1) kept.closed (subst (λ (xs : Entries). AllEnd (tree_of xs)) less all));
+      ended = λ none. subst (λ (xs : Entries). AllEnd (tree_of xs)) (sym less) (ends_removed es ns c.requires.alone c.requires.there (kept.ended none));
     }

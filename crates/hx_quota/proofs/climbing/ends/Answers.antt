@@ -7,20 +7,23 @@ use Rattle.hx_quota.specs.Inside.{ordered, ends_by}
 use Rattle.hx_quota.proofs.Ending.{ends_on, ends_out, ends_top}
 use Rattle.hx_quota.proofs.Placed.{entry_in, entry_at}
 use Rattle.hx_quota.proofs.Trees.{node_of-tree}
-use Rattle.hx_quota.proofs.forming.ends.Goals as goal
+use Rattle.hx_quota.proofs.climbing.ends.Goals as goal
 
 pub loop-left-init : goal.loop-left-init
-loop-left-init c = ap (λ left. ends_by left (tree_of (ordered c.args.places.now.entries)) (option_copied c.args.first)) c.count-left.ensures
+loop-left-init c = ap (λ left. ends_by left (tree_of (ordered c.args.places.now.entries)) (option_copied c.args.first)) c.count-left.ensures.count
+
+pub index_near-requires : goal.index_near-requires
+index_near-requires c = c.count-left.ensures.distinct
 
 pub returns-in_default : goal.returns-in_default
 returns-in_default c = sym (ends_top c.loop-left.left (tree_of (ordered c.args.places.now.entries)) (option_copied c.loop-left.next) (ap option_copied c.in_default.is)) ∙ c.loop-left.invariant
 
-pub returns-in_default-index_of : goal.returns-in_default-index_of
-returns-in_default-index_of c =
+pub returns-in_default-index_near : goal.returns-in_default-index_near
+returns-in_default-index_near c =
     let places = c.args.places.now.entries in
     let es = ordered places in
     let member = c.in-Some.member.now in
-    let away : place_at places member ≡ None = subst (λ (o : Option ℕ). IsFoundAt places member o) c.in_default-index_of.is c.index_of.ensures.place in
+    let away : place_at places member ≡ None = subst (λ (o : Option ℕ). IsFoundAt places member o) c.in_default-index_near.is c.index_near.ensures.place in
     let none : entry_of es member ≡ None = entry_at places member ∙ ap entry_in away in
     let out : is_there (tree_of es) member ≡ false = ap is_some (node_of-tree es member ∙ ap (option_map node_for) none) in
     sym (ends_out c.loop-left.left (tree_of es) (option_copied c.loop-left.next) member (ap option_copied c.in-Some.is) out) ∙ c.loop-left.invariant
@@ -31,7 +34,7 @@ loop-left-preserved c =
     let es = ordered places in
     let f = tree_of es in
     let member = c.in-Some.member.now in
-    let lies : IsFoundAt places member (Some c.in-Some-index_of.at) = subst (λ (o : Option ℕ). IsFoundAt places member o) c.in-Some-index_of.is c.index_of.ensures.place in
+    let lies : IsFoundAt places member (Some c.in-Some-index_near.at) = subst (λ (o : Option ℕ). IsFoundAt places member o) c.in-Some-index_near.is c.index_near.ensures.place in
     let entry = lies.0.entry in
     let left = c.loop-left.left in
     let found : entry_of es member ≡ Some entry = entry_at places member ∙ ap entry_in lies.2 in

@@ -1,7 +1,7 @@
 use Rattle.std.specs.Prelude.{◌≡◌, length, option_copied}
 use Rattle.hx_quota.specs.Counters.{tree_of}
 use Rattle.hx_quota.specs.Inside.{ordered, ends_by}
-use Rattle.hx_quota.proofs.forming.ends.Given as goal
+use Rattle.hx_quota.proofs.climbing.ends.Given as goal
 
 -- what is left of the walk ends exactly where the whole does
 abbrev pub invariant-loop-left : goal.invariant-loop-left
