@@ -1,6 +1,7 @@
 -- Places by their indices.
 --     entry_index, found_index      the entry at an index is that of the place, which is found under its name
 --     entries_with, place_changed, place_with      entries and places where one is changed, and where it has other sums
+--     same_index                    a name lies at one index
 --     kept_sums                     sums that stay
 --     place_added                   a place that is added
 --     index_found                   the index of a name has that name
@@ -46,6 +47,17 @@ apart_index : (a : List ℕ) (places : Places) (i : ℕ) (m : List ℕ) (p : Pla
 apart_index a [] i m p apart is = absurd (none-some {A = Row} (m, p) is)
 apart_index a (e ∷ places) zero m p apart is = ap (λ (x : Row). bytes_eq a x.0) (sym (same_Some {A = Row} e (m, p) is)) ∙ apart.0
 apart_index a (e ∷ places) (suc i) m p apart is = apart_index a places i m p apart.1 is
+
+pub same_index : (places : Places) (i j : ℕ) (n : List ℕ) (p r : Place) → IsDistinct bytes_eq (keys_of places) → slice_get places i ≡ Some (n, p) → slice_get places j ≡ Some (n, r) → i ≡ j
+same_index [] i j n p r distinct is there = absurd (none-some {A = Row} (n, p) is)
+same_index (e ∷ places) zero zero n p r distinct is there = refl
+same_index (e ∷ places) zero (suc j) n p r distinct is there =
+    let apart = apart_index e.0 places j n r (IsDistinct-head bytes_eq e.0 (keys_of places) distinct) there in
+    absurd (true≢false (sym (same_itself n) ∙ ap (λ (x : Row). bytes_eq x.0 n) (sym (same_Some {A = Row} e (n, p) is)) ∙ apart))
+same_index (e ∷ places) (suc i) zero n p r distinct is there =
+    let apart = apart_index e.0 places i n p (IsDistinct-head bytes_eq e.0 (keys_of places) distinct) is in
+    absurd (true≢false (sym (same_itself n) ∙ ap (λ (x : Row). bytes_eq x.0 n) (sym (same_Some {A = Row} e (n, r) there)) ∙ apart))
+same_index (e ∷ places) (suc i) (suc j) n p r distinct is there = ap (λ k. suc k) (same_index places i j n p r (IsDistinct-tail bytes_eq e.0 (keys_of places) distinct) is there)
 
 pub place_changed : (at : ℕ) (change : Place → Place) (places : Places) (m : List ℕ) (p : Place) → IsDistinct bytes_eq (keys_of places) → slice_get places at ≡ Some (m, p)
     → (q : List ℕ) → place_at (changed_at at change places) q ≡ cond (bytes_eq m q) (Some (change p)) (place_at places q)

@@ -8,7 +8,7 @@
 --     table_linked, table_shifted             the lists stay equally long
 --     has_adjusted, none_adjusted             the sums at an index are adjusted
 --     no_lookup, table_pushed, joined_push    a place that comes
---     place_out, place_absent, table_out      one that goes
+--     place_out, links_out, place_absent, table_out      one that goes
 use Rattle.std.specs.Prelude.{is_some, option_and_then, position, slice_get, slice_set, swap_remove, take, get_or, IfSome}
 use Rattle.std.proofs.Common.{◌≡◌, ℕ, zero, suc, ◌+◌, ◌-◌, ◌<◌, ◌≤◌, true, false, cond, Option, Some, None, option_copied, option_map, List, [], ◌∷◌, ◌++◌, length, refl, sym, ap, subst, ◌∙◌, arith, true≢false}
 use Rattle.std.specs.Borrow.{Bor}
@@ -22,8 +22,7 @@ use Rattle.std.proofs.lemmas.List.{length-append, length-take, length-set}
 use Rattle.std.proofs.lemmas.Option.{none-some, same_Some, slice_get-get_or, slice_get_past, slice_get_read}
 use Rattle.indexmap.specs.IndexMap.{set_value_at}
 use Rattle.indexmap.proofs.RemoveLemmas.{swap_out, none_out}
-use Rattle.hx_quota.specs.declared.place_table.Link.{Link}
-use Rattle.hx_quota.specs.PlaceRows.{Place, Places, Links, Rows, first_row, behind, place_of_parts, joined, changed_row, IsTable, place_at, new_place, IsFoundAt}
+use Rattle.hx_quota.specs.PlaceRows.{Place, Places, Link, Links, Rows, first_row, behind, place_of_parts, joined, changed_row, IsTable, place_at, new_place, IsFoundAt}
 use Rattle.hx_quota.specs.Counters.{Entry}
 use Rattle.hx_quota.specs.Inside.{entries_in}
 use Rattle.hx_quota.specs.Anew.{changed_at, name_at, with_sums, with_parent_at, HasAdjusted}
@@ -44,7 +43,7 @@ abbrev pub Row : Type 0
 Row = List ℕ × Place
 
 abbrev pub link_of : Place → Link
-link_of p = record { up = p.up; parent = p.entry.parent }
+link_of p = p.entry.parent
 
 own_joined : (links : Links) (owns sums : Rows) → length owns ≡ length links → (at : ℕ) → option_map (λ (e : Row). e.1.entry.own) (slice_get (joined links owns sums) at) ≡ slice_get owns at
 own_joined [] [] sums same at = refl
@@ -65,7 +64,7 @@ name_joined [] owns sums at = refl
 name_joined (e ∷ links) owns sums zero = refl
 name_joined (e ∷ links) owns sums (suc at) = name_joined links (behind owns) (behind sums) at
 
-pub parent_joined : (links : Links) (owns sums : Rows) (at : ℕ) → option_and_then (λ (e : Row). e.1.entry.parent) (slice_get (joined links owns sums) at) ≡ option_and_then (λ (e : List ℕ × Link). e.1.parent) (slice_get links at)
+pub parent_joined : (links : Links) (owns sums : Rows) (at : ℕ) → option_and_then (λ (e : Row). e.1.entry.parent) (slice_get (joined links owns sums) at) ≡ option_and_then (λ (e : List ℕ × Link). e.1) (slice_get links at)
 parent_joined [] owns sums at = refl
 parent_joined (e ∷ links) owns sums zero = refl
 parent_joined (e ∷ links) owns sums (suc at) = parent_joined links (behind owns) (behind sums) at
@@ -96,7 +95,7 @@ own_such P links owns sums same at each own is = by (slice_get (joined links own
 
 -- ---- what is found under a name
 
-lookup_joined : (links : Links) (owns sums : Rows) (q : List ℕ) → option_map (λ (p : Place). link_of p) (place_at (joined links owns sums) q) ≡ lookup (bytes_eq q) links
+pub lookup_joined : (links : Links) (owns sums : Rows) (q : List ℕ) → option_map (λ (p : Place). link_of p) (place_at (joined links owns sums) q) ≡ lookup (bytes_eq q) links
 lookup_joined [] owns sums q = refl
 lookup_joined (e ∷ links) owns sums q = elim (bytes_eq q e.0) as (λ b. option_map (λ (p : Place). link_of p) (cond b (Some (place_of_parts e.1 (first_row owns) (first_row sums))) (place_at (joined links (behind owns) (behind sums)) q)) ≡ cond b (Some e.1) (lookup (bytes_eq q) links)) [
   | true ↦ refl
@@ -136,7 +135,7 @@ found_at places n (Some i) distinct is found within =
 
 -- ---- a change at an index
 
-pub joined_link : (links : Links) (owns sums : Rows) (at : ℕ) (link : Link) → joined (set_value_at links at link) owns sums ≡ with_parent_at at link.parent link.up (joined links owns sums)
+pub joined_link : (links : Links) (owns sums : Rows) (at : ℕ) (link : Link) → joined (set_value_at links at link) owns sums ≡ with_parent_at at link (joined links owns sums)
 joined_link [] owns sums at link = refl
 joined_link (e ∷ links) owns sums zero link = refl
 joined_link (e ∷ links) owns sums (suc at) link = ap (λ xs. (e.0, place_of_parts e.1 (first_row owns) (first_row sums)) ∷ xs) (joined_link links (behind owns) (behind sums) at link)
@@ -269,7 +268,7 @@ joined_get (l ∷ links) (o ∷ owns) [] as_owns as_sums at within e own whole r
 joined_get (l ∷ links) (o ∷ owns) (s ∷ sums) as_owns as_sums zero within e own whole row = refl
 joined_get (l ∷ links) (o ∷ owns) (s ∷ sums) as_owns as_sums (suc at) within e own whole row = joined_get links owns sums (omega (arith, as_owns)) (omega (arith, as_sums)) at (omega (arith, within)) e own whole row
 
-length_swap : {X : Type 0} (xs : List X) (at : ℕ) (x : X) → at < length xs → length (swap_remove xs at x) + 1 ≡ length xs
+pub length_swap : {X : Type 0} (xs : List X) (at : ℕ) (x : X) → at < length xs → length (swap_remove xs at x) + 1 ≡ length xs
 length_swap xs at x within =
     let last = get_or xs (length xs - 1) x in
     let cut = length-take (length xs - 1) (slice_set xs at last) in
@@ -302,6 +301,10 @@ module _ (links : Links) (owns sums : Rows) (is : IsTable links owns sums) (n : 
       let out = swap_out bytes_eq nat_list_eq_equiv (bytes_eq n) (nat_list_eq_equiv.congr n) places at row (ap (position (bytes_eq n)) keys ∙ sym index) there (subst (λ (ks : List (List ℕ)). IsDistinct bytes_eq ks) (sym keys) is.distinct)
       (joined (swap_remove links at e) (swap_remove owns at own) (swap_remove sums at whole)) (joined_swap at within e own whole row) in
       out.updated.0 q
+
+  -- and the links
+  pub links_out : (at : ℕ) → Some at ≡ position (bytes_eq n) (keys_of links) → (e : List ℕ × Link) → slice_get links at ≡ Some e → (q : List ℕ) → lookup (bytes_eq q) (swap_remove links at e) ≡ cond (bytes_eq n q) None (lookup (bytes_eq q) links)
+  links_out at index e there q = (swap_out bytes_eq nat_list_eq_equiv (bytes_eq n) (nat_list_eq_equiv.congr n) links at e (sym index) there is.distinct (swap_remove links at e) refl).updated.0 q
 
   -- one that isn't there
   pub place_absent : None ≡ position (bytes_eq n) (keys_of links) → (q : List ℕ) → place_at (joined links owns sums) q ≡ cond (bytes_eq n q) None (place_at (joined links owns sums) q)

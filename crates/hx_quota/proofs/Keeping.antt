@@ -1,21 +1,23 @@
 -- The sums of places are those of subtrees after a change.
+--     no_child, no_other_child                        whose parent one isn't
 --     summed_added, summed_removed, summed_moved      after one comes, goes or moves
 --     usage_set, usage_taken                          after one gets a parent from which no walk up ends
 --     closed_by_shift, closed_by_move                 all parents are there after one gets other sums, or another parent
 --     ended_by_shift, ended_by_move                   all walks up end then
 --     all_ends                                        where all do, that from a name ends
-use Rattle.std.specs.Prelude.{slice_index, is_some, IfSome, sum_by}
-use Rattle.std.proofs.Common.{◌≡◌, ℕ, Bool, true, false, cond, Option, Some, None, List, [], ◌∷◌, length, replicate, refl, sym, ap, subst, ◌∙◌, inr, true≢false}
+use Rattle.std.specs.Prelude.{slice_index, is_some, option_and_then, IfSome, sum_by}
+use Rattle.std.proofs.Common.{◌≡◌, ℕ, Bool, true, false, cond, Option, Some, None, option_map, List, [], ◌∷◌, length, replicate, refl, sym, ap, subst, ◌∙◌, inr, true≢false}
 use Rattle.std.specs.Str.{bytes_eq}
 use Rattle.std.proofs.lemmas.Bool.{false_from_ne_true}
 use Rattle.std.proofs.lemmas.Option.{none-some, same_Some}
 use Rattle.hx_model.specs.Forest.{Forest, is_there, parent_of, in_chain, subtree_of, with_parent as forest_with_parent}
+use Rattle.hx_model.specs.declared.node.Node.{Node}
 use Rattle.hx_model.specs.declared.resource.Resource.{Resource}
-use Rattle.hx_model.proofs.Climbing.{chain_above, is_same}
+use Rattle.hx_model.proofs.Climbing.{itself, through, above_chain, chain_above, is_same}
 use Rattle.hx_model.proofs.Moving.{moved_there}
 use Rattle.hx_quota.specs.declared.entry.Delta.{Delta}
 use Rattle.hx_quota.specs.PlaceRows.{Place}
-use Rattle.hx_quota.specs.Counters.{Entries, entry_of, tree_of, own_of, own_in, part_of, place_of, used_in, with_entry, new_entry, without_entry, with_parent, with_shifted}
+use Rattle.hx_quota.specs.Counters.{Entries, Entry, entry_of, node_for, tree_of, own_of, own_in, part_of, place_of, used_in, with_entry, new_entry, without_entry, with_parent, with_shifted}
 use Rattle.hx_quota.specs.Inside.{Places, place_at, entries_in, ordered, ends_by, ends_up, AllEnd, HasUsage, SameSums, AreClosed, IsFree}
 use Rattle.hx_quota.proofs.Cutting.{sum-alike}
 use Rattle.hx_quota.proofs.Ended.{ends_below, ends_shrunk, ends_grown, ended_before, parted_chain}
@@ -24,7 +26,9 @@ use Rattle.hx_quota.proofs.Entries.{ascends-entries}
 use Rattle.hx_quota.proofs.Fitting.{has_nothing}
 use Rattle.hx_quota.proofs.Lasting.{ends_moved}
 use Rattle.hx_quota.proofs.Moved.{tree_moved, usage_kept, closed_moved}
-use Rattle.hx_quota.proofs.UsedSums.{in_tree, same_tree, used_absent, added_new, used_added, removed_new, used_removed}
+use Rattle.hx_quota.proofs.Placed.{entry_in, entry_at}
+use Rattle.hx_quota.proofs.Trees.{node_of-tree}
+use Rattle.hx_quota.proofs.UsedSums.{in_tree, out_of_tree, alone_apart, among_names, same_tree, used_absent, added_new, used_added, removed_new, used_removed}
 
 in_forest : (es : Entries) (o : Option (List ℕ)) → IfSome o (λ p. is_some (entry_of es p) ≡ true) → IfSome o (λ p. is_there (tree_of es) p ≡ true)
 in_forest es None h = tt
@@ -33,6 +37,22 @@ in_forest es (Some p) h = in_tree es p ∙ h
 -- a place is in the tree
 there_by_place : (places : Places) (q : List ℕ) (p : Place) → place_at places q ≡ Some p → is_there (tree_of (ordered places)) q ≡ true
 there_by_place places q p found = in_places places q ∙ ap is_some found
+
+parent_in : (places : Places) (m : List ℕ) (p : Place) → place_at places m ≡ Some p → parent_of (tree_of (ordered places)) m ≡ p.entry.parent
+parent_in places m p found = ap (λ (o : Option Node). option_and_then (λ node. node.parent) o) (node_of-tree (ordered places) m ∙ ap (λ (o : Option Entry). option_map node_for o) (entry_at places m ∙ ap entry_in found))
+
+-- who isn't there is no parent
+pub no_child : (places : Places) (n : List ℕ) → AreClosed (ordered places) → entry_of (ordered places) n ≡ None → (m : List ℕ) (p : Place) → place_at places m ≡ Some p → p.entry.parent ≡ Some n → ⊥
+no_child places n closed absent m p found is = true≢false (sym (closed m n (parent_in places m p found ∙ is)) ∙ out_of_tree (ordered places) n absent)
+
+-- who has none below it is no other one's
+pub no_other_child : (places : Places) (n : List ℕ) → subtree_of (tree_of (ordered places)) n ≡ n ∷ [] → is_some (entry_of (ordered places) n) ≡ true → (m : List ℕ) (p : Place) → bytes_eq n m ≡ false → place_at places m ≡ Some p → p.entry.parent ≡ Some n → ⊥
+no_other_child places n alone there m p out found is =
+    let es = ordered places in
+    let f = tree_of es in
+    let apart : in_chain f m n ≡ false = alone_apart es n m alone out (among_names es m (ap is_some (entry_at places m ∙ ap entry_in found))) in
+    let up : in_chain f m n ≡ true = above_chain f m n (through (there_by_place places m p found) (parent_in places m p found ∙ is) (itself (in_tree es n ∙ there))) in
+    true≢false (sym up ∙ apart)
 
 pub summed_added : (old new : Places) (n : List ℕ) (place : Place) → entry_of (ordered old) n ≡ None → place.sums ≡ replicate 15 0 → ((q : List ℕ) → place_at new q ≡ cond (bytes_eq n q) (Some place) (place_at old q))
     → ordered new ≡ with_entry n new_entry (ordered old) → AreClosed (ordered old) → HasUsage old (ordered old) → HasUsage new (ordered new)

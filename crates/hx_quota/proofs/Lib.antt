@@ -19,6 +19,8 @@ pub mod Indexed
 pub mod Joined
 pub mod Formed
 pub mod Reached
+pub mod Stepping
+pub mod Tied
 pub mod Rounds
 pub mod Lasting
 pub mod Totals

@@ -48,9 +48,9 @@ changed_at (suc at) change (e ∷ places) = e ∷ changed_at at change places
 abbrev pub with_sums : ℕ → List ℕ → Places → Places
 with_sums at sums places = changed_at at (λ (p : Place). record p { sums = sums }) places
 
--- with another parent of the namespace at an index, or none, and where it lies
-abbrev pub with_parent_at : ℕ → Option (List ℕ) → ℕ → Places → Places
-with_parent_at at parent up places = changed_at at (λ (p : Place). record p { up = up; entry = record (p.entry) { parent = parent } }) places
+-- with another parent of the namespace at an index, or none
+abbrev pub with_parent_at : ℕ → Option (List ℕ) → Places → Places
+with_parent_at at parent places = changed_at at (λ (p : Place). record p { entry = record (p.entry) { parent = parent } }) places
 
 -- with own sums shifted at an index
 abbrev pub with_shifted_at : ℕ → List Delta → Places → Places

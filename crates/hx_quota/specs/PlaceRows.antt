@@ -3,26 +3,26 @@
 --     PlacesView               the places, and how many more fit without taking memory
 --     new_place                the place of a namespace that comes
 --     joined                   the places whose parts lie in three lists
+--     IsUp                     the index of a parent
+--     AreTied                  the indices of parents
+--     relinked                 an index where one lies that lay at another
 --     changed_row              rows with one changed
 --     IsTable                  these are equally long, and names are distinct
 --     IsFoundAt                the place of a name lies at an index, or it has none
-use Rattle.std.specs.Prelude.{◌≡◌, ℕ, zero, suc, List, [], ◌∷◌, length, replicate, slice_get, Option, Some, None, refl}
+use Rattle.std.specs.Prelude.{◌≡◌, ℕ, zero, suc, nat_eq, List, [], ◌∷◌, length, replicate, slice_get, Option, Some, None, option_map, if◌then◌else◌, refl}
 use Rattle.std.specs.Coded.{Coded, code_by, coded×, coded_list, coded_ℕ}
 use Rattle.std.specs.List.{IsDistinct}
 use Rattle.std.specs.Map.{keys_of, lookup}
 use Rattle.std.specs.Str.{bytes_eq}
-use Rattle.hx_quota.specs.declared.place_table.Link.{Link}
 use Rattle.hx_quota.specs.Counters.{Entry, entry_code, new_entry}
 
--- what is kept of a namespace: where its parent lay when it was looked up, its entry, and what it has with all below it
+-- what is kept of a namespace: its entry, and what it has with all below it
 pub record Place : Type 0 where
-  pub up : ℕ
   pub entry : Entry
   pub sums : List ℕ
 
 abbrev pub place_code : Coded Place
-place_code = code_by (ℕ × (Entry × List ℕ)) (coded× coded_ℕ (coded× entry_code (coded_list coded_ℕ)))
-    (λ p. (p.up, (p.entry, p.sums))) (λ p. record { up = p.0; entry = p.1.0; sums = p.1.1 }) (λ _. refl)
+place_code = code_by (Entry × List ℕ) (coded× entry_code (coded_list coded_ℕ)) (λ p. (p.entry, p.sums)) (λ p. record { entry = p.0; sums = p.1 }) (λ _. refl)
 
 abbrev pub Places : Type 0
 Places = List (List ℕ × Place)
@@ -42,9 +42,13 @@ places_code = code_by (Places × ℕ) (coded× (coded_list (coded× (coded_list 
 
 -- the place of a namespace that comes
 abbrev pub new_place : Place
-new_place = record { up = 0; entry = new_entry; sums = replicate 15 0 }
+new_place = record { entry = new_entry; sums = replicate 15 0 }
 
 -- ---- three lists
+
+-- a parent, or none
+abbrev pub Link : Type 0
+Link = Option (List ℕ)
 
 abbrev pub Links : Type 0
 Links = List (List ℕ × Link)
@@ -63,7 +67,7 @@ behind (row ∷ rows) = rows
 
 -- a place of its parts
 abbrev pub place_of_parts : Link → List ℕ → List ℕ → Place
-place_of_parts link own sums = record { up = link.up; entry = record { parent = link.parent; own = own }; sums = sums }
+place_of_parts link own sums = record { entry = record { parent = link; own = own }; sums = sums }
 
 -- the places whose links, own sums and sums over subtrees lie in three lists
 abbrev pub joined : Links → Rows → Rows → Places
@@ -86,3 +90,23 @@ pub record IsTable (links : Links) (owns sums : Rows) : Type 0 where
 abbrev pub IsFoundAt : Places → List ℕ → Option ℕ → Type 0
 IsFoundAt places n None = place_at places n ≡ None
 IsFoundAt places n (Some at) = (p : Place) × (slice_get places at ≡ Some (n, p)) × (place_at places n ≡ Some p)
+
+-- ---- where parents lie
+
+-- the index of a parent, and none where there is no parent or it isn't there
+abbrev pub IsUp : {X : Type 0} → List (List ℕ × X) → Option (List ℕ) → Option ℕ → Type 0
+IsUp es None up = up ≡ None
+IsUp es (Some q) None = lookup (bytes_eq q) es ≡ None
+IsUp es (Some q) (Some at) = option_map (λ e. e.0) (slice_get es at) ≡ Some q
+
+-- the indices, among others, of the parents of links
+abbrev pub AreTied : Links → Links → List (Option ℕ) → Type 0
+AreTied among [] [] = Unit {0}
+AreTied among [] (up ∷ ups) = ⊥
+AreTied among (e ∷ links) [] = ⊥
+AreTied among (e ∷ links) (up ∷ ups) = IsUp among e.1 up × AreTied among links ups
+
+-- an index, where one lies that lay at another
+abbrev pub relinked : ℕ → ℕ → Option ℕ → Option ℕ
+relinked from to None = None
+relinked from to (Some at) = Some (if nat_eq at from then to else at)

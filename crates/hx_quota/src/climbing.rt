@@ -71,6 +71,9 @@ pub(crate) fn adjust_up(places: &mut PlaceTable, first: Option<usize>, change: &
 pub(crate) fn passes(places: &PlaceTable, first: Option<usize>, above: &Text) -> bool
     ensures { result ≡ walk_from (length (tree_of (ordered places.now.entries))) places.now.entries first above.now }
 {
+    let Some(target) = places.index_of(above) else {
+        return false;
+    };
     let mut next = first;
     let mut left = count(places);
     while left > 0 {
@@ -78,7 +81,7 @@ pub(crate) fn passes(places: &PlaceTable, first: Option<usize>, above: &Text) ->
         let Some(at) = next else {
             return false;
         };
-        if is_named(places, at, above) {
+        if at == target {
             return true;
         }
         next = parent_index(places, at);
@@ -91,18 +94,18 @@ pub(crate) fn ends(places: &PlaceTable, first: Option<&Text>) -> bool
     ensures { result ≡ ends_by (length (tree_of (ordered places.now.entries))) (tree_of (ordered places.now.entries)) (option_copied first.entry) }
 {
     let mut next = first;
-    let mut up = 0;
+    let mut near = 0;
     let mut left = count(places);
     while left > 0 {
         left -= 1;
         let Some(member) = next else {
             return true;
         };
-        let Some(at) = index_near(places, up, member) else {
+        let Some(at) = index_near(places, near, member) else {
             return false;
         };
         next = places.parent_at(at);
-        up = places.up_at(at);
+        near = places.up_at(at).unwrap_or(0);
     }
     next.is_none()
 }
@@ -120,23 +123,18 @@ fn parent_index(places: &PlaceTable, at: usize) -> Option<usize>
     ensures chain { chain_at (entries_in places.now.entries) result ≡ chain_behind (entries_in places.now.entries) at }
     ensures walks { (left : ℕ) (above : List ℕ) → walk_from left places.now.entries result above ≡ walk_behind left places.now.entries at above }
 {
-    let Some(parent) = parent_at(places, at) else {
-        return None;
-    };
-    index_near(places, places.up_at(at), parent)
+    places.up_at(at)
 }
 
-/// The index of a namespace. It is found without hashing, unless it lies elsewhere than when it was looked up.
-fn index_near(places: &PlaceTable, up: usize, name: &Text) -> Option<usize>
+/// The index of a namespace. It is found without hashing where it lies at that index.
+fn index_near(places: &PlaceTable, near: usize, name: &Text) -> Option<usize>
     requires { IsDistinct bytes_eq (keys_of places.now.entries) }
     ensures place { IsFoundAt places.now.entries name.now result }
-    ensures chain { chain_at (entries_in places.now.entries) result ≡ chain_of (tree_of (ordered places.now.entries)) name.now }
-    ensures walks { (left : ℕ) (above : List ℕ) → walk_from left places.now.entries result above ≡ walk_has left (tree_of (ordered places.now.entries)) (Some name.now) above }
 {
-    if is_named(places, up, name) {
-        return Some(up);
+    if is_named(places, near, name) {
+        return Some(near);
     }
-    index_of(places, name)
+    places.index_of(name)
 }
 
 /// Whether the namespace at an index has a name.
@@ -149,20 +147,11 @@ fn is_named(places: &PlaceTable, at: usize, name: &Text) -> bool
     }
 }
 
-/// The name of the parent of the namespace at an index.
-fn parent_at(places: &PlaceTable, at: usize) -> Option<&Text>
-    ensures parent { option_copied result ≡ option_and_then (parent_of (tree_of (ordered places.now.entries))) (name_at (entries_in places.now.entries) at) }
-    ensures distinct { IsDistinct bytes_eq (keys_of places.now.entries) }
-{
-    places.parent_at(at)
-}
-
 /// The index of a namespace.
 pub(crate) fn index_of(places: &PlaceTable, name: &Text) -> Option<usize>
     ensures chain { chain_at (entries_in places.now.entries) result ≡ chain_of (tree_of (ordered places.now.entries)) name.now }
     ensures walks { (left : ℕ) (above : List ℕ) → walk_from left places.now.entries result above ≡ walk_has left (tree_of (ordered places.now.entries)) (Some name.now) above }
     ensures distinct { IsDistinct bytes_eq (keys_of (entries_in places.now.entries)) }
-    ensures place { IsFoundAt places.now.entries name.now result }
 {
     places.index_of(name)
 }

@@ -58,9 +58,10 @@ impl Ledger {
     pub(crate) fn add(&mut self, ns: Text)
         requires room { 1 ≤ self.old.places.spare }
         requires absent { entry_of (entries_of self.old) ns ≡ None }
+        requires kept { IsKept self.old }
         ensures entries { entries_of self.new ≡ with_entry ns new_entry (entries_of self.old) }
         ensures room { self.old.places.spare ≤ self.new.places.spare + 1 }
-        ensures kept { IsKept self.old → IsKept self.new }
+        ensures kept { IsKept self.new }
     {
         self.places.insert(ns);
     }
@@ -70,9 +71,10 @@ impl Ledger {
         requires there { is_some (entry_of (entries_of self.old) ns.now) ≡ true }
         requires nothing { (r : Resource) → own_in (entries_of self.old) ns.now r ≡ 0 }
         requires alone { subtree_of (tree_of (entries_of self.old)) ns.now ≡ ns.now ∷ [] }
+        requires kept { IsKept self.old }
         ensures entries { entries_of self.new ≡ without_entry ns.now (entries_of self.old) }
         ensures room { self.old.places.spare ≤ self.new.places.spare }
-        ensures kept { IsKept self.old → IsKept self.new }
+        ensures kept { IsKept self.new }
     {
         self.places.swap_remove(ns);
     }

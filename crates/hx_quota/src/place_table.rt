@@ -1,12 +1,12 @@
 // What is kept of namespaces, in parts that lie side by side.
-ghost use Rattle.std.specs.Prelude.{◌≡◌, ℕ, ◌+◌, ◌<◌, ◌≤◌, true, false, Some, None, [], ◌∷◌, ◌++◌, is_some, List, OnOk, IfSome, if◌then◌else◌, length, option_and_then, option_copied, option_map, position, slice_get, slice_index, vec_len};
+ghost use Rattle.std.specs.Prelude.{◌≡◌, ℕ, ◌+◌, ◌<◌, ◌≤◌, true, false, Some, None, [], ◌∷◌, ◌++◌, is_some, List, OnOk, IfSome, if◌then◌else◌, length, map, option_and_then, option_copied, option_map, position, slice_get, slice_index, slice_set, vec_len};
 ghost use Rattle.std.specs.List.{IsDistinct};
 ghost use Rattle.std.specs.Map.{keys_of};
 ghost use Rattle.std.specs.Str.{bytes_eq};
 ghost use Rattle.std.specs.Vec.{vec_capacity};
 ghost use Rattle.indexmap.specs.IndexMap.{set_value_at, spare};
 ghost use Rattle.hx_quota.specs.Counters.{shifted, AreApart, HaveOld};
-ghost use Rattle.hx_quota.specs.PlaceRows.{Place, changed_row, new_place, place_at, IsFoundAt};
+ghost use Rattle.hx_quota.specs.PlaceRows.{Place, changed_row, new_place, place_at, relinked, IsFoundAt, IsUp};
 ghost use Rattle.hx_quota.specs.Inside.{entries_in, MayAdjust, OwnFit};
 ghost use Rattle.hx_quota.specs.Anew.{name_at, with_sums, with_parent_at, with_shifted_at, HasAdjusted};
 
@@ -20,27 +20,16 @@ use std::alloc::Global;
 use std::hash::RandomState;
 use std::marker::Model;
 
-/// What a step up the parents reads of a namespace.
-pub(crate) struct Link {
-    /// Where the parent lay when it was looked up. It may lie elsewhere by now.
-    pub(crate) up: usize,
-    pub(crate) parent: Option<Text>,
-}
-
-impl Drop for Link {
-    fn drop(self) {
-        let Link { up: _, parent: _ } = self;
-    }
-}
-
-/// Links by the names of namespaces.
-type LinkMap = IndexMap<Text, Link, RandomState>;
+/// The parents of namespaces, by the names of these.
+type ParentMap = IndexMap<Text, Option<Text>, RandomState>;
 
 /// Places by the names of their namespaces, and by their indices.
 ///
-/// A walk up the parents reads the links alone, so these lie close to one another, and the amounts elsewhere, each namespace's at its index.
+/// Where parents lie, which a walk up reads alone, lies close to one another, and so do the amounts, each namespace's at its index.
 pub(crate) struct PlaceTable {
-    links: LinkMap,
+    parents: ParentMap,
+    /// The index of each one's parent.
+    ups: Vec<Option<usize>>,
     /// What each has by itself, in the order of the resources.
     own: Vec<[u128; 15]>,
     /// What each has with all below it.
@@ -50,7 +39,8 @@ pub(crate) struct PlaceTable {
 impl Drop for PlaceTable {
     fn drop(self) {
         let PlaceTable {
-            links: _,
+            parents: _,
+            ups: _,
             own: _,
             sums: _,
         } = self;
@@ -61,15 +51,15 @@ impl Model for PlaceTable {
     ghost use Rattle.std.specs.Prelude.{◌-◌, min, vec_len};
     ghost use Rattle.std.specs.Vec.{vec_capacity};
     ghost use Rattle.indexmap.specs.IndexMap.{spare};
-    ghost use Rattle.hx_quota.specs.PlaceRows.{PlacesView, places_code, joined, IsTable};
+    ghost use Rattle.hx_quota.specs.PlaceRows.{PlacesView, places_code, joined, IsTable, AreTied};
 
     ghost Value = { PlacesView };
 
     ghost coded = { places_code };
 
-    ghost view = { λ t. record { entries = joined t.links.entries t.own.items t.sums.rows; spare = min (spare t.links) (min (vec_capacity t.own - vec_len t.own) t.sums.spare) } };
+    ghost view = { λ t. record { entries = joined t.parents.entries t.own.items t.sums.rows; spare = min (spare t.parents) (min (vec_capacity t.ups - vec_len t.ups) (min (vec_capacity t.own - vec_len t.own) t.sums.spare)) } };
 
-    ghost invariant = { λ t. IsTable t.links.entries t.own.items t.sums.rows };
+    ghost invariant = { λ t. IsTable t.parents.entries t.own.items t.sums.rows × AreTied t.parents.entries t.parents.entries t.ups.items };
 }
 
 impl PlaceTable {
@@ -78,7 +68,8 @@ impl PlaceTable {
         ensures { result.entries ≡ [] }
     {
         PlaceTable {
-            links: IndexMap::with_hasher(alloc, keys),
+            parents: IndexMap::with_hasher(alloc, keys),
+            ups: Vec::new(alloc),
             own: Vec::new(alloc),
             sums: SumTable::new(alloc),
         }
@@ -90,7 +81,8 @@ impl PlaceTable {
         ensures room { OnOk result (more ≤ self.new.spare) }
         ensures stays { self.old.spare ≤ self.new.spare }
     {
-        self.links.reserve(more)?;
+        self.parents.reserve(more)?;
+        self.ups.reserve(more)?;
         self.own.reserve(more)?;
         self.sums.reserve(more)
     }
@@ -100,7 +92,7 @@ impl PlaceTable {
         ensures len { result ≡ length self.now.entries }
         ensures distinct { IsDistinct bytes_eq (keys_of self.now.entries) }
     {
-        self.links.len()
+        self.parents.len()
     }
 
     /// The index of a namespace.
@@ -111,15 +103,15 @@ impl PlaceTable {
         ensures place { IsFoundAt self.now.entries name.now result }
         ensures distinct { IsDistinct bytes_eq (keys_of self.now.entries) }
     {
-        self.links.get_index_of(name)
+        self.parents.get_index_of(name)
     }
 
     /// The name of the namespace at an index.
     pub(crate) fn name_at(&self, at: usize) -> Option<&Text>
         ensures { option_copied result ≡ name_at (entries_in self.now.entries) at }
     {
-        match self.links.get_index(at) {
-            Some((name, _link)) => Some(name),
+        match self.parents.get_index(at) {
+            Some((name, _parent)) => Some(name),
             None => None,
         }
     }
@@ -129,17 +121,21 @@ impl PlaceTable {
         ensures parent { option_copied result ≡ option_and_then (λ e. e.1.entry.parent) (slice_get self.now.entries at) }
         ensures distinct { IsDistinct bytes_eq (keys_of self.now.entries) }
     {
-        match self.links.get_index(at) {
-            Some((_name, link)) => link.parent.as_ref(),
+        match self.parents.get_index(at) {
+            Some((_name, parent)) => parent.as_ref(),
             None => None,
         }
     }
 
-    /// Where that lay when it was looked up.
-    pub(crate) fn up_at(&self, at: usize) -> usize {
-        match self.links.get_index(at) {
-            Some((_name, link)) => link.up,
-            None => 0,
+    /// The index of its parent. None where it has none, or the parent isn't there.
+    pub(crate) fn up_at(&self, at: usize) -> Option<usize>
+        ensures up { (n : List ℕ) (p : Place) → slice_get self.now.entries at ≡ Some (n, p) → IsUp self.now.entries p.entry.parent result }
+        ensures absent { slice_get self.now.entries at ≡ None → result ≡ None }
+        ensures distinct { IsDistinct bytes_eq (keys_of self.now.entries) }
+    {
+        match self.ups.get(at) {
+            Some(up) => *up,
+            None => None,
         }
     }
 
@@ -165,41 +161,44 @@ impl PlaceTable {
         self.sums.row(at)
     }
 
-    /// Adds a namespace without a parent that has nothing. It takes no memory.
+    /// Adds a namespace without a parent that has nothing, and that is no other one's parent. It takes no memory.
     pub(crate) fn insert(&mut self, name: Text)
         requires room { 1 ≤ self.old.spare }
         requires absent { place_at self.old.entries name ≡ None }
+        requires alone { (n : List ℕ) (p : Place) → place_at self.old.entries n ≡ Some p → p.entry.parent ≡ Some name → ⊥ }
         ensures entries { self.new.entries ≡ self.old.entries ++ (name, new_place) ∷ [] }
         ensures room { self.old.spare ≤ self.new.spare + 1 }
     {
-        let link = Link {
-            up: 0,
-            parent: None,
-        };
-        let _none = self.links.insert(name, link).unwrap();
-        self.own.push([0; 15]).unwrap();
+        let _none = self.parents.insert(name, None).unwrap();
+        self.ups.push_reserved(None);
+        self.own.push_reserved([0; 15]);
         self.sums.push();
     }
 
-    /// Takes a namespace out, where it is there. The last one takes its index.
+    /// Takes a namespace out, where it is there, that is no other one's parent. The last one takes its index, of which all others are told.
     pub(crate) fn swap_remove(&mut self, name: &Text)
+        requires { (n : List ℕ) (p : Place) → bytes_eq name.now n ≡ false → place_at self.old.entries n ≡ Some p → p.entry.parent ≡ Some name.now → ⊥ }
         ensures places { (q : List ℕ) → place_at self.new.entries q ≡ (if bytes_eq name.now q then None else place_at self.old.entries q) }
         ensures room { self.old.spare ≤ self.new.spare }
     {
-        let Some(at) = self.links.get_index_of(name) else {
+        let Some(at) = self.parents.get_index_of(name) else {
             return;
         };
-        let _link = self.links.swap_remove_index(at);
+        let _parent = self.parents.swap_remove_index(at);
+        let _up = self.ups.swap_remove(at);
+        relink(&mut self.ups, self.parents.len(), at);
         let _own = self.own.swap_remove(at);
         self.sums.swap_remove(at);
     }
 
     /// Gives the namespace at an index another parent, or none, and notes where that lies.
-    pub(crate) fn set_parent(&mut self, at: usize, parent: Option<Text>, up: usize)
-        ensures entries { self.new.entries ≡ with_parent_at at parent up self.old.entries }
+    pub(crate) fn set_parent(&mut self, at: usize, parent: Option<Text>)
+        ensures entries { self.new.entries ≡ with_parent_at at parent self.old.entries }
         ensures room { self.old.spare ≤ self.new.spare }
     {
-        relink(&mut self.links, at, Link { up, parent });
+        let up = way_to(&self.parents, parent.as_ref());
+        replace_up(&mut self.ups, at, up);
+        replace_parent(&mut self.parents, at, parent);
     }
 
     /// Makes deltas of what the namespace at an index has by itself.
@@ -234,13 +233,57 @@ impl PlaceTable {
     }
 }
 
-/// Replaces the link at an index, where there is one.
-fn relink(links: &mut LinkMap, at: usize, link: Link)
-    ensures links { links.new.entries ≡ set_value_at links.old.entries at link }
-    ensures room { spare links.old ≤ spare links.new }
+/// The index of a parent, where there is one, and it is there.
+fn way_to(parents: &ParentMap, parent: Option<&Text>) -> Option<usize>
+    ensures { IsUp parents.now.entries (option_copied parent.entry) result }
 {
-    if let Some(place) = links.get_index_mut(at) {
-        *place = link;
+    match parent {
+        Some(parent) => parents.get_index_of(parent),
+        None => None,
+    }
+}
+
+/// Replaces the parent at an index, where there is one.
+fn replace_parent(parents: &mut ParentMap, at: usize, parent: Option<Text>)
+    ensures parents { parents.new.entries ≡ set_value_at parents.old.entries at parent }
+    ensures room { spare parents.old ≤ spare parents.new }
+{
+    if let Some(place) = parents.get_index_mut(at) {
+        *place = parent;
+    }
+}
+
+/// Replaces what is noted at an index, where there is one.
+fn replace_up(ups: &mut Vec<Option<usize>>, at: usize, up: Option<usize>)
+    ensures ups { ups.new.items ≡ slice_set ups.old.items at up }
+    ensures len { vec_len ups.new ≡ vec_len ups.old }
+    ensures room { vec_capacity ups.new ≡ vec_capacity ups.old }
+{
+    if let Some(old) = ups.get_mut(at) {
+        *old = up;
+    }
+}
+
+/// Notes where one lies that lay at `from`.
+fn relink(ups: &mut Vec<Option<usize>>, from: usize, to: usize)
+    ensures ups { ups.new.items ≡ map (relinked from to) ups.old.items }
+    ensures len { vec_len ups.new ≡ vec_len ups.old }
+    ensures room { vec_capacity ups.new ≡ vec_capacity ups.old }
+{
+    let count = ups.len();
+    for at in 0..count {
+        let up = relinked(ups[at], from, to);
+        replace_up(ups, at, up);
+    }
+}
+
+/// An index, where one lies at `to` that lay at `from`.
+fn relinked(up: Option<usize>, from: usize, to: usize) -> Option<usize>
+    ensures { result ≡ relinked from to up }
+{
+    match up {
+        Some(at) => { if at == from { Some(to) } else { up } }
+        None => None,
     }
 }
 

@@ -50,17 +50,8 @@ pub(crate) fn set_parent(places: &mut PlaceTable, ns: &Text, parent: Option<Text
     ensures sums { (q : List ℕ) (p : Place) → place_at places.new.entries q ≡ Some p → SameSums (place_at places.old.entries q) p }
     ensures room { places.old.spare ≤ places.new.spare }
 {
-    let up = way_to(places, parent.as_ref());
     let Some(at) = places.index_of(ns) else {
         return;
     };
-    places.set_parent(at, parent, up);
-}
-
-/// Where a parent lies.
-fn way_to(places: &PlaceTable, parent: Option<&Text>) -> usize {
-    match parent {
-        Some(parent) => places.index_of(parent).unwrap_or(0),
-        None => 0,
-    }
+    places.set_parent(at, parent);
 }

@@ -1,20 +1,8 @@
-use Rattle.std.proofs.Common.{◌∙◌, option_copied, Option, List, ℕ, ap, sym}
-use Rattle.hx_model.specs.Moves.{chain_from}
-use Rattle.hx_model.specs.Walks.{walk_has}
-use Rattle.hx_quota.specs.Counters.{tree_of}
-use Rattle.hx_quota.specs.Inside.{ordered}
+use Rattle.hx_quota.proofs.Stepping.{up_chain, up_walks}
 use Rattle.hx_quota.proofs.climbing.parent_index.Goals as goal
 
-pub returns-in_default-clause-chain : goal.returns-in_default-clause-chain
-returns-in_default-clause-chain c = ap (λ (o : Option (List ℕ)). chain_from (tree_of (ordered c.args.places.now.entries)) o) (sym (ap option_copied c.in_default.is) ∙ c.parent_at.ensures.parent)
-
-pub returns-in_default-clause-walks : goal.returns-in_default-clause-walks
-returns-in_default-clause-walks c = λ left above. ap (λ (o : Option (List ℕ)). walk_has left (tree_of (ordered c.args.places.now.entries)) o above) (sym (ap option_copied c.in_default.is) ∙ c.parent_at.ensures.parent)
-
 pub returns-clause-chain : goal.returns-clause-chain
-returns-clause-chain c =
-    c.index_near.ensures.chain ∙ ap (λ (o : Option (List ℕ)). chain_from (tree_of (ordered c.args.places.now.entries)) o) (sym (ap option_copied c.in-Some.is) ∙ c.parent_at.ensures.parent)
+returns-clause-chain c = up_chain c.args.places.now.entries c.args.at c.up_at.result c.up_at.ensures.distinct c.up_at.ensures.up c.up_at.ensures.absent
 
 pub returns-clause-walks : goal.returns-clause-walks
-returns-clause-walks c = λ left above.
-    c.index_near.ensures.walks left above ∙ ap (λ (o : Option (List ℕ)). walk_has left (tree_of (ordered c.args.places.now.entries)) o above) (sym (ap option_copied c.in-Some.is) ∙ c.parent_at.ensures.parent)
+returns-clause-walks c = up_walks c.args.places.now.entries c.args.at c.up_at.result c.up_at.ensures.distinct c.up_at.ensures.up c.up_at.ensures.absent

@@ -9,7 +9,7 @@ lies : (c : goal.After-set_parent) → IsFoundAt c.args.places.now.entries c.arg
 lies c = subst (λ (o : Option ℕ). IsFoundAt c.args.places.now.entries c.args.ns.now o) c.in-Some.is c.index_of.ensures.place
 
 abbrev changed : goal.After-set_parent → Place → Place
-changed c p = record p { up = c.way_to-up.result; entry = record (p.entry) { parent = c.args.parent } }
+changed c p = record p { entry = record (p.entry) { parent = c.args.parent } }
 
 looks : (c : goal.After-set_parent) (q : List ℕ) → place_at c.set_parent.new.self.entries q ≡ cond (bytes_eq c.args.ns.now q) (Some (changed c (lies c).0)) (place_at c.args.places.now.entries q)
 looks c q = ap (λ xs. place_at xs q) c.set_parent.ensures.entries ∙ place_changed c.in-Some.at (changed c) c.args.places.now.entries c.args.ns.now (lies c).0 c.index_of.ensures.distinct (lies c).1 q

@@ -7,5 +7,5 @@ use Rattle.hx_quota.proofs.counters.Counters.add.Goals as goal
 pub invariant_of-self : goal.invariant_of-self
 invariant_of-self c = (
   fits_added (entries_of c.self.inside.ledger) c.args.self.now.entries (entries_of c.add.new.self) c.args.ns (sym (ap (λ (v : CountersView). v.entries) c.self.view_is)) c.requires.absent c.add.ensures.entries c.self.invariant.0,
-  c.add.ensures.kept c.self.invariant.1,
+  c.add.ensures.kept,
 )

@@ -7,9 +7,9 @@ use Rattle.hx_quota.proofs.place_table.PlaceTable.len.Goals as goal
 pub returns-clause-len : goal.returns-clause-len
 returns-clause-len c =
     let t = c.self.inside in
-    rw (← c.self.view_is) (c.len.ensures.len ∙ sym (length_joined t.links.entries t.own.items t.sums.rows))
+    rw (← c.self.view_is) (c.len.ensures.len ∙ sym (length_joined t.parents.entries t.own.items t.sums.rows))
 
 pub returns-clause-distinct : goal.returns-clause-distinct
 returns-clause-distinct c =
     let t = c.self.inside in
-    rw (← c.self.view_is) (subst (λ (ks : List (List ℕ)). IsDistinct bytes_eq ks) (sym (keys_joined t.links.entries t.own.items t.sums.rows)) c.self.invariant.distinct)
+    rw (← c.self.view_is) (subst (λ (ks : List (List ℕ)). IsDistinct bytes_eq ks) (sym (keys_joined t.parents.entries t.own.items t.sums.rows)) c.self.invariant.0.distinct)

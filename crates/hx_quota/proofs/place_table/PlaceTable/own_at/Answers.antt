@@ -7,4 +7,4 @@ returns c =
     let t = c.self.inside in
     let found : option_copied c.get.result ≡ slice_get t.own.items c.args.at =
     subst (λ (xs : List (List ℕ)). option_copied c.get.result ≡ slice_get xs c.args.at) c.deref.ensures.value (item_found c.deref.result.now c.args.at c.get.result c.get.ensures.lookup) in
-    rw (← c.self.view_is) (found ∙ sym (own_entry t.links.entries t.own.items t.sums.rows c.self.invariant.own c.args.at))
+    rw (← c.self.view_is) (found ∙ sym (own_entry t.parents.entries t.own.items t.sums.rows c.self.invariant.0.own c.args.at))

@@ -7,5 +7,5 @@ pub returns : goal.returns
 returns c = λ n p is.
     let t = c.self.inside in
     let whole : option_map (λ (e : List ℕ × Place). e.1.sums) (slice_get c.args.self.now.entries c.args.at) ≡ slice_get t.sums.rows c.args.at =
-    rw (← c.self.view_is) (sums_joined t.links.entries t.own.items t.sums.rows c.self.invariant.whole c.args.at) in
+    rw (← c.self.view_is) (sums_joined t.parents.entries t.own.items t.sums.rows c.self.invariant.0.whole c.args.at) in
     c.get.ensures.there p.sums (sym whole ∙ ap (λ (o : Option (List ℕ × Place)). option_map (λ e. e.1.sums) o) is)

@@ -5,4 +5,4 @@ use Rattle.hx_quota.proofs.place_table.PlaceTable.sums_at.Goals as goal
 pub returns : goal.returns
 returns c =
     let t = c.self.inside in
-    rw (← c.self.view_is) (c.row.ensures ∙ sym (sums_joined t.links.entries t.own.items t.sums.rows c.self.invariant.whole c.args.at))
+    rw (← c.self.view_is) (c.row.ensures ∙ sym (sums_joined t.parents.entries t.own.items t.sums.rows c.self.invariant.0.whole c.args.at))
