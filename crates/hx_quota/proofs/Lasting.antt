@@ -1,6 +1,5 @@
 -- Walks up the parents still end after a change.
---     back_out, none_back, back_alike      none comes back to itself that isn't there, where all walks end, or whose parent's chain has no more
---     ends_added, ends_removed, ends_shifted, ends_moved      where a namespace comes, goes, gets other sums, or another parent
+--     ends_added, ends_removed, ends_moved      where a namespace comes, goes, or gets another parent
 use Rattle.std.specs.Prelude.{is_some, option_and_then, IfSome}
 use Rattle.std.proofs.Common.{◌≡◌, ℕ, ◌⊎◌, Bool, true, false, cond, Option, Some, None, option_map, List, [], ◌∷◌, refl, sym, ap, ◌∙◌, subst, inl, inr, true≢false}
 use Rattle.std.specs.Option.{option_map_or}
@@ -11,29 +10,27 @@ use Rattle.hx_model.specs.declared.node.Node.{Node}
 use Rattle.hx_model.specs.Forest.{Forest, is_in, node_of, is_there, parent_of, in_chain, comes_back, subtree_of, with_parent as forest_with_parent}
 use Rattle.hx_model.proofs.Climbing.{Above, itself, through, chain_above, above_chain, chain_trans, is_same, same_itself}
 use Rattle.hx_model.proofs.Moving.{moved_there, moved_parent, other_parent, moved_chain_same}
-use Rattle.hx_quota.specs.declared.entry.Delta.{Delta}
-use Rattle.hx_quota.specs.Counters.{Entries, entry_of, node_for, tree_of, with_entry, new_entry, without_entry, with_changed, with_parent}
+use Rattle.hx_quota.specs.Counters.{Entries, entry_of, node_for, tree_of, with_entry, new_entry, without_entry, with_parent}
 use Rattle.hx_quota.specs.Inside.{AllEnd, IsFree}
 use Rattle.hx_quota.proofs.Attaching.{chain_new}
-use Rattle.hx_quota.proofs.Deltas.{shift_in}
 use Rattle.hx_quota.proofs.Ending.{closed_all}
 use Rattle.hx_quota.proofs.Entries.{entry_of-with_entry}
 use Rattle.hx_quota.proofs.Moved.{tree_moved, closed_moved}
 use Rattle.hx_quota.proofs.Rounds.{none_comes_back, end_without}
 use Rattle.hx_quota.proofs.Trees.{node_of-tree}
-use Rattle.hx_quota.proofs.UsedSums.{added_new, closed_added, removed_new, closed_removed, same_tree}
+use Rattle.hx_quota.proofs.UsedSums.{added_new, closed_added, removed_new, closed_removed}
 
 -- ---- who comes back to itself
 
 -- none does that isn't there
-pub back_out : (f : Forest) (n : List ℕ) → is_there f n ≡ false → comes_back f n ≡ false
+back_out : (f : Forest) (n : List ℕ) → is_there f n ≡ false → comes_back f n ≡ false
 back_out f n out = at (node_of f n) out
   where
     at : (o : Option Node) → is_some o ≡ false → option_map_or (λ p. in_chain f p n) (option_and_then (λ node. node.parent) o) false ≡ false
     at None h = refl
     at (Some node) h = absurd (true≢false h)
 
-pub none_back : (f : Forest) → AllEnd f → (n : List ℕ) → comes_back f n ≡ false
+none_back : (f : Forest) → AllEnd f → (n : List ℕ) → comes_back f n ≡ false
 none_back f all n = at (is_there f n) refl
   where
     at : (b : Bool) → is_there f n ≡ b → comes_back f n ≡ false
@@ -41,7 +38,7 @@ none_back f all n = at (is_there f n) refl
     at false out = back_out f n out
 
 -- under the same parent, whose chain has no more
-pub back_alike : (f g : Forest) (m : List ℕ) → parent_of g m ≡ parent_of f m → ((p : List ℕ) → parent_of f m ≡ Some p → in_chain g p m ≡ true → in_chain f p m ≡ true) → comes_back f m ≡ false → comes_back g m ≡ false
+back_alike : (f g : Forest) (m : List ℕ) → parent_of g m ≡ parent_of f m → ((p : List ℕ) → parent_of f m ≡ Some p → in_chain g p m ≡ true → in_chain f p m ≡ true) → comes_back f m ≡ false → comes_back g m ≡ false
 back_alike f g m same down none = false_from_ne_true (comes_back g m) (λ h. at (parent_of f m) refl (subst (λ (o : Option (List ℕ)). option_map_or (λ p. in_chain g p m) o false ≡ true) same h))
   where
     at : (o : Option (List ℕ)) → parent_of f m ≡ o → option_map_or (λ p. in_chain g p m) o false ≡ true → ⊥
@@ -85,11 +82,6 @@ ends_removed es n alone there all = end_without g (λ m. at m (bytes_eq n m) ref
     at m false out =
         let same : parent_of g m ≡ parent_of (tree_of es) m = ap (λ (o : Option Node). option_and_then (λ node. node.parent) o) (sym ((removed_new es n alone there closed).others m out)) in
         back_alike (tree_of es) g m same (λ p is h. chain_new (tree_of es) g n (removed_new es n alone there closed) p m (closed_less m p (same ∙ is)) ∙ h) (none_back (tree_of es) all m)
-
--- ---- one gets other sums
-
-pub ends_shifted : (es : Entries) (n : List ℕ) (deltas : List Delta) → AllEnd (tree_of es) → AllEnd (tree_of (with_changed n (shift_in deltas) es))
-ends_shifted es n deltas all = subst (λ (f : Forest). AllEnd f) (sym (same_tree n deltas es)) all
 
 -- ---- one gets another parent
 

@@ -25,7 +25,7 @@ type ParentMap = IndexMap<Text, Option<Text>, RandomState>;
 
 /// Places by the names of their namespaces, and by their indices.
 ///
-/// Where parents lie, which a walk up reads alone, lies close to one another, and so do the amounts, each namespace's at its index.
+/// The indices of parents, which a walk up reads alone, lie close to one another, and so do the amounts. Each namespace's are at its index.
 pub(crate) struct PlaceTable {
     parents: ParentMap,
     /// The index of each one's parent.
