@@ -8,7 +8,8 @@ Prints, a line for each:
   the namespace;
 - the DELETE of an anchor whose subnamespace has a reach of 256, per namespace of it, and where it has one of 16, and the ratio. All others of the
   reach lie below its first one;
-- the same of reaches of 60 and of 8, in which each lies below the one before.
+- the same of reaches of 60 and of 8, in which each lies below the one before;
+- the DELETE of a namespace that holds nothing, with the turns that remove it, beside 3,800 namespaces and beside 256, and the ratio: the mean of 200.
 Each is the least of so many rounds. Times are the processor's. Everything runs on one.
 """
 import os
@@ -25,6 +26,9 @@ SIZES = (40, 4_000)
 REACHES = (16, 256)
 DEPTHS = (8, 60)
 ROUNDS = 8
+# Beside so many namespaces, so many that hold nothing are deleted.
+FEW = 256
+GONE = 200
 
 
 def kept(ns, name):
@@ -37,12 +41,12 @@ def end(ns):
 
 
 class Beside(Run):
-    """A settled run with namespaces and Roles that nothing touches."""
+    """A settled run with so many namespaces and their Roles that nothing touches."""
 
-    def __init__(self, program):
+    def __init__(self, program, beside):
         super().__init__(program)
-        self.ask([namespace(f"n{i}") for i in range(BESIDE)])
-        self.ask([kept(f"n{i}", f"r{i}-{at}") for i in range(BESIDE) for at in range(OBJECTS)])
+        self.ask([namespace(f"n{i}") for i in range(beside)])
+        self.ask([kept(f"n{i}", f"r{i}-{at}") for i in range(beside) for at in range(OBJECTS)])
         self.ask([namespace("top"), f"POST {HIERARCHY.path('top')} {HIERARCHY.body('hierarchy', spec={'allowCascadingDeletion': True})}\n"])
         self.settle()
 
@@ -66,6 +70,16 @@ class Beside(Run):
         self.turns(1)
         return took
 
+    def gone(self):
+        """The time of the DELETE of a namespace that holds nothing, and of its turns."""
+        names = [f"e{at}" for at in range(GONE)]
+        self.ask([namespace(name) for name in names])
+        self.settle()
+        before = self.used()
+        self.ask([end(name) for name in names])
+        self.settle()
+        return (self.used() - before) / GONE
+
     def cut(self, levels):
         """The time of a DELETE of the first of anchors that ask for these namespaces, level by level, for each namespace that goes along."""
         for above, names in zip(["top", *(names[0] for names in levels)], levels):
@@ -88,13 +102,17 @@ def deep(reach):
 
 def main():
     os.sched_setaffinity(0, {max(os.sched_getaffinity(0))})
-    run = Beside(sys.argv[1])
+    run = Beside(sys.argv[1], BESIDE)
     rounds = [[run.emptied(objects) for objects in SIZES] for _ in range(ROUNDS)]
     names = [f"{size:,} Roles" for size in SIZES]
     report("a turn that removes an object", names, rounds, 1)
     report("DELETE of an anchor, for each namespace that goes along", [f"{reach} of them" for reach in REACHES], [[run.cut(flat(reach)) for reach in REACHES] for _ in range(ROUNDS)], 1)
     report("the same, each below the one before", [f"{reach} of them" for reach in DEPTHS], [[run.cut(deep(reach)) for reach in DEPTHS] for _ in range(ROUNDS)], 1)
-    run.close()
+    runs = [Beside(sys.argv[1], FEW), run]
+    names = [f"{size:,} namespaces" for size in (FEW, BESIDE)]
+    report("DELETE of a namespace that holds nothing", names, [[each.gone() for each in runs] for _ in range(ROUNDS)], 1)
+    for each in runs:
+        each.close()
 
 
 if __name__ == "__main__":
