@@ -1,15 +1,15 @@
 -- Places, in the order in which they lie.
---     keys_from, distinct_from, distinct_seen, length_from, names_from, steps_from, nodes_from     of steps and nodes in the same order
+--     as_many, keys_from, distinct_from, distinct_seen, length_from, names_from, nodes_from, steps_from, standings_from     of nodes and rungs in the same order
 --     index_position         the index of a name, by the test of names
 --     place_at_index         what lies where a name lies
 --     name_at_index, own_index     the name there, and where the name lies that lies at an index
---     places_push, look_added      one more at the end
+--     places_push, standing_push, look_added      one more at the end
 --     item_at                what is read of a list at an index
---     look_steps, none_steps, none_places       what a name has of steps alone
---     look_none, look_cut, node_cut        one out, with the last one in its place
---     step_set, step_none, node_set, node_none     one is changed
+--     look_nodes, none_nodes, none_places       what a name has of nodes alone
+--     look_none, look_cut, rung_placed, standing_out        one out, with the last one in its place
+--     rung_set, rung_none, both_set, node_none, rung_there, standing_rung, standing_both     one is changed
 --     set_keys, look_changed, changed_twice        the names then, and what is found
-use Rattle.std.specs.Prelude.{slice_get, position, swap_remove, slice_set, slice_index_or, take, nat_lt, not}
+use Rattle.std.specs.Prelude.{◌<◌, slice_get, position, swap_remove, slice_set, slice_index_or, take, nat_lt, not}
 use Rattle.std.proofs.Common.{◌≡◌, ℕ, zero, suc, ◌+◌, ◌-◌, Bool, true, false, cond, List, [], ◌∷◌, ◌++◌, length, Option, Some, None, option_map, refl, sym, ap, subst, ◌∙◌, arith, true≢false}
 use Rattle.std.specs.List.{AllByRecursion, IsDistinct, ItemBy, position_or_len}
 use Rattle.std.specs.Map.{keys_of, values_of, lookup}
@@ -24,76 +24,100 @@ use Rattle.indexmap.proofs.RemoveLemmas.{swap_out}
 use Rattle.hx_model.proofs.Climbing.{is_same, same_itself}
 use Rattle.hx_model.proofs.Objects.{same_test, swap_tests}
 use Rattle.hx_model.specs.declared.node.Node.{Node}
+use Rattle.hx_forest.specs.declared.steps.Standing.{Standing}
 use Rattle.hx_forest.specs.declared.steps.Step.{Step}
-use Rattle.hx_forest.specs.Places.{Place, PlacesView, place_with, step_of, places_from, index_in, entry_in, changed_at}
+use Rattle.hx_forest.specs.Places.{Place, PlacesView, place_with, step_of, standing_of, places_from, AreStanding, index_in, entry_in, changed_at}
 
-abbrev Steps : Type 0
-Steps = List (List ℕ × Step)
+abbrev Nodes : Type 0
+Nodes = List (List ℕ × Node)
+
+abbrev Rungs : Type 0
+Rungs = List (Step × Standing)
 
 abbrev Rows : Type 0
 Rows = List (List ℕ × Place)
 
--- ---- steps and nodes
+-- ---- nodes and rungs
 
-pub keys_from : (es : Steps) (ns : List Node) → length es ≡ length ns → keys_of (places_from es ns) ≡ keys_of es
-keys_from [] ns long = refl
-keys_from (e ∷ es) [] long = absurd (omega (arith, long))
-keys_from (e ∷ es) (n ∷ ns) long = ap (λ ks. e.0 ∷ ks) (keys_from es ns (omega (arith, long)))
+pub as_many : (es : Nodes) (rs : Rungs) → AreStanding es rs → length rs ≡ length es
+as_many [] [] is = refl
+as_many [] (r ∷ rs) is = absurd is
+as_many (e ∷ es) [] is = absurd is
+as_many (e ∷ es) (r ∷ rs) is = ap (λ k. suc k) (as_many es rs is.1)
 
-pub distinct_from : (es : Steps) (ns : List Node) → length es ≡ length ns → IsDistinct bytes_eq (keys_of es) → IsDistinct bytes_eq (keys_of (places_from es ns))
-distinct_from es ns long distinct = subst (λ (ks : List (List ℕ)). IsDistinct bytes_eq ks) (sym (keys_from es ns long)) distinct
+pub keys_from : (es : Nodes) (rs : Rungs) → AreStanding es rs → keys_of (places_from es rs) ≡ keys_of es
+keys_from [] rs is = refl
+keys_from (e ∷ es) [] is = absurd is
+keys_from (e ∷ es) (r ∷ rs) is = ap (λ ks. e.0 ∷ ks) (keys_from es rs is.1)
 
-pub distinct_seen : (es : Steps) (ns : List Node) (k : ℕ) (seen : PlacesView) → record { entries = places_from es ns; spare = k } ≡ seen → (length es ≡ length ns) × IsDistinct bytes_eq (keys_of es) → IsDistinct bytes_eq (keys_of seen.entries)
-distinct_seen es ns k seen is kept = subst (λ (v : PlacesView). IsDistinct bytes_eq (keys_of v.entries)) is (distinct_from es ns kept.0 kept.1)
+pub distinct_from : (es : Nodes) (rs : Rungs) → AreStanding es rs → IsDistinct bytes_eq (keys_of es) → IsDistinct bytes_eq (keys_of (places_from es rs))
+distinct_from es rs is distinct = subst (λ (ks : List (List ℕ)). IsDistinct bytes_eq ks) (sym (keys_from es rs is)) distinct
 
-pub length_from : (es : Steps) (ns : List Node) → length es ≡ length ns → length (places_from es ns) ≡ length es
-length_from [] ns long = refl
-length_from (e ∷ es) [] long = absurd (omega (arith, long))
-length_from (e ∷ es) (n ∷ ns) long = ap (λ k. suc k) (length_from es ns (omega (arith, long)))
+pub distinct_seen : (es : Nodes) (rs : Rungs) (k : ℕ) (seen : PlacesView) → record { entries = places_from es rs; spare = k } ≡ seen → AreStanding es rs × IsDistinct bytes_eq (keys_of es) → IsDistinct bytes_eq (keys_of seen.entries)
+distinct_seen es rs k seen is kept = subst (λ (v : PlacesView). IsDistinct bytes_eq (keys_of v.entries)) is (distinct_from es rs kept.0 kept.1)
 
-pub names_from : (es : Steps) (ns : List Node) (i : ℕ) → length es ≡ length ns → option_map (λ e. e.0) (slice_get es i) ≡ option_map (λ e. e.0) (slice_get (places_from es ns) i)
-names_from [] ns i long = refl
-names_from (e ∷ es) [] i long = absurd (omega (arith, long))
-names_from (e ∷ es) (n ∷ ns) zero long = refl
-names_from (e ∷ es) (n ∷ ns) (suc i) long = names_from es ns i (omega (arith, long))
+pub length_from : (es : Nodes) (rs : Rungs) → AreStanding es rs → length (places_from es rs) ≡ length es
+length_from [] rs is = refl
+length_from (e ∷ es) [] is = absurd is
+length_from (e ∷ es) (r ∷ rs) is = ap (λ k. suc k) (length_from es rs is.1)
 
-pub steps_from : (es : Steps) (ns : List Node) (i : ℕ) → length es ≡ length ns → option_map (λ e. e.1) (slice_get es i) ≡ option_map (λ e. step_of e.1) (slice_get (places_from es ns) i)
-steps_from [] ns i long = refl
-steps_from (e ∷ es) [] i long = absurd (omega (arith, long))
-steps_from (e ∷ es) (n ∷ ns) zero long = refl
-steps_from (e ∷ es) (n ∷ ns) (suc i) long = steps_from es ns i (omega (arith, long))
+pub names_from : (es : Nodes) (rs : Rungs) (i : ℕ) → AreStanding es rs → option_map (λ e. e.0) (slice_get es i) ≡ option_map (λ e. e.0) (slice_get (places_from es rs) i)
+names_from [] rs i is = refl
+names_from (e ∷ es) [] i is = absurd is
+names_from (e ∷ es) (r ∷ rs) zero is = refl
+names_from (e ∷ es) (r ∷ rs) (suc i) is = names_from es rs i is.1
 
-pub nodes_from : (es : Steps) (ns : List Node) (i : ℕ) → length es ≡ length ns → slice_get ns i ≡ option_map (λ e. e.1.node) (slice_get (places_from es ns) i)
-nodes_from [] [] i long = refl
-nodes_from [] (n ∷ ns) i long = absurd (omega (arith, long))
-nodes_from (e ∷ es) [] i long = absurd (omega (arith, long))
-nodes_from (e ∷ es) (n ∷ ns) zero long = refl
-nodes_from (e ∷ es) (n ∷ ns) (suc i) long = nodes_from es ns i (omega (arith, long))
+pub nodes_from : (es : Nodes) (rs : Rungs) (i : ℕ) → AreStanding es rs → option_map (λ e. e.1) (slice_get es i) ≡ option_map (λ e. e.1.node) (slice_get (places_from es rs) i)
+nodes_from [] rs i is = refl
+nodes_from (e ∷ es) [] i is = absurd is
+nodes_from (e ∷ es) (r ∷ rs) zero is = refl
+nodes_from (e ∷ es) (r ∷ rs) (suc i) is = nodes_from es rs i is.1
+
+rungs_from : (es : Nodes) (rs : Rungs) (i : ℕ) → AreStanding es rs → slice_get rs i ≡ option_map (λ e. (step_of e.1, standing_of e.1.node)) (slice_get (places_from es rs) i)
+rungs_from [] [] i is = refl
+rungs_from [] (r ∷ rs) i is = absurd is
+rungs_from (e ∷ es) [] i is = absurd is
+rungs_from (e ∷ es) (r ∷ rs) zero is = ap (λ (standing : Standing). Some (r.0, standing)) is.0
+rungs_from (e ∷ es) (r ∷ rs) (suc i) is = rungs_from es rs i is.1
+
+pub steps_from : (es : Nodes) (rs : Rungs) (i : ℕ) → AreStanding es rs → option_map (λ r. r.0) (slice_get rs i) ≡ option_map (λ e. step_of e.1) (slice_get (places_from es rs) i)
+steps_from es rs i is = ap (option_map (λ (r : Step × Standing). r.0)) (rungs_from es rs i is) ∙ by (slice_get (places_from es rs) i)
+  where
+    by : (o : Option (List ℕ × Place)) → option_map (λ (r : Step × Standing). r.0) (option_map (λ e. (step_of e.1, standing_of e.1.node)) o) ≡ option_map (λ e. step_of e.1) o
+    by None = refl
+    by (Some e) = refl
+
+pub standings_from : (es : Nodes) (rs : Rungs) (i : ℕ) → AreStanding es rs → option_map (λ r. r.1) (slice_get rs i) ≡ option_map (λ e. standing_of e.1.node) (slice_get (places_from es rs) i)
+standings_from es rs i is = ap (option_map (λ (r : Step × Standing). r.1)) (rungs_from es rs i is) ∙ by (slice_get (places_from es rs) i)
+  where
+    by : (o : Option (List ℕ × Place)) → option_map (λ (r : Step × Standing). r.1) (option_map (λ e. (step_of e.1, standing_of e.1.node)) o) ≡ option_map (λ e. standing_of e.1.node) o
+    by None = refl
+    by (Some e) = refl
 
 -- what is read at an index
 pub item_at : {R X : Type 0} (now : R → X) (xs : List X) (i : ℕ) (r : Option R) → ItemBy now xs i i r → option_map now r ≡ slice_get xs i
 item_at now xs i None item = sym (slice_get_past xs i item.3)
 item_at now xs i (Some x) item = sym (slice_get_read xs (length xs) i (now x) refl item.3.0 (item.3.1 (now x)))
 
--- what a name has of steps alone
-pub look_steps : (es : Steps) (ns : List Node) (n : List ℕ) → length es ≡ length ns → lookup (bytes_eq n) es ≡ option_map step_of (lookup (bytes_eq n) (places_from es ns))
-look_steps [] ns n long = refl
-look_steps (e ∷ es) [] n long = absurd (omega (arith, long))
-look_steps (e ∷ es) (m ∷ ns) n long = ap (cond (bytes_eq n e.0) (Some e.1)) (look_steps es ns n (omega (arith, long))) ∙ by (bytes_eq n e.0)
+-- the node of a name
+pub look_nodes : (es : Nodes) (rs : Rungs) (n : List ℕ) → AreStanding es rs → lookup (bytes_eq n) es ≡ option_map (λ p. p.node) (lookup (bytes_eq n) (places_from es rs))
+look_nodes [] rs n is = refl
+look_nodes (e ∷ es) [] n is = absurd is
+look_nodes (e ∷ es) (r ∷ rs) n is = ap (cond (bytes_eq n e.0) (Some e.1)) (look_nodes es rs n is.1) ∙ by (bytes_eq n e.0)
   where
-    by : (b : Bool) → cond b (Some e.1) (option_map step_of (lookup (bytes_eq n) (places_from es ns))) ≡ option_map step_of (cond b (Some (place_with e.1 m)) (lookup (bytes_eq n) (places_from es ns)))
+    by : (b : Bool) → cond b (Some e.1) (option_map (λ (p : Place). p.node) (lookup (bytes_eq n) (places_from es rs))) ≡ option_map (λ p. p.node) (cond b (Some (place_with r.0 e.1)) (lookup (bytes_eq n) (places_from es rs)))
     by true = refl
     by false = refl
 
-none_of : (o : Option Place) → option_map step_of o ≡ None → o ≡ None
+none_of : (o : Option Place) → option_map (λ p. p.node) o ≡ None → o ≡ None
 none_of None none = refl
-none_of (Some p) none = absurd (none-some (step_of p) (sym none))
+none_of (Some p) none = absurd (none-some p.node (sym none))
 
-pub none_steps : (es : Steps) (ns : List Node) (n : List ℕ) → length es ≡ length ns → lookup (bytes_eq n) es ≡ None → lookup (bytes_eq n) (places_from es ns) ≡ None
-none_steps es ns n long none = none_of (lookup (bytes_eq n) (places_from es ns)) (sym (look_steps es ns n long) ∙ none)
+pub none_nodes : (es : Nodes) (rs : Rungs) (n : List ℕ) → AreStanding es rs → lookup (bytes_eq n) es ≡ None → lookup (bytes_eq n) (places_from es rs) ≡ None
+none_nodes es rs n is none = none_of (lookup (bytes_eq n) (places_from es rs)) (sym (look_nodes es rs n is) ∙ none)
 
-pub none_places : (es : Steps) (ns : List Node) (n : List ℕ) → length es ≡ length ns → lookup (bytes_eq n) (places_from es ns) ≡ None → lookup (bytes_eq n) es ≡ None
-none_places es ns n long none = look_steps es ns n long ∙ ap (option_map step_of) none
+pub none_places : (es : Nodes) (rs : Rungs) (n : List ℕ) → AreStanding es rs → lookup (bytes_eq n) (places_from es rs) ≡ None → lookup (bytes_eq n) es ≡ None
+none_places es rs n is none = look_nodes es rs n is ∙ ap (option_map (λ (p : Place). p.node)) none
 
 -- ---- indices
 
@@ -166,11 +190,17 @@ own_index (e ∷ es) (suc i) b p distinct is =
 
 -- ---- one more at the end
 
-pub places_push : (es : Steps) (ns : List Node) (k : List ℕ) (s : Step) (n : Node) → length es ≡ length ns → places_from (es ++ (k, s) ∷ []) (ns ++ n ∷ []) ≡ places_from es ns ++ (k, place_with s n) ∷ []
-places_push [] [] k s n long = refl
-places_push [] (m ∷ ns) k s n long = absurd (omega (arith, long))
-places_push (e ∷ es) [] k s n long = absurd (omega (arith, long))
-places_push (e ∷ es) (m ∷ ns) k s n long = ap (λ xs. (e.0, place_with e.1 m) ∷ xs) (places_push es ns k s n (omega (arith, long)))
+pub places_push : (es : Nodes) (rs : Rungs) (k : List ℕ) (n : Node) (r : Step × Standing) → AreStanding es rs → places_from (es ++ (k, n) ∷ []) (rs ++ r ∷ []) ≡ places_from es rs ++ (k, place_with r.0 n) ∷ []
+places_push [] [] k n r is = refl
+places_push [] (m ∷ rs) k n r is = absurd is
+places_push (e ∷ es) [] k n r is = absurd is
+places_push (e ∷ es) (m ∷ rs) k n r is = ap (λ xs. (e.0, place_with m.0 e.1) ∷ xs) (places_push es rs k n r is.1)
+
+pub standing_push : (es : Nodes) (rs : Rungs) (k : List ℕ) (n : Node) (r : Step × Standing) → AreStanding es rs → r.1 ≡ standing_of n → AreStanding (es ++ (k, n) ∷ []) (rs ++ r ∷ [])
+standing_push [] [] k n r is new = (new, tt)
+standing_push [] (m ∷ rs) k n r is new = absurd is
+standing_push (e ∷ es) [] k n r is new = absurd is
+standing_push (e ∷ es) (m ∷ rs) k n r is new = (is.0, standing_push es rs k n r is.1 new)
 
 look_push : (es : Rows) (n : List ℕ) (p : Place) → lookup (bytes_eq n) es ≡ None → (q : List ℕ) → lookup (bytes_eq q) (es ++ (n, p) ∷ []) ≡ cond (bytes_eq n q) (Some p) (lookup (bytes_eq q) es)
 look_push [] n p none q = ap (λ b. cond b (Some p) None) (nat_list_eq_equiv.symm q n)
@@ -188,44 +218,62 @@ look_added new held old n p is same none q = ap (lookup (bytes_eq q)) (is ∙ ap
 
 -- ---- one is changed
 
-pub step_set : (change : Place → Place) (step : Step → Step) → ((s : Step) (n : Node) → place_with (step s) n ≡ change (place_with s n))
-    → (i : ℕ) (es : Steps) (ns : List Node) (s : Step) → length es ≡ length ns → slice_get (values_of es) i ≡ Some s → places_from (set_value_at es i (step s)) ns ≡ changed_at change i (places_from es ns)
-step_set change step same i [] ns s long is = absurd (none-some s is)
-step_set change step same i (e ∷ es) [] s long is = absurd (omega (arith, long))
-step_set change step same zero (e ∷ es) (n ∷ ns) s long is = ap (λ (x : Step). (e.0, place_with (step x) n) ∷ places_from es ns) (sym (same_Some e.1 s is)) ∙ ap (λ (p : Place). (e.0, p) ∷ places_from es ns) (same e.1 n)
-step_set change step same (suc i) (e ∷ es) (n ∷ ns) s long is = ap (λ xs. (e.0, place_with e.1 n) ∷ xs) (step_set change step same i es ns s (omega (arith, long)) is)
+pub rung_set : (change : Place → Place) (r s : Step × Standing) → ((n : Node) → place_with s.0 n ≡ change (place_with r.0 n))
+    → (i : ℕ) (es : Nodes) (rs : Rungs) → AreStanding es rs → slice_get rs i ≡ Some r → places_from es (slice_set rs i s) ≡ changed_at change i (places_from es rs)
+rung_set change r s same i [] [] is at = absurd (none-some r at)
+rung_set change r s same i [] (x ∷ rs) is at = absurd is
+rung_set change r s same i (e ∷ es) [] is at = absurd is
+rung_set change r s same zero (e ∷ es) (x ∷ rs) is at = ap (λ (p : Place). (e.0, p) ∷ places_from es rs) (same e.1 ∙ ap (λ (y : Step × Standing). change (place_with y.0 e.1)) (sym (same_Some x r at)))
+rung_set change r s same (suc i) (e ∷ es) (x ∷ rs) is at = ap (λ xs. (e.0, place_with x.0 e.1) ∷ xs) (rung_set change r s same i es rs is.1 at)
 
-pub step_none : (change : Place → Place) (i : ℕ) (es : Steps) (ns : List Node) → slice_get (values_of es) i ≡ None → places_from es ns ≡ changed_at change i (places_from es ns)
-step_none change i [] ns none = refl
-step_none change i (e ∷ es) [] none = refl
-step_none change zero (e ∷ es) (n ∷ ns) none = absurd (none-some e.1 (sym none))
-step_none change (suc i) (e ∷ es) (n ∷ ns) none = ap (λ xs. (e.0, place_with e.1 n) ∷ xs) (step_none change i es ns none)
+pub standing_rung : (r s : Step × Standing) → s.1 ≡ r.1 → (i : ℕ) (es : Nodes) (rs : Rungs) → AreStanding es rs → slice_get rs i ≡ Some r → AreStanding es (slice_set rs i s)
+standing_rung r s same i [] [] is at = is
+standing_rung r s same i [] (x ∷ rs) is at = absurd is
+standing_rung r s same i (e ∷ es) [] is at = absurd is
+standing_rung r s same zero (e ∷ es) (x ∷ rs) is at = (same ∙ ap (λ (y : Step × Standing). y.1) (sym (same_Some x r at)) ∙ is.0, is.1)
+standing_rung r s same (suc i) (e ∷ es) (x ∷ rs) is at = (is.0, standing_rung r s same i es rs is.1 at)
 
-pub node_set : (change : Place → Place) (node : Node → Node) → ((s : Step) (n : Node) → place_with s (node n) ≡ change (place_with s n))
-    → (i : ℕ) (es : Steps) (ns : List Node) (n : Node) → length es ≡ length ns → slice_get ns i ≡ Some n → places_from es (slice_set ns i (node n)) ≡ changed_at change i (places_from es ns)
-node_set change node same i es [] n long is = absurd (none-some n is)
-node_set change node same i [] (m ∷ ns) n long is = absurd (omega (arith, long))
-node_set change node same zero (e ∷ es) (m ∷ ns) n long is = ap (λ (x : Node). (e.0, place_with e.1 (node x)) ∷ places_from es ns) (sym (same_Some m n is)) ∙ ap (λ (p : Place). (e.0, p) ∷ places_from es ns) (same e.1 m)
-node_set change node same (suc i) (e ∷ es) (m ∷ ns) n long is = ap (λ xs. (e.0, place_with e.1 m) ∷ xs) (node_set change node same i es ns n (omega (arith, long)) is)
+pub rung_none : (change : Place → Place) (i : ℕ) (es : Nodes) (rs : Rungs) → slice_get rs i ≡ None → places_from es rs ≡ changed_at change i (places_from es rs)
+rung_none change i [] rs none = refl
+rung_none change i (e ∷ es) [] none = refl
+rung_none change zero (e ∷ es) (x ∷ rs) none = absurd (none-some x (sym none))
+rung_none change (suc i) (e ∷ es) (x ∷ rs) none = ap (λ xs. (e.0, place_with x.0 e.1) ∷ xs) (rung_none change i es rs none)
 
-pub node_none : (change : Place → Place) (i : ℕ) (es : Steps) (ns : List Node) → slice_get ns i ≡ None → places_from es ns ≡ changed_at change i (places_from es ns)
-node_none change i [] ns none = refl
+-- a node, and its rung along with it
+pub both_set : (change : Place → Place) (n m : Node) (r s : Step × Standing) → place_with s.0 m ≡ change (place_with r.0 n)
+    → (i : ℕ) (es : Nodes) (rs : Rungs) → AreStanding es rs → slice_get (values_of es) i ≡ Some n → slice_get rs i ≡ Some r → places_from (set_value_at es i m) (slice_set rs i s) ≡ changed_at change i (places_from es rs)
+both_set change n m r s same i [] rs is at lies = absurd (none-some n at)
+both_set change n m r s same i (e ∷ es) [] is at lies = absurd is
+both_set change n m r s same zero (e ∷ es) (x ∷ rs) is at lies = ap (λ (p : Place). (e.0, p) ∷ places_from es rs)
+    (same ∙ (λ j. change (place_with ((sym (same_Some x r lies) j).0) (sym (same_Some e.1 n at) j))))
+both_set change n m r s same (suc i) (e ∷ es) (x ∷ rs) is at lies = ap (λ xs. (e.0, place_with x.0 e.1) ∷ xs) (both_set change n m r s same i es rs is.1 at lies)
+
+pub standing_both : (m : Node) (s : Step × Standing) → s.1 ≡ standing_of m → (i : ℕ) (es : Nodes) (rs : Rungs) → AreStanding es rs → AreStanding (set_value_at es i m) (slice_set rs i s)
+standing_both m s same i [] [] is = is
+standing_both m s same i [] (x ∷ rs) is = absurd is
+standing_both m s same i (e ∷ es) [] is = absurd is
+standing_both m s same zero (e ∷ es) (x ∷ rs) is = (same, is.1)
+standing_both m s same (suc i) (e ∷ es) (x ∷ rs) is = (is.0, standing_both m s same i es rs is.1)
+
+pub node_none : (change : Place → Place) (i : ℕ) (es : Nodes) (rs : Rungs) → slice_get (values_of es) i ≡ None → places_from es rs ≡ changed_at change i (places_from es rs)
+node_none change i [] rs none = refl
 node_none change i (e ∷ es) [] none = refl
-node_none change zero (e ∷ es) (n ∷ ns) none = absurd (none-some n (sym none))
-node_none change (suc i) (e ∷ es) (n ∷ ns) none = ap (λ xs. (e.0, place_with e.1 n) ∷ xs) (node_none change i es ns none)
+node_none change zero (e ∷ es) (x ∷ rs) none = absurd (none-some e.1 (sym none))
+node_none change (suc i) (e ∷ es) (x ∷ rs) none = ap (λ xs. (e.0, place_with x.0 e.1) ∷ xs) (node_none change i es rs none)
 
-pub set_keys : (i : ℕ) (es : Steps) (ns : List Node) (s : Step) → length es ≡ length ns → IsDistinct bytes_eq (keys_of es) → (length (set_value_at es i s) ≡ length ns) × IsDistinct bytes_eq (keys_of (set_value_at es i s))
-set_keys i es ns s long distinct = (sizes i es s ∙ long, subst (λ (ks : List (List ℕ)). IsDistinct bytes_eq ks) (sym (keys i es s)) distinct)
+pub rung_there : (i : ℕ) (es : Nodes) (rs : Rungs) (n : Node) → AreStanding es rs → slice_get (values_of es) i ≡ Some n → i < length rs
+rung_there i [] rs n is at = absurd (none-some n at)
+rung_there i (e ∷ es) [] n is at = absurd is
+rung_there zero (e ∷ es) (x ∷ rs) n is at = omega arith
+rung_there (suc i) (e ∷ es) (x ∷ rs) n is at = let more = rung_there i es rs n is.1 at in omega (arith, more)
+
+pub set_keys : (i : ℕ) (es : Nodes) (n : Node) → IsDistinct bytes_eq (keys_of es) → IsDistinct bytes_eq (keys_of (set_value_at es i n))
+set_keys i es n distinct = subst (λ (ks : List (List ℕ)). IsDistinct bytes_eq ks) (sym (keys i es n)) distinct
   where
-    sizes : (i : ℕ) (es : Steps) (s : Step) → length (set_value_at es i s) ≡ length es
-    sizes i [] s = refl
-    sizes zero (e ∷ es) s = refl
-    sizes (suc i) (e ∷ es) s = ap (λ k. suc k) (sizes i es s)
-
-    keys : (i : ℕ) (es : Steps) (s : Step) → keys_of (set_value_at es i s) ≡ keys_of es
-    keys i [] s = refl
-    keys zero (e ∷ es) s = refl
-    keys (suc i) (e ∷ es) s = ap (λ ks. e.0 ∷ ks) (keys i es s)
+    keys : (i : ℕ) (es : Nodes) (n : Node) → keys_of (set_value_at es i n) ≡ keys_of es
+    keys i [] n = refl
+    keys zero (e ∷ es) n = refl
+    keys (suc i) (e ∷ es) n = ap (λ ks. e.0 ∷ ks) (keys i es n)
 
 -- what is found then
 pub look_changed : (change : Place → Place) (es : Rows) (n : List ℕ) (i : ℕ) (p : Place) → index_in es n ≡ Some i → lookup (bytes_eq n) es ≡ Some p
@@ -258,65 +306,110 @@ changed_twice change more (suc i) (e ∷ es) = ap (λ xs. e ∷ xs) (changed_twi
 
 -- ---- one out, with the last one in its place
 
-set_both : (es : Steps) (ns : List Node) (i : ℕ) (e : List ℕ × Step) (n : Node) → places_from (slice_set es i e) (slice_set ns i n) ≡ slice_set (places_from es ns) i (e.0, place_with e.1 n)
-set_both [] ns i e n = refl
-set_both (x ∷ es) [] i e n = none (slice_set (x ∷ es) i e)
+set_both : (es : Nodes) (rs : Rungs) (i : ℕ) (e : List ℕ × Node) (r : Step × Standing) → places_from (slice_set es i e) (slice_set rs i r) ≡ slice_set (places_from es rs) i (e.0, place_with r.0 e.1)
+set_both [] rs i e r = refl
+set_both (x ∷ es) [] i e r = none (slice_set (x ∷ es) i e)
   where
-    none : (xs : Steps) → places_from xs [] ≡ []
+    none : (xs : Nodes) → places_from xs [] ≡ []
     none [] = refl
     none (x ∷ xs) = refl
-set_both (x ∷ es) (y ∷ ns) zero e n = refl
-set_both (x ∷ es) (y ∷ ns) (suc i) e n = ap (λ xs. (x.0, place_with x.1 y) ∷ xs) (set_both es ns i e n)
+set_both (x ∷ es) (y ∷ rs) zero e r = refl
+set_both (x ∷ es) (y ∷ rs) (suc i) e r = ap (λ xs. (x.0, place_with y.0 x.1) ∷ xs) (set_both es rs i e r)
 
-index_both : (es : Steps) (ns : List Node) (i : ℕ) (e : List ℕ × Step) (n : Node) → length es ≡ length ns
-    → slice_index_or (places_from es ns) i (e.0, place_with e.1 n) ≡ ((slice_index_or es i e).0, place_with ((slice_index_or es i e).1) (slice_index_or ns i n))
-index_both [] [] i e n long = refl
-index_both [] (y ∷ ns) i e n long = absurd (omega (arith, long))
-index_both (x ∷ es) [] i e n long = absurd (omega (arith, long))
-index_both (x ∷ es) (y ∷ ns) zero e n long = refl
-index_both (x ∷ es) (y ∷ ns) (suc i) e n long = index_both es ns i e n (omega (arith, long))
+set_standing : (es : Nodes) (rs : Rungs) (i : ℕ) (e : List ℕ × Node) (r : Step × Standing) → r.1 ≡ standing_of e.1 → AreStanding es rs → AreStanding (slice_set es i e) (slice_set rs i r)
+set_standing [] [] i e r same is = is
+set_standing [] (y ∷ rs) i e r same is = absurd is
+set_standing (x ∷ es) [] i e r same is = absurd is
+set_standing (x ∷ es) (y ∷ rs) zero e r same is = (same, is.1)
+set_standing (x ∷ es) (y ∷ rs) (suc i) e r same is = (is.0, set_standing es rs i e r same is.1)
 
-take_both : (k : ℕ) (es : Steps) (ns : List Node) → places_from (take k es) (take k ns) ≡ take k (places_from es ns)
-take_both zero es ns = refl
-take_both (suc k) [] ns = refl
+index_both : (es : Nodes) (rs : Rungs) (i : ℕ) (e : List ℕ × Node) (r : Step × Standing) → AreStanding es rs
+    → slice_index_or (places_from es rs) i (e.0, place_with r.0 e.1) ≡ ((slice_index_or es i e).0, place_with ((slice_index_or rs i r).0) ((slice_index_or es i e).1))
+index_both [] [] i e r is = refl
+index_both [] (y ∷ rs) i e r is = absurd is
+index_both (x ∷ es) [] i e r is = absurd is
+index_both (x ∷ es) (y ∷ rs) zero e r is = refl
+index_both (x ∷ es) (y ∷ rs) (suc i) e r is = index_both es rs i e r is.1
+
+index_standing : (es : Nodes) (rs : Rungs) (i : ℕ) (e : List ℕ × Node) (r : Step × Standing) → r.1 ≡ standing_of e.1 → AreStanding es rs → (slice_index_or rs i r).1 ≡ standing_of ((slice_index_or es i e).1)
+index_standing [] [] i e r same is = same
+index_standing [] (y ∷ rs) i e r same is = absurd is
+index_standing (x ∷ es) [] i e r same is = absurd is
+index_standing (x ∷ es) (y ∷ rs) zero e r same is = is.0
+index_standing (x ∷ es) (y ∷ rs) (suc i) e r same is = index_standing es rs i e r same is.1
+
+take_both : (k : ℕ) (es : Nodes) (rs : Rungs) → places_from (take k es) (take k rs) ≡ take k (places_from es rs)
+take_both zero es rs = refl
+take_both (suc k) [] rs = refl
 take_both (suc k) (e ∷ es) [] = refl
-take_both (suc k) (e ∷ es) (n ∷ ns) = ap (λ xs. (e.0, place_with e.1 n) ∷ xs) (take_both k es ns)
+take_both (suc k) (e ∷ es) (r ∷ rs) = ap (λ xs. (e.0, place_with r.0 e.1) ∷ xs) (take_both k es rs)
 
-places_cut : (es : Steps) (ns : List Node) (i : ℕ) (e : List ℕ × Step) (n : Node) → length es ≡ length ns → places_from (swap_remove es i e) (swap_remove ns i n) ≡ swap_remove (places_from es ns) i (e.0, place_with e.1 n)
-places_cut es ns i e n long =
+take_standing : (k : ℕ) (es : Nodes) (rs : Rungs) → AreStanding es rs → AreStanding (take k es) (take k rs)
+take_standing zero es rs is = tt
+take_standing (suc k) [] [] is = is
+take_standing (suc k) [] (r ∷ rs) is = absurd is
+take_standing (suc k) (e ∷ es) [] is = absurd is
+take_standing (suc k) (e ∷ es) (r ∷ rs) is = (is.0, take_standing k es rs is.1)
+
+places_cut : (es : Nodes) (rs : Rungs) (i : ℕ) (e : List ℕ × Node) (r : Step × Standing) → AreStanding es rs → places_from (swap_remove es i e) (swap_remove rs i r) ≡ swap_remove (places_from es rs) i (e.0, place_with r.0 e.1)
+places_cut es rs i e r is =
     let last = length es - 1 in
-    ap (λ k. places_from (swap_remove es i e) (take (k - 1) (slice_set ns i (slice_index_or ns (k - 1) n)))) (sym long)
-    ∙ take_both last (slice_set es i (slice_index_or es last e)) (slice_set ns i (slice_index_or ns last n))
-    ∙ ap (take last) (set_both es ns i (slice_index_or es last e) (slice_index_or ns last n) ∙ ap (slice_set (places_from es ns) i) (sym (index_both es ns last e n long)))
-    ∙ ap (λ k. take (k - 1) (slice_set (places_from es ns) i (slice_index_or (places_from es ns) (k - 1) (e.0, place_with e.1 n)))) (sym (length_from es ns long))
+    ap (λ k. places_from (swap_remove es i e) (take (k - 1) (slice_set rs i (slice_index_or rs (k - 1) r)))) (as_many es rs is)
+    ∙ take_both last (slice_set es i (slice_index_or es last e)) (slice_set rs i (slice_index_or rs last r))
+    ∙ ap (take last) (set_both es rs i (slice_index_or es last e) (slice_index_or rs last r) ∙ ap (slice_set (places_from es rs) i) (sym (index_both es rs last e r is)))
+    ∙ ap (λ k. take (k - 1) (slice_set (places_from es rs) i (slice_index_or (places_from es rs) (k - 1) (e.0, place_with r.0 e.1)))) (sym (length_from es rs is))
 
-both_at : (es : Steps) (ns : List Node) (n : List ℕ) (i : ℕ) → length es ≡ length ns → position (bytes_eq n) (keys_of es) ≡ Some i → index_in (places_from es ns) n ≡ Some i
-both_at es ns n i long at = sym (index_position (places_from es ns) n) ∙ ap (position (bytes_eq n)) (keys_from es ns long) ∙ at
+standing_cut : (es : Nodes) (rs : Rungs) (i : ℕ) (e : List ℕ × Node) (r : Step × Standing) → r.1 ≡ standing_of e.1 → AreStanding es rs → AreStanding (swap_remove es i e) (swap_remove rs i r)
+standing_cut es rs i e r same is =
+    let last = length es - 1 in
+    subst (λ (k : ℕ). AreStanding (swap_remove es i e) (take (k - 1) (slice_set rs i (slice_index_or rs (k - 1) r)))) (sym (as_many es rs is))
+    (take_standing last (slice_set es i (slice_index_or es last e)) (slice_set rs i (slice_index_or rs last r))
+    (set_standing es rs i (slice_index_or es last e) (slice_index_or rs last r) (index_standing es rs last e r same is) is))
 
-module _ (es : Steps) (ns : List Node) (n : List ℕ) (i : ℕ) (node : Node) (long : length es ≡ length ns) (at : position (bytes_eq n) (keys_of es) ≡ Some i) (is : node ≡ slice_index_or ns i node) where
-  entry : {P : Type 0} → ((p : List ℕ × Place) → slice_get (places_from es ns) i ≡ Some p → p.1.node ≡ node → P) → P
-  entry {P} then = by (slice_get (places_from es ns) i) refl
+both_at : (es : Nodes) (rs : Rungs) (n : List ℕ) (i : ℕ) → AreStanding es rs → position (bytes_eq n) (keys_of es) ≡ Some i → index_in (places_from es rs) n ≡ Some i
+both_at es rs n i is at = sym (index_position (places_from es rs) n) ∙ ap (position (bytes_eq n)) (keys_from es rs is) ∙ at
+
+pub rung_placed : (es : Nodes) (rs : Rungs) (n : List ℕ) (i : ℕ) → AreStanding es rs → position (bytes_eq n) (keys_of es) ≡ Some i → i < length rs
+rung_placed es rs n i is at = by (slice_get (places_from es rs) i) refl
+  where
+    by : (o : Option (List ℕ × Place)) → slice_get (places_from es rs) i ≡ o → i < length rs
+    by None none = absurd (none-some n (sym (ap (option_map (λ (e : List ℕ × Place). e.0)) none) ∙ name_at_index (places_from es rs) n i (both_at es rs n i is at)))
+    by (Some p) there = within rs i (step_of p.1, standing_of p.1.node) (rungs_from es rs i is ∙ ap (option_map (λ (e : List ℕ × Place). (step_of e.1, standing_of e.1.node))) there)
+      where
+        within : (xs : Rungs) (k : ℕ) (x : Step × Standing) → slice_get xs k ≡ Some x → k < length xs
+        within [] k x at = absurd (none-some x at)
+        within (y ∷ xs) zero x at = omega arith
+        within (y ∷ xs) (suc k) x at = let more = within xs k x at in omega (arith, more)
+
+module _ (es : Nodes) (rs : Rungs) (n : List ℕ) (i : ℕ) (rung : Step × Standing) (standing : AreStanding es rs) (at : position (bytes_eq n) (keys_of es) ≡ Some i) (is : rung ≡ slice_index_or rs i rung) where
+  entry : {P : Type 0} → ((p : List ℕ × Place) → slice_get (places_from es rs) i ≡ Some p → rung ≡ (step_of p.1, standing_of p.1.node) → P) → P
+  entry {P} then = by (slice_get (places_from es rs) i) refl
     where
-      by : (o : Option (List ℕ × Place)) → slice_get (places_from es ns) i ≡ o → P
-      by None none = absurd (none-some n (sym (ap (option_map (λ (e : List ℕ × Place). e.0)) none) ∙ name_at_index (places_from es ns) n i (both_at es ns n i long at)))
+      by : (o : Option (List ℕ × Place)) → slice_get (places_from es rs) i ≡ o → P
+      by None none = absurd (none-some n (sym (ap (option_map (λ (e : List ℕ × Place). e.0)) none) ∙ name_at_index (places_from es rs) n i (both_at es rs n i standing at)))
       by (Some p) there =
-          let lies : slice_get ns i ≡ Some p.1.node = nodes_from es ns i long ∙ ap (option_map (λ (e : List ℕ × Place). e.1.node)) there in
-          then p there (sym (is ∙ get_or_from_slice_get ns i p.1.node node lies))
+          let lies : slice_get rs i ≡ Some (step_of p.1, standing_of p.1.node) = rungs_from es rs i standing ∙ ap (option_map (λ (e : List ℕ × Place). (step_of e.1, standing_of e.1.node))) there in
+          then p there (is ∙ get_or_from_slice_get rs i (step_of p.1, standing_of p.1.node) rung lies)
 
-  pub node_cut : Some node ≡ option_map (λ p. p.node) (lookup (bytes_eq n) (places_from es ns))
-  node_cut = entry (λ p there same. ap Some (sym same)
-      ∙ sym (ap (option_map (λ (x : Place). x.node)) (sym (place_at_index (places_from es ns) n) ∙ ap (λ o. option_map (λ (e : List ℕ × Place). e.1) (entry_in (places_from es ns) o)) (both_at es ns n i long at) ∙ ap (option_map (λ (e : List ℕ × Place). e.1)) there)))
+  module _ (fs : Nodes) (ss : Rungs) (nodes : fs ≡ swap_remove_entry (bytes_eq n) es) (rungs : ss ≡ swap_remove rs i rung) where
+    cut : (e : List ℕ × Node) → fs ≡ swap_remove es i e
+    cut e = nodes ∙ swap_remove_entry-found (bytes_eq n) es i e at
 
-  pub look_cut : (fs : Steps) (ms : List Node) → IsDistinct bytes_eq (keys_of es) → fs ≡ swap_remove_entry (bytes_eq n) es → ms ≡ swap_remove ns i node
-      → (q : List ℕ) → lookup (bytes_eq q) (places_from fs ms) ≡ cond (bytes_eq n q) None (lookup (bytes_eq q) (places_from es ns))
-  look_cut fs ms distinct steps nodes q = entry (λ p there same.
-      let cut : places_from fs ms ≡ swap_remove (places_from es ns) i p =
-      (λ j. places_from (steps j) (nodes j))
-      ∙ ap (λ xs. places_from xs (swap_remove ns i node)) (swap_remove_entry-found (bytes_eq n) es i (p.0, step_of p.1) at)
-      ∙ places_cut es ns i (p.0, step_of p.1) node long
-      ∙ ap (λ (x : Node). swap_remove (places_from es ns) i (p.0, place_with (step_of p.1) x)) (sym same) in
-      (swap_out bytes_eq nat_list_eq_equiv (bytes_eq n) (nat_list_eq_equiv.congr n) (places_from es ns) i p (ap (position (bytes_eq n)) (keys_from es ns long) ∙ at) there
-      (distinct_from es ns long distinct) (places_from fs ms) cut).updated.0 q)
+    pub standing_out : AreStanding fs ss
+    standing_out = entry (λ p there same.
+        let e : List ℕ × Node = (p.0, p.1.node) in
+        let whole : AreStanding (swap_remove es i e) (swap_remove rs i rung) = standing_cut es rs i e rung (ap (λ (r : Step × Standing). r.1) same) standing in
+        subst (λ (xs : Nodes). AreStanding xs ss) (sym (cut e)) (subst (λ (xs : Rungs). AreStanding (swap_remove es i e) xs) (sym rungs) whole))
+
+    pub look_cut : IsDistinct bytes_eq (keys_of es) → (q : List ℕ) → lookup (bytes_eq q) (places_from fs ss) ≡ cond (bytes_eq n q) None (lookup (bytes_eq q) (places_from es rs))
+    look_cut distinct q = entry (λ p there same.
+        let e : List ℕ × Node = (p.0, p.1.node) in
+        let out : places_from fs ss ≡ swap_remove (places_from es rs) i p =
+        (λ j. places_from (cut e j) (rungs j))
+        ∙ places_cut es rs i e rung standing
+        ∙ ap (λ (r : Step × Standing). swap_remove (places_from es rs) i (p.0, place_with r.0 p.1.node)) same in
+        (swap_out bytes_eq nat_list_eq_equiv (bytes_eq n) (nat_list_eq_equiv.congr n) (places_from es rs) i p (ap (position (bytes_eq n)) (keys_from es rs standing) ∙ at) there
+        (distinct_from es rs standing distinct) (places_from fs ss) out).updated.0 q)
 
 -- none out where a name has no place
 pub look_none : (es : Rows) (n : List ℕ) → lookup (bytes_eq n) es ≡ None → (q : List ℕ) → lookup (bytes_eq q) es ≡ cond (bytes_eq n q) None (lookup (bytes_eq q) es)

@@ -4,13 +4,20 @@
 --     to_out, to_here      where it stops
 --     ends_on        how many nodes it passes
 --     halts_on       whether it passes a node that has a reason by its parent
-use Rattle.std.proofs.Common.{◌≡◌, ℕ, zero, suc, ◌+◌, ◌-◌, ◌<◌, Bool, true, false, cond, ◌||◌, Option, Some, None, option_map, List, is_some, refl, sym, ap, ◌∙◌, arith}
+--     halted_by, such_node      which is told by how nodes stand
+use Rattle.std.proofs.Common.{◌≡◌, ℕ, zero, suc, ◌+◌, ◌-◌, ◌<◌, Bool, true, false, cond, not, ◌&&◌, ◌||◌, Option, Some, None, option_map, List, [], ◌∷◌, is_some, refl, sym, ap, ◌∙◌, arith}
 use Rattle.std.specs.Prelude.{option_and_then}
+use Rattle.std.specs.Option.{option_map_or}
 use Rattle.std.specs.Str.{bytes_eq}
+use Rattle.std.proofs.lemmas.Option.{none-some, same_Some}
 use Rattle.hx_model.specs.declared.node.Node.{Node}
 use Rattle.hx_model.specs.Forest.{Forest, is_there, node_of, parent_of}
 use Rattle.hx_model.specs.Walks.{walk_to, walk_ends}
-use Rattle.hx_forest.specs.Inside.{halt_by, node_at, nodes_end, nodes_halt}
+use Rattle.hx_model.specs.First.{so, first}
+use Rattle.hx_model.specs.declared.node.Halt.TheVariants.{ParentMissing, IllegalParent}
+use Rattle.hx_forest.specs.declared.steps.Standing.{Standing}
+use Rattle.hx_forest.specs.Inside.{halt_at, halt_by, is_halted_by, node_at, nodes_end, nodes_halt}
+use Rattle.hx_forest.specs.Places.{standing_of}
 
 nothing_left : {A : Type 0} → 0 < 0 → A
 nothing_left pos = let no : ⊥ = omega arith in absurd no
@@ -89,3 +96,21 @@ halts_on (suc left) f next node has pos is =
     further a b None = refl
     further true b (Some c) = refl
     further false b (Some c) = refl
+
+-- which is told by how the nodes stand
+pub halted_by : (node : Node) (above : Option Node) → is_halted_by (standing_of node) (option_map standing_of above) ≡ is_some (halt_at node.parent above)
+halted_by node above = by node.parent above
+  where
+    under : (terminating excluded : Bool) → not (not terminating && not excluded) ≡ is_some (first (so terminating ParentMissing ∷ so excluded IllegalParent ∷ []))
+    under true excluded = refl
+    under false true = refl
+    under false false = refl
+
+    by : (parent : Option (List ℕ)) (above : Option Node) → (not (not (is_some parent)) && option_map_or (λ (s : Standing). not s.calm) (option_map standing_of above) true) ≡ is_some (halt_at parent above)
+    by None above = refl
+    by (Some p) None = refl
+    by (Some p) (Some q) = under q.terminating q.excluded
+
+pub such_node : {P : Type 0} (o : Option Node) (s : Standing) → Some s ≡ option_map standing_of o → ((node : Node) → o ≡ Some node → s ≡ standing_of node → P) → P
+such_node None s is then = absurd (none-some s (sym is))
+such_node (Some node) s is then = then node refl (same_Some s (standing_of node) is)

@@ -3,10 +3,11 @@
 --     chain_count         how many members a chain has, in a cycle too
 --     halt_under node     the reason that a namespace has by the node of its parent
 --     halt_by, halt_at    the reason that one has by its parent, which may not be there
+--     is_halted_by        whether it has one, by how its node and its parent's stand
 --     nodes_end           how many a walk up from a node passes, where it has ended by then
 --     nodes_halt          whether it passes one that has such a reason
 --     is_over, goes_deeper      whether the way down from a name goes on for more than so many steps
-use Rattle.std.specs.Prelude.{ℕ, zero, suc, ◌+◌, Bool, false, not, ◌&&◌, ◌||◌, if◌then◌else◌, List, [], ◌∷◌, length, is_some, Option, Some, None, option_map, option_and_then}
+use Rattle.std.specs.Prelude.{ℕ, zero, suc, ◌+◌, Bool, true, false, not, ◌&&◌, ◌||◌, if◌then◌else◌, List, [], ◌∷◌, length, is_some, Option, Some, None, option_map, option_and_then}
 use Rattle.std.specs.List.{list_any}
 use Rattle.std.specs.Option.{option_map_or}
 use Rattle.std.specs.Str.{bytes_eq}
@@ -15,6 +16,7 @@ use Rattle.hx_model.specs.Forest.{Forest, node_of, is_there, parent_of, children
 use Rattle.hx_model.specs.Walks.{walk_to}
 use Rattle.hx_model.specs.declared.node.Node.{Node}
 use Rattle.hx_model.specs.declared.node.Halt.{Halt}
+use Rattle.hx_forest.specs.declared.steps.Standing.{Standing}
 use Rattle.hx_model.specs.declared.node.Halt.TheVariants.{ParentMissing, IllegalParent}
 
 -- the namespaces that a walk up passes in so many steps
@@ -44,6 +46,10 @@ node_at f next = option_and_then (node_of f) next
 -- the reason by a parent
 abbrev pub halt_by : Forest → Option (List ℕ) → Option Halt
 halt_by f parent = halt_at parent (node_at f parent)
+
+-- whether a namespace has such a reason, by how its node and that of its parent stand
+abbrev pub is_halted_by : Standing → Option Standing → Bool
+is_halted_by member above = not member.root && option_map_or (λ s. not s.calm) above true
 
 -- how many nodes a walk up from a node passes, where it has ended by then
 abbrev pub nodes_end : ℕ → Forest → Option Node → Option ℕ

@@ -1,15 +1,17 @@
 -- The places of namespaces, in the order in which they lie.
 --     Place, PlacesView           a node with a step; all of them by their names, and how many more fit without taking memory
 --     place_with, step_of         a place, and the step of it
---     places_from                 the places of steps and nodes in the same order
+--     standing_of                 how a node stands
+--     places_from, AreStanding    the places of nodes and of rungs in the same order, where each rung says how its node stands
 --     index_in, entry_in          where a name lies, and what lies there
 --     changed_at                  a place is another one
-use Rattle.std.specs.Prelude.{ℕ, zero, suc, true, cond, List, [], ◌∷◌, Option, Some, None, option_map, option_and_then, slice_get, refl}
+use Rattle.std.specs.Prelude.{◌≡◌, ℕ, zero, suc, true, not, ◌&&◌, cond, List, [], ◌∷◌, Option, Some, None, option_map, option_and_then, is_some, slice_get, refl}
 use Rattle.std.specs.Coded.{Coded, code_by, coded×, coded_list, coded_ℕ}
 use Rattle.std.specs.Str.{bytes_eq}
 use Rattle.hx_model.specs.contracts.node.Node as node
 use Rattle.hx_model.specs.declared.node.Node.{Node}
 use Rattle.hx_forest.specs.contracts.steps.Step as step
+use Rattle.hx_forest.specs.declared.steps.Standing.{Standing}
 use Rattle.hx_forest.specs.declared.steps.Step.{Step}
 use Rattle.hx_forest.specs.declared.steps.Way.{Way}
 
@@ -42,11 +44,22 @@ abbrev pub places_code : Coded PlacesView
 places_code = code_by (List (List ℕ × Place) × ℕ) (coded× (coded_list (coded× (coded_list coded_ℕ) place_code)) coded_ℕ)
     (λ v. (v.entries, v.spare)) (λ p. record { entries = p.0; spare = p.1 }) (λ _. refl)
 
--- the places of steps and nodes in the same order
-abbrev pub places_from : List (List ℕ × Step) → List Node → List (List ℕ × Place)
-places_from [] ns = []
+-- how a node stands
+abbrev pub standing_of : Node → Standing
+standing_of n = record { root = not (is_some n.parent); calm = not n.terminating && not n.excluded }
+
+-- the places of nodes by their names, and of rungs in the same order
+abbrev pub places_from : List (List ℕ × Node) → List (Step × Standing) → List (List ℕ × Place)
+places_from [] rs = []
 places_from (e ∷ es) [] = []
-places_from (e ∷ es) (n ∷ ns) = (e.0, place_with e.1 n) ∷ places_from es ns
+places_from (e ∷ es) (r ∷ rs) = (e.0, place_with r.0 e.1) ∷ places_from es rs
+
+-- there are as many, and each rung says how its node stands
+abbrev pub AreStanding : List (List ℕ × Node) → List (Step × Standing) → Type 0
+AreStanding [] [] = Unit {0}
+AreStanding [] (r ∷ rs) = ⊥
+AreStanding (e ∷ es) [] = ⊥
+AreStanding (e ∷ es) (r ∷ rs) = (r.1 ≡ standing_of e.1) × AreStanding es rs
 
 -- where a name lies
 abbrev pub index_in : List (List ℕ × Place) → List ℕ → Option ℕ

@@ -6,13 +6,14 @@ ghost use Rattle.hx_model.specs.Forest.{own_halt_of, halt_of, is_live};
 ghost use Rattle.hx_model.specs.Moves.{is_calm};
 ghost use Rattle.hx_model.specs.TreeLabels.{is_open};
 ghost use Rattle.hx_model.specs.Walks.{walk_ends};
-ghost use Rattle.hx_forest.specs.Inside.{halt_at, halt_under, nodes_halt};
+ghost use Rattle.hx_forest.specs.Inside.{halt_at, halt_under, is_halted_by, nodes_halt};
 ghost use Rattle.hx_forest.specs.Ways.{forest_of, node_in, index_at, place_in, AllLeadUp};
 ghost use Rattle.hx_forest.specs.Notes.{AreNoted};
 ghost use Rattle.hx_model.specs.declared.node.Halt.TheVariants.{Ancestor};
 
 use crate::forest::Forest;
 use crate::places::Nodes;
+use crate::steps::{Standing, is_calm};
 use hx_model::{Halt, Node};
 use hx_object::Text;
 
@@ -156,11 +157,11 @@ impl Nodes {
         let mut left = self.len();
         while left > 0 {
             left -= 1;
-            let Some(node) = self.node_in(at) else {
+            let Some(member) = self.standing(at) else {
                 return Some(has);
             };
             at = self.above(at);
-            has = has || halt_by(node, self.node_in(at)).is_some();
+            has = has || is_halted_by(member, self.standing(at));
         }
         None
     }
@@ -195,13 +196,6 @@ impl Nodes {
     }
 }
 
-/// Whether a namespace isn't on its way out, and isn't excluded.
-fn is_calm(node: &Node) -> bool
-    ensures { result ≡ (not node.now.terminating && not node.now.excluded) }
-{
-    !node.terminating && !node.excluded
-}
-
 /// The reason that a namespace has by its parent, whose node is `above` where it is there.
 fn halt_by(node: &Node, above: Option<&Node>) -> Option<Halt>
     ensures { result ≡ halt_at node.now.parent (option_copied above.entry) }
@@ -212,6 +206,19 @@ fn halt_by(node: &Node, above: Option<&Node>) -> Option<Halt>
     match above {
         Some(parent) => halt_under(parent),
         None => Some(Halt::ParentMissing),
+    }
+}
+
+/// Whether a namespace has such a reason, where what its parent is stands in `above`.
+fn is_halted_by(member: &Standing, above: Option<&Standing>) -> bool
+    ensures { result ≡ is_halted_by member.now (option_copied above.entry) }
+{
+    if member.root {
+        return false;
+    }
+    match above {
+        Some(parent) => !parent.calm,
+        None => true,
     }
 }
 

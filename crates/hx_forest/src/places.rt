@@ -1,16 +1,16 @@
 // Nodes by the names of their namespaces.
-ghost use Rattle.std.specs.Prelude.{◌≡◌, ◌+◌, ◌<◌, ◌≤◌, ◌^◌, ℕ, List, true, false, is_some, Some, None, [], length, OnOk, IfSome, option_copied};
+ghost use Rattle.std.specs.Prelude.{◌≡◌, ◌+◌, ◌<◌, ◌≤◌, ◌^◌, ℕ, List, true, false, is_some, Some, None, [], length, OnOk, IfSome, option_copied, option_map};
 ghost use Rattle.std.specs.List.{IsDistinct};
 ghost use Rattle.std.specs.Map.{keys_of};
 ghost use Rattle.std.specs.Option.{option_map_or};
 ghost use Rattle.std.specs.Str.{bytes_eq};
 ghost use Rattle.hx_model.specs.Forest.{halt_of, is_there, node_of, parent_of, with_parent};
 ghost use Rattle.hx_model.specs.ForestChanges.{with_node, with_terminating, without_node};
-ghost use Rattle.hx_forest.specs.Places.{Place};
+ghost use Rattle.hx_forest.specs.Places.{Place, standing_of};
 ghost use Rattle.hx_forest.specs.Ways.{forest_of, node_in, number_at, index_at, name_in, place_in, parent_in, IsAt, AllLeadUp};
 ghost use Rattle.hx_forest.specs.Notes.{AreNoted};
 
-use crate::steps::{Places, Step, Way};
+use crate::steps::{Places, Standing, Step, Way};
 use hx_model::Node;
 use hx_object::{NoMemory, Text};
 use std::alloc::Global;
@@ -113,6 +113,13 @@ impl Nodes {
         ensures { option_copied result ≡ node_in (place_in self.now at) }
     {
         self.places.node(at)
+    }
+
+    /// How the node at an index stands.
+    pub(crate) fn standing(&self, at: Option<usize>) -> Option<&Standing>
+        ensures { option_copied result ≡ option_map standing_of (node_in (place_in self.now at)) }
+    {
+        self.places.standing(at)
     }
 
     /// Whether a place lies at an index.

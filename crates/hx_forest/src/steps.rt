@@ -1,9 +1,9 @@
 // The places of namespaces: what a step up reads lies by itself.
-ghost use Rattle.std.specs.Prelude.{◌≡◌, ◌+◌, ◌<◌, ◌≤◌, ◌^◌, ◌++◌, ℕ, List, None, Some, cond, [], ◌∷◌, length, option_map, option_and_then, OnOk, option_copied};
+ghost use Rattle.std.specs.Prelude.{◌≡◌, ◌+◌, ◌<◌, ◌≤◌, ◌^◌, ◌++◌, ◌&&◌, not, ℕ, List, None, Some, cond, [], ◌∷◌, length, option_map, option_and_then, OnOk, option_copied};
 ghost use Rattle.std.specs.List.{IsDistinct};
 ghost use Rattle.std.specs.Map.{keys_of, lookup};
 ghost use Rattle.std.specs.Str.{bytes_eq};
-ghost use Rattle.hx_forest.specs.Places.{place_with, step_of, index_in, entry_in, changed_at, with_up, with_noted, terminating, below};
+ghost use Rattle.hx_forest.specs.Places.{place_with, step_of, standing_of, index_in, entry_in, changed_at, with_up, with_noted, terminating, below};
 
 use crate::children::{NameMap, map_by_name};
 use hx_model::Node;
@@ -29,15 +29,22 @@ pub(crate) struct Step {
     pub(crate) noted: u64,
 }
 
-/// Places by the names of their namespaces. The steps lie in a vector of their own, and the nodes in the same order in another.
+/// What a walk up asks of a node: whether it names no parent, and whether it is neither on its way out nor excluded.
+#[derive(Clone, Copy)]
+pub(crate) struct Standing {
+    pub(crate) root: bool,
+    pub(crate) calm: bool,
+}
+
+/// Places by the names of their namespaces. What a walk up reads lies in a vector of its own, in the order of the names.
 pub(crate) struct Places {
-    steps: NameMap<Step>,
-    nodes: Vec<Node>,
+    nodes: NameMap<Node>,
+    rungs: Vec<(Step, Standing)>,
 }
 
 impl Drop for Places {
     fn drop(self) {
-        let Places { steps: _, nodes: _ } = self;
+        let Places { nodes: _, rungs: _ } = self;
     }
 }
 
@@ -48,15 +55,15 @@ impl Model for Places {
     ghost use Rattle.std.specs.Str.{bytes_eq};
     ghost use Rattle.std.specs.Vec.{vec_capacity};
     ghost use Rattle.indexmap.specs.IndexMap.{spare};
-    ghost use Rattle.hx_forest.specs.Places.{PlacesView, places_code, places_from};
+    ghost use Rattle.hx_forest.specs.Places.{PlacesView, places_code, places_from, AreStanding};
 
     ghost Value = { PlacesView };
 
     ghost coded = { places_code };
 
-    ghost view = { λ p. record { entries = places_from p.steps.entries p.nodes.items; spare = min (spare p.steps) (vec_capacity p.nodes - vec_len p.nodes) } };
+    ghost view = { λ p. record { entries = places_from p.nodes.entries p.rungs.items; spare = min (spare p.nodes) (vec_capacity p.rungs - vec_len p.rungs) } };
 
-    ghost invariant = { λ p. (length p.steps.entries ≡ length p.nodes.items) × IsDistinct bytes_eq (keys_of p.steps.entries) };
+    ghost invariant = { λ p. AreStanding p.nodes.entries p.rungs.items × IsDistinct bytes_eq (keys_of p.nodes.entries) };
 }
 
 impl Places {
@@ -65,13 +72,13 @@ impl Places {
         ensures { result.entries ≡ [] }
     {
         Places {
-            steps: map_by_name(alloc, keys),
-            nodes: Vec::new(alloc),
+            nodes: map_by_name(alloc, keys),
+            rungs: Vec::new(alloc),
         }
     }
 
     pub(crate) fn allocator(&self) -> Global {
-        *self.steps.allocator()
+        *self.nodes.allocator()
     }
 
     /// How many there are.
@@ -80,7 +87,7 @@ impl Places {
         ensures small { result < 2 ^ 63 }
         ensures unique { IsDistinct bytes_eq (keys_of self.now.entries) }
     {
-        self.steps.len()
+        self.nodes.len()
     }
 
     /// Makes room for `more`. Where no memory is left, the room stays.
@@ -88,15 +95,15 @@ impl Places {
         ensures entries { self.new.entries ≡ self.old.entries }
         ensures room { OnOk result (more ≤ self.new.spare) }
     {
-        self.steps.reserve(more)?;
-        Ok(self.nodes.reserve(more)?)
+        self.nodes.reserve(more)?;
+        Ok(self.rungs.reserve(more)?)
     }
 
     /// The index of a namespace.
     pub(crate) fn index_of(&self, name: &Text) -> Option<usize>
         ensures { result ≡ index_in self.now.entries name.now }
     {
-        self.steps.get_index_of(name)
+        self.nodes.get_index_of(name)
     }
 
     /// The namespace at an index.
@@ -104,7 +111,7 @@ impl Places {
         ensures name { option_copied result ≡ option_map (λ e. e.0) (entry_in self.now.entries at) }
         ensures unique { IsDistinct bytes_eq (keys_of self.now.entries) }
     {
-        let (name, _) = self.steps.get_index(at?)?;
+        let (name, _) = self.nodes.get_index(at?)?;
         Some(name)
     }
 
@@ -113,15 +120,24 @@ impl Places {
         ensures step { option_copied result ≡ option_map (λ e. step_of e.1) (entry_in self.now.entries at) }
         ensures unique { IsDistinct bytes_eq (keys_of self.now.entries) }
     {
-        let (_, step) = self.steps.get_index(at?)?;
+        let (step, _) = self.rungs.get(at?)?;
         Some(step)
+    }
+
+    /// How the node at an index stands.
+    pub(crate) fn standing(&self, at: Option<usize>) -> Option<&Standing>
+        ensures { option_copied result ≡ option_map (λ e. standing_of e.1.node) (entry_in self.now.entries at) }
+    {
+        let (_, standing) = self.rungs.get(at?)?;
+        Some(standing)
     }
 
     /// The node at an index.
     pub(crate) fn node(&self, at: Option<usize>) -> Option<&Node>
         ensures { option_copied result ≡ option_map (λ e. e.1.node) (entry_in self.now.entries at) }
     {
-        self.nodes.get(at?)
+        let (_, node) = self.nodes.get_index(at?)?;
+        Some(node)
     }
 
     /// Adds a place at the end. It takes no memory.
@@ -131,8 +147,9 @@ impl Places {
         ensures entries { self.new.entries ≡ self.old.entries ++ (name, place_with step node) ∷ [] }
         ensures room { self.old.spare ≤ self.new.spare + 1 }
     {
-        let _none = self.steps.insert(name, step).unwrap();
-        self.nodes.push(node).unwrap();
+        let standing = standing_of(&node);
+        let _none = self.nodes.insert(name, node).unwrap();
+        self.rungs.push((step, standing)).unwrap();
     }
 
     /// Takes a place out, and puts the last one where it lay. The node comes back.
@@ -141,8 +158,9 @@ impl Places {
         ensures entries { (q : List ℕ) → lookup (bytes_eq q) self.new.entries ≡ cond (bytes_eq name.now q) None (lookup (bytes_eq q) self.old.entries) }
         ensures room { self.old.spare ≤ self.new.spare }
     {
-        let (at, _, _) = self.steps.swap_remove_full(name)?;
-        Some(self.nodes.swap_remove(at))
+        let (at, _, node) = self.nodes.swap_remove_full(name)?;
+        let _rung = self.rungs.swap_remove(at);
+        Some(node)
     }
 
     /// Gives the place at an index another way up.
@@ -150,10 +168,10 @@ impl Places {
         ensures entries { self.new.entries ≡ changed_at (with_up up) at self.old.entries }
         ensures room { self.old.spare ≤ self.new.spare }
     {
-        let Some(step) = self.steps.get_index_mut(at) else {
+        let Some(rung) = self.rungs.get_mut(at) else {
             return;
         };
-        step.up = up;
+        rung.0.up = up;
     }
 
     /// Gives the place at an index another stamp.
@@ -161,10 +179,10 @@ impl Places {
         ensures entries { self.new.entries ≡ changed_at (with_noted stamp) at self.old.entries }
         ensures room { self.old.spare ≤ self.new.spare }
     {
-        let Some(step) = self.steps.get_index_mut(at) else {
+        let Some(rung) = self.rungs.get_mut(at) else {
             return;
         };
-        step.noted = stamp;
+        rung.0.noted = stamp;
     }
 
     /// Marks the node at an index as terminating.
@@ -172,10 +190,11 @@ impl Places {
         ensures entries { self.new.entries ≡ changed_at terminating at self.old.entries }
         ensures room { self.old.spare ≤ self.new.spare }
     {
-        let Some(node) = self.nodes.get_mut(at) else {
+        let Some(node) = self.nodes.get_index_mut(at) else {
             return;
         };
         node.terminating = true;
+        self.rungs[at].1 = standing_of(node);
     }
 
     /// Gives the node at an index another parent, or none, and gives back the one that it had.
@@ -184,7 +203,26 @@ impl Places {
         ensures old { result ≡ option_and_then (λ p. p.node.parent) (option_map (λ e. e.1) (entry_in self.old.entries (Some at))) }
         ensures room { self.old.spare ≤ self.new.spare }
     {
-        let node = self.nodes.get_mut(at)?;
-        mem::replace(&mut node.parent, parent)
+        let node = self.nodes.get_index_mut(at)?;
+        let old = mem::replace(&mut node.parent, parent);
+        self.rungs[at].1 = standing_of(node);
+        old
     }
+}
+
+/// How a node stands.
+fn standing_of(node: &Node) -> Standing
+    ensures { result ≡ standing_of node.now }
+{
+    Standing {
+        root: node.parent.is_none(),
+        calm: is_calm(node),
+    }
+}
+
+/// Whether a namespace isn't on its way out, and isn't excluded.
+pub(crate) fn is_calm(node: &Node) -> bool
+    ensures { result ≡ (not node.now.terminating && not node.now.excluded) }
+{
+    !node.terminating && !node.excluded
 }

@@ -6,8 +6,8 @@ use Rattle.hx_forest.proofs.steps.Places.index_of.Goals as goal
 
 pub returns : goal.returns
 returns c =
-    let es = c.self.inside.steps.entries in
-    let ns = c.self.inside.nodes.items in
+    let es = c.self.inside.nodes.entries in
+    let rs = c.self.inside.rungs.items in
     let n = c.args.name.now in
-    c.get_index_of.ensures.index ∙ ap (position (bytes_eq n)) (sym (keys_from es ns c.self.invariant.0)) ∙ index_position (places_from es ns) n
+    c.get_index_of.ensures.index ∙ ap (position (bytes_eq n)) (sym (keys_from es rs c.self.invariant.0)) ∙ index_position (places_from es rs) n
     ∙ ap (λ (v : PlacesView). index_in v.entries n) c.self.view_is
