@@ -80,7 +80,7 @@ module _ (places : Places) (at : ℕ) (up : Option ℕ) (distinct : IsDistinct b
 
 -- no walk passes one that isn't there
 walk_absent : (left : ℕ) (f : Forest) (next : Option (List ℕ)) (a : List ℕ) → is_there f a ≡ false → walk_has left f next a ≡ false
-walk_absent zero f next a out = refl
+walk_absent zero f first a out = refl
 walk_absent (suc left) f None a out = refl
 walk_absent (suc left) f (Some n) a out = at (is_there f n) refl (bytes_eq n a) refl (walk_absent left f (parent_of f n) a out)
   where

@@ -4,18 +4,19 @@
 --     tied_put                 another parent
 --     tied_out                 one that goes, and the last one at its index
 --     way_up                   the index of a name
---     relinked_to, relink_one, relink_all      indices that are relinked one after the other
+--     relinked_to, relink_one, relink_none, relink_that, relink_all      indices that are relinked one after the other
 --     up_found, up_absent      what is noted at an index
 --     up_in, link_parent       what is said of links holds of places, and so the other way round
-use Rattle.std.specs.Prelude.{is_some, slice_get, slice_set, swap_remove, take, get_or, position, IfSome}
+use Rattle.std.specs.Prelude.{is_some, slice_get, slice_set, swap_remove, take, get_or, position, nat_eq, IfSome}
 use Rattle.std.proofs.Common.{◌≡◌, ℕ, zero, suc, ◌-◌, ◌<◌, Bool, true, false, cond, Option, Some, None, option_map, List, [], ◌∷◌, ◌++◌, map, length, refl, sym, ap, ◌∙◌, subst, inl, inr, ◌≢◌, arith, true≢false}
 use Rattle.std.specs.List.{IsDistinct}
 use Rattle.std.specs.Map.{keys_of, lookup}
+use Rattle.std.specs.Option.{option_map_or}
 use Rattle.std.specs.Str.{bytes_eq}
 use Rattle.std.proofs.lemmas.Bool.Decides.{eqb_tells}
 use Rattle.std.proofs.lemmas.Cmp.{nat_list_eq_equiv}
 use Rattle.std.proofs.lemmas.Map.Entries.{lookup_from_place}
-use Rattle.std.proofs.lemmas.Option.{none-some, same_Some}
+use Rattle.std.proofs.lemmas.Option.{none-some, same_Some, slice_get-get_or}
 use Rattle.indexmap.specs.IndexMap.{set_value_at}
 use Rattle.hx_model.proofs.Climbing.{is_same}
 use Rattle.hx_quota.specs.PlaceRows.{Place, Link, Links, Rows, first_row, behind, place_of_parts, place_at, joined, IsUp, AreTied, relinked}
@@ -174,11 +175,6 @@ get_within [] i q is = absurd (none-some q is)
 get_within (e ∷ links) zero q is = omega arith
 get_within (e ∷ links) (suc i) q is = let rest = get_within links i q is in omega (arith, rest)
 
-get_as : (links : Links) (i : ℕ) (e : Row) → i < length links → slice_get links i ≡ Some (get_or links i e)
-get_as [] i e within = absurd (omega (arith, within))
-get_as (x ∷ links) zero e within = refl
-get_as (x ∷ links) (suc i) e within = get_as links i e (omega (arith, within))
-
 module _ (links : Links) (at : ℕ) (n : List ℕ) (gone : Row) (within : at < length links) (here : option_map (λ (e : Row). e.0) (slice_get links at) ≡ Some n)
     (updated : (q : List ℕ) → lookup (bytes_eq q) (swap_remove links at gone) ≡ cond (bytes_eq n q) None (lookup (bytes_eq q) links)) where
   abbrev new : Links
@@ -208,7 +204,7 @@ module _ (links : Links) (at : ℕ) (n : List ℕ) (gone : Row) (within : at < l
       moved : i ≡ last → option_map (λ (e : Row). e.0) (slice_get new at) ≡ Some q
       moved is_last =
           let before : at < last = omega (arith, within, inside, is_last, not_here) in
-          ap (λ (o : Option Row). option_map (λ e. e.0) o) (get_take last (slice_set links at (get_or links last gone)) at before ∙ get_here links at (get_or links last gone) within ∙ sym (get_as links last gone (omega (arith, inside))))
+          ap (λ (o : Option Row). option_map (λ e. e.0) o) (get_take last (slice_set links at (get_or links last gone)) at before ∙ get_here links at (get_or links last gone) within ∙ sym (slice_get-get_or links last gone (omega (arith, inside))))
           ∙ ap (λ (k : ℕ). option_map (λ (e : Row). e.0) (slice_get links k)) (sym is_last) ∙ is
 
       stays : i ≢ last → option_map (λ (e : Row). e.0) (slice_get new i) ≡ Some q
@@ -274,6 +270,22 @@ relink_one zero from to [] u is = refl
 relink_one zero from to (x ∷ ups) u is = ap (λ (o : Option ℕ). relinked from to o ∷ ups) (sym (same_Some x u is))
 relink_one (suc k) from to [] u is = refl
 relink_one (suc k) from to (x ∷ ups) u is = ap (λ us. relinked from to x ∷ us) (relink_one k from to ups u is)
+
+-- one that doesn't lie there stays
+pub relink_none : (k from to : ℕ) (ups : Ups) (u : Option ℕ) → slice_get (relinked_to k from to ups) k ≡ Some u → option_map_or (λ i. nat_eq i from) u false ≡ false → relinked_to k from to ups ≡ relinked_to (suc k) from to ups
+relink_none zero from to [] u is out = refl
+relink_none zero from to (x ∷ ups) u is out = ap (λ (o : Option ℕ). o ∷ ups) (stays x (ap (λ (o : Option ℕ). option_map_or (λ i. nat_eq i from) o false) (same_Some x u is) ∙ out))
+  where
+    stays : (x : Option ℕ) → option_map_or (λ i. nat_eq i from) x false ≡ false → x ≡ relinked from to x
+    stays None h = refl
+    stays (Some i) h = ap (λ b. Some (cond b to i)) (sym h)
+relink_none (suc k) from to [] u is out = refl
+relink_none (suc k) from to (x ∷ ups) u is out = ap (λ us. relinked from to x ∷ us) (relink_none k from to ups u is out)
+
+-- and one that does lies elsewhere
+pub relink_that : (from to : ℕ) (u : Option ℕ) → option_map_or (λ i. nat_eq i from) u false ≡ true → Some to ≡ relinked from to u
+relink_that from to None h = absurd (true≢false (sym h))
+relink_that from to (Some i) h = ap (λ b. Some (cond b to i)) (sym h)
 
 pub relink_all : (from to : ℕ) (ups : Ups) → relinked_to (length ups) from to ups ≡ map (relinked from to) ups
 relink_all from to [] = refl

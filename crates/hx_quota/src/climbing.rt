@@ -49,7 +49,7 @@ pub(crate) fn take_over(places: &mut PlaceTable, moved: &Text, parent: Option<&T
     adjust_up(places, to, &on);
 }
 
-/// Changes the sums of the namespace at an index, and of all above it. It takes no memory.
+/// Changes the sums of the namespace at an index, and of all above it. It takes no memory. Where nothing changes, it looks at none.
 pub(crate) fn adjust_up(places: &mut PlaceTable, first: Option<usize>, change: &Change)
     requires ends { (q : List ℕ) → is_in q (chain_at (entries_in places.old.entries) first) ≡ true → ends_up (tree_of (ordered places.old.entries)) q ≡ true }
     requires distinct { IsDistinct bytes_eq (keys_of (entries_in places.old.entries)) }
@@ -58,6 +58,9 @@ pub(crate) fn adjust_up(places: &mut PlaceTable, first: Option<usize>, change: &
     ensures sums { (q : List ℕ) → IsAdjusted change.now.take change.now.give (is_in q (chain_at (entries_in places.old.entries) first)) (place_at places.old.entries q) (place_at places.new.entries q) }
     ensures room { places.old.spare ≤ places.new.spare }
 {
+    if changes_nothing(change) {
+        return;
+    }
     let mut next = first;
     while let Some(at) = next {
         if !places.adjust(at, change) {
@@ -65,6 +68,13 @@ pub(crate) fn adjust_up(places: &mut PlaceTable, first: Option<usize>, change: &
         }
         next = parent_index(places, at);
     }
+}
+
+/// Whether what is taken is added again.
+fn changes_nothing(change: &Change) -> bool
+    ensures { result ≡ true → change.now.take ≡ change.now.give }
+{
+    change.take == change.give
 }
 
 /// Whether the walk up from an index, where there is one, comes to a namespace.

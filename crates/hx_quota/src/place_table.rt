@@ -1,7 +1,8 @@
 // What is kept of namespaces, in parts that lie side by side.
-ghost use Rattle.std.specs.Prelude.{◌≡◌, ℕ, ◌+◌, ◌<◌, ◌≤◌, true, false, Some, None, [], ◌∷◌, ◌++◌, is_some, List, OnOk, IfSome, if◌then◌else◌, length, map, option_and_then, option_copied, option_map, position, slice_get, slice_index, slice_set, vec_len};
+ghost use Rattle.std.specs.Prelude.{◌≡◌, ℕ, ◌+◌, ◌<◌, ◌≤◌, true, false, Some, None, [], ◌∷◌, ◌++◌, is_some, List, OnOk, IfSome, if◌then◌else◌, length, map, option_and_then, option_copied, option_map, position, slice_get, slice_index, slice_set, nat_eq, vec_len};
 ghost use Rattle.std.specs.List.{IsDistinct};
 ghost use Rattle.std.specs.Map.{keys_of};
+ghost use Rattle.std.specs.Option.{option_map_or};
 ghost use Rattle.std.specs.Str.{bytes_eq};
 ghost use Rattle.std.specs.Vec.{vec_capacity};
 ghost use Rattle.indexmap.specs.IndexMap.{set_value_at, spare};
@@ -264,7 +265,7 @@ fn replace_up(ups: &mut Vec<Option<usize>>, at: usize, up: Option<usize>)
     }
 }
 
-/// Notes where one lies that lay at `from`.
+/// Notes where one lies that lay at `from`. It looks at all, and writes to those of its children alone.
 fn relink(ups: &mut Vec<Option<usize>>, from: usize, to: usize)
     ensures ups { ups.new.items ≡ map (relinked from to) ups.old.items }
     ensures len { vec_len ups.new ≡ vec_len ups.old }
@@ -272,18 +273,19 @@ fn relink(ups: &mut Vec<Option<usize>>, from: usize, to: usize)
 {
     let count = ups.len();
     for at in 0..count {
-        let up = relinked(ups[at], from, to);
-        replace_up(ups, at, up);
+        if is_at(ups[at], from) {
+            replace_up(ups, at, Some(to));
+        }
     }
 }
 
-/// An index, where one lies at `to` that lay at `from`.
-fn relinked(up: Option<usize>, from: usize, to: usize) -> Option<usize>
-    ensures { result ≡ relinked from to up }
+/// Whether an index is this one.
+fn is_at(up: Option<usize>, at: usize) -> bool
+    ensures { result ≡ option_map_or (λ i. nat_eq i at) up false }
 {
     match up {
-        Some(at) => { if at == from { Some(to) } else { up } }
-        None => None,
+        Some(index) => index == at,
+        None => false,
     }
 }
 

@@ -40,7 +40,7 @@ impl Ledger {
         ends(&self.places, first)
     }
 
-    /// Whether it does where a namespace has another parent, from which it did.
+    /// Whether the walk up from a namespace, which ended, still does where it gets this parent.
     pub(crate) fn stays_ended(&self, moved: &Text, parent: Option<&Text>) -> bool
         requires given { IfSome (option_copied parent) (λ p. is_some (entry_of (entries_of self.now) p) ≡ true) }
         requires kept { IsKept self.now }

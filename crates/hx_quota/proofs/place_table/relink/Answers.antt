@@ -1,9 +1,11 @@
-use Rattle.std.proofs.Common.{rules, ◌≡◌, ◌+◌, ◌<◌, ◌∙◌, Option, List, ℕ, Some, length, suc, slice_get, slice_set, refl, ap, sym, arith}
+use Rattle.std.proofs.Common.{rules, ◌≡◌, ◌+◌, ◌<◌, ◌∙◌, Option, List, ℕ, Some, Vec, Global, length, suc, slice_get, slice_set, refl, ap, sym, arith}
 use Rattle.std.specs.Prelude.{vec_len}
+use Rattle.std.specs.Vec.{vec_capacity}
 use Rattle.std.proofs.lemmas.Option.{slice_get_read}
 use Rattle.hx_quota.specs.PlaceRows.{relinked}
-use Rattle.hx_quota.proofs.Tied.{relinked_to, relink_one, relink_all}
+use Rattle.hx_quota.proofs.Tied.{relinked_to, relink_one, relink_none, relink_that, relink_all}
 use Rattle.hx_quota.proofs.place_table.relink.Goals as goal
+use Rattle.hx_quota.proofs.place_table.relink.Goals.{then-is_at, else-is_at}
 
 pub loop-at-init : goal.loop-at-init
 loop-at-init c = record { ups = refl; len = refl; room = refl }
@@ -20,12 +22,21 @@ loop-at-preserved c =
     let read : slice_get now at ≡ Some c.index.result.now = slice_get_read now (vec_len c.loop-at.ups) at c.index.result.now long within c.index.ensures in
     let here : slice_get (relinked_to at from to old) at ≡ Some c.index.result.now = ap (λ (us : List (Option ℕ)). slice_get us at) (sym c.loop-at.invariant.ups) ∙ read in
     let on : suc at ≡ at + 1 = omega arith in
-    record {
-      ups = c.replace_up.ensures.ups ∙ ap (slice_set now at) c.relinked-up.ensures ∙ ap (λ (us : List (Option ℕ)). slice_set us at (relinked from to c.index.result.now)) c.loop-at.invariant.ups
-          ∙ relink_one at from to old c.index.result.now here ∙ ap (λ (k : ℕ). relinked_to k from to old) on;
-      len = c.replace_up.ensures.len ∙ c.loop-at.invariant.len;
-      room = c.replace_up.ensures.room ∙ c.loop-at.invariant.room;
-    }
+    elim c.if-is_at.branch [
+      | then-is_at w ↦ record {
+        ups = ap (λ (v : Vec (Option ℕ) Global). v.items) w.ups-is ∙ w.replace_up.ensures.ups ∙ ap (slice_set now at) (relink_that from to c.index.result.now (sym c.is_at.ensures ∙ w.if-is_at.true))
+            ∙ ap (λ (us : List (Option ℕ)). slice_set us at (relinked from to c.index.result.now)) c.loop-at.invariant.ups
+            ∙ relink_one at from to old c.index.result.now here ∙ ap (λ (k : ℕ). relinked_to k from to old) on;
+        len = ap (λ (v : Vec (Option ℕ) Global). vec_len v) w.ups-is ∙ w.replace_up.ensures.len ∙ c.loop-at.invariant.len;
+        room = ap (λ (v : Vec (Option ℕ) Global). vec_capacity v) w.ups-is ∙ w.replace_up.ensures.room ∙ c.loop-at.invariant.room;
+      }
+      | else-is_at w ↦ record {
+        ups = ap (λ (v : Vec (Option ℕ) Global). v.items) w.ups-is ∙ c.loop-at.invariant.ups
+            ∙ relink_none at from to old c.index.result.now here (sym c.is_at.ensures ∙ w.if-is_at.false) ∙ ap (λ (k : ℕ). relinked_to k from to old) on;
+        len = ap (λ (v : Vec (Option ℕ) Global). vec_len v) w.ups-is ∙ c.loop-at.invariant.len;
+        room = ap (λ (v : Vec (Option ℕ) Global). vec_capacity v) w.ups-is ∙ c.loop-at.invariant.room;
+      }
+    ]
 
 pub returns-clause-ups : goal.returns-clause-ups
 returns-clause-ups c =
