@@ -5,10 +5,10 @@
 --     carried         the next item of a loop, and those of the rest
 --     kept_next       the next item of a loop that keeps some
 --     nothing         none
---     none_sent       nothing is sent of a kind that isn't propagated
+--     none_sent, none_held      nothing is sent of a kind that isn't propagated, or that has no objects
 --     no_kind_marks   where a kind is ignored and propagated as before, nothing is marked
 use Rattle.std.specs.Prelude.{flat_map, OnOk}
-use Rattle.std.proofs.Common.{◌≡◌, ℕ, Bool, true, false, cond, not, ◌&&◌, None, List, [], ◌∷◌, ◌++◌, ◌+◌, ◌<◌, length, get_or, drop, filter, map, Result, Ok, Err, refl, sym, ap, ◌∙◌, append-nil, if◌then◌else◌}
+use Rattle.std.proofs.Common.{◌≡◌, ℕ, Bool, true, false, cond, not, ◌&&◌, Option, Some, None, List, [], ◌∷◌, ◌++◌, ◌+◌, ◌<◌, length, get_or, drop, filter, map, Result, Ok, Err, refl, sym, ap, ◌∙◌, append-nil, if◌then◌else◌}
 use Rattle.std.proofs.lemmas.Bool.{and_parts}
 use Rattle.std.proofs.lemmas.List.{append_assoc, at_drop_more}
 use Rattle.hx_object.specs.declared.kind.Kind.{Kind}
@@ -72,6 +72,9 @@ unsent mode x out = ap (λ b. b && (is_source x && (not (stays_home x) && passes
 
 pub none_sent : (objects : Objects) (kind : Kind) (names : List (List ℕ)) → is_propagated (mode_at objects kind) ≡ false → sent_from objects kind names ≡ []
 none_sent objects kind names out = none_added (λ a. filter (is_sent (mode_at objects kind)) (listed_in objects kind a)) names (λ a. none_kept (is_sent (mode_at objects kind)) (listed_in objects kind a) (λ x. unsent (mode_at objects kind) x out))
+
+pub none_held : (objects : Objects) (kind : Kind) (names : List (List ℕ)) → ((ns : Option (List ℕ)) → filter (is_listed kind ns) objects ≡ []) → sent_from objects kind names ≡ []
+none_held objects kind names none = none_added (λ a. filter (is_sent (mode_at objects kind)) (listed_in objects kind a)) names (λ a. ap (filter (is_sent (mode_at objects kind))) (none (Some a)))
 
 -- ---- modes
 

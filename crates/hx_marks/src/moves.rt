@@ -5,12 +5,12 @@ ghost use Rattle.hx_model.specs.Moves.{chain_from, is_open_above, up_to};
 ghost use Rattle.hx_model.specs.TreeLabels.{is_open};
 ghost use Rattle.hx_marks.specs.Before.{comes_back_by, opens_under};
 ghost use Rattle.hx_marks.specs.Reads.{state_in};
-ghost use Rattle.hx_marks.specs.Law.{all_of, apart, in_one, moved_by, sent_marks};
+ghost use Rattle.hx_marks.specs.Law.{all_of, all_sent, apart, in_one, moved_by, sent_marks};
 
 use crate::below::{chain_from, live_below, push_names};
 use crate::current::Current;
 use crate::senders::all_by_chains;
-use crate::wants::{all_of, all_sent, keys_for};
+use crate::wants::{all_of, all_sent, keys_for, may_send};
 use hx_forest::Forest;
 use hx_model::Key;
 use hx_object::{NoMemory, Shared, Text};
@@ -47,14 +47,29 @@ fn goes_on_marks(
 ) -> Result<(), NoMemory>
     ensures { OnOk result (keys.new.items ≡ keys.old.items ++ moved_by (state_in current.now) name.now (option_copied old.entry) (option_copied new.entry) true true) }
 {
+    let sent = sent_apart(current, old, new)?;
+    let members = live_below(current.forest, name)?;
+    sent_marks(&sent, &members, keys)
+}
+
+/// What is sent by the namespaces of exactly one of the chains of two parents. No chain is walked where nothing may be sent.
+fn sent_apart(
+    current: &Current,
+    old: Option<&Text>,
+    new: Option<&Text>,
+) -> Result<Vec<Shared>, NoMemory>
+    ensures { IfOk result (λ sent. sent.items ≡ all_sent current.now.store.now.objects (in_one (chain_from current.now.forest.now.nodes (option_copied old.entry)) (chain_from current.now.forest.now.nodes (option_copied new.entry)))) }
+{
     let alloc = current.store.allocator();
+    let mut sent = Vec::new(alloc);
+    if !may_send(current.store) {
+        return Ok(sent);
+    }
     let before = chain_from(alloc, current.forest, old)?;
     let after = chain_from(alloc, current.forest, new)?;
     let names = in_one(alloc, &before, &after)?;
-    let mut sent = Vec::new(alloc);
     all_sent(current.store, &names, &mut sent)?;
-    let members = live_below(current.forest, name)?;
-    sent_marks(&sent, &members, keys)
+    Ok(sent)
 }
 
 /// Marks all that a subtree may want which ends to take part.

@@ -1,5 +1,5 @@
 // What a namespace may want written.
-ghost use Rattle.std.specs.Prelude.{◌≡◌, ◌++◌, ◌∷◌, [], IfOk, OnOk, filter, flat_map, map, if◌then◌else◌};
+ghost use Rattle.std.specs.Prelude.{◌≡◌, ◌++◌, ◌∷◌, ℕ, List, false, [], IfOk, OnOk, filter, flat_map, map, if◌then◌else◌};
 ghost use Rattle.hx_model.specs.Forest.{chain_of, tail_of};
 ghost use Rattle.hx_model.specs.Limits.{is_copy};
 ghost use Rattle.hx_model.specs.TreeLabels.{is_open};
@@ -151,6 +151,31 @@ pub(crate) fn key_for(name: &Text, object: &Object) -> Result<Key, NoMemory>
         kind: object.id.kind,
         name: object.id.name.clone()?,
     })
+}
+
+/// Whether something may be sent. Where nothing may, no chain is walked for what is.
+pub(crate) fn may_send(store: &Store) -> bool
+    ensures { result ≡ false → (names : List (List ℕ)) → all_sent store.now.objects names ≡ [] }
+{
+    may_send_any(store, &COPIED_KINDS)
+}
+
+fn may_send_any(store: &Store, kinds: &[Kind]) -> bool
+    ensures { result ≡ false → (names : List (List ℕ)) → flat_map (λ kind. sent_from store.now.objects kind names) kinds.now ≡ [] }
+{
+    for kind in kinds {
+        if may_send_kind(store, *kind) {
+            return true;
+        }
+    }
+    false
+}
+
+/// Whether a kind is propagated and may have objects.
+fn may_send_kind(store: &Store, kind: Kind) -> bool
+    ensures { result ≡ false → (names : List (List ℕ)) → sent_from store.now.objects kind names ≡ [] }
+{
+    store.may_have(kind) && is_propagated(mode_at(store, kind))
 }
 
 /// Adds what some namespaces send, of all kinds.
