@@ -155,10 +155,10 @@ exact_object a b h =
     let s = and_parts _ _ r.1 in
     λ i. record {
       id = exact_id a.id b.id p.0 i;
-      labels = exact_pairs a.labels b.labels q.0 i;
-      annotations = exact_pairs a.annotations b.annotations r.0 i;
-      payload = exact_payload a.payload b.payload s.0 i;
-      version = eqb-true a.version b.version s.1 i;
+      version = eqb-true a.version b.version q.0 i;
+      labels = exact_pairs a.labels b.labels r.0 i;
+      annotations = exact_pairs a.annotations b.annotations s.0 i;
+      payload = exact_payload a.payload b.payload s.1 i;
     }
 
 -- ---- what an answer of the test says

@@ -30,21 +30,21 @@ impl Drop for Id {
 #[derive(Clone, PartialEq, Eq)]
 pub struct Object {
     pub id: Id,
+    /// The version of the write that stored it, from 1 on. It is 0 before that.
+    pub version: u64,
     pub labels: Pairs,
     pub annotations: Pairs,
     pub payload: Payload,
-    /// The version of the write that stored it, from 1 on. It is 0 before that.
-    pub version: u64,
 }
 
 impl Drop for Object {
     fn drop(self) {
         let Object {
             id: _,
+            version: _,
             labels: _,
             annotations: _,
             payload: _,
-            version: _,
         } = self;
     }
 }

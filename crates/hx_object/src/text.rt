@@ -1,5 +1,5 @@
 // Text that contracts see as its bytes.
-ghost use Rattle.std.specs.Prelude.{◌≡◌, ℕ, nat_eq, IfOk, refl, Some, IsUtf8, string_bytes};
+ghost use Rattle.std.specs.Prelude.{◌≡◌, ℕ, [], nat_eq, IfOk, refl, Some, IsUtf8, string_bytes};
 ghost use Rattle.std.specs.Cmp.Lexicographic.{bytes_decides, pointwise, slice_cmp, nat_list_eq_equiv, nat_list_cmp_total, texts_ties, texts_po};
 ghost use Rattle.std.specs.Ordering.{nat_cmp};
 ghost use Rattle.std.specs.Cmp as laws_of;
@@ -102,6 +102,17 @@ impl Text {
         match &self.form {
             Form::Short(text) => text.as_str(),
             Form::Long(text) => text.as_str(),
+        }
+    }
+}
+
+impl Default for Text {
+    ghost is_default = { λ t. t ≡ [] };
+
+    /// No bytes, which takes no memory.
+    fn default() -> Text {
+        Text {
+            form: Form::Short(ArrayString::new()),
         }
     }
 }
