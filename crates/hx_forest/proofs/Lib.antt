@@ -1,5 +1,6 @@
 pub mod Nodes
 pub mod Placing
+pub mod Restless
 pub mod Ways
 pub mod Notes
 pub mod Listing

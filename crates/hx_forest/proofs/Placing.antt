@@ -53,8 +53,8 @@ keys_from (e ∷ es) (r ∷ rs) is = ap (λ ks. e.0 ∷ ks) (keys_from es rs is.
 pub distinct_from : (es : Nodes) (rs : Rungs) → AreStanding es rs → IsDistinct bytes_eq (keys_of es) → IsDistinct bytes_eq (keys_of (places_from es rs))
 distinct_from es rs is distinct = subst (λ (ks : List (List ℕ)). IsDistinct bytes_eq ks) (sym (keys_from es rs is)) distinct
 
-pub distinct_seen : (es : Nodes) (rs : Rungs) (k : ℕ) (seen : PlacesView) → record { entries = places_from es rs; spare = k } ≡ seen → AreStanding es rs × IsDistinct bytes_eq (keys_of es) → IsDistinct bytes_eq (keys_of seen.entries)
-distinct_seen es rs k seen is kept = subst (λ (v : PlacesView). IsDistinct bytes_eq (keys_of v.entries)) is (distinct_from es rs kept.0 kept.1)
+pub distinct_seen : (es : Nodes) (rs : Rungs) (k : ℕ) (seen : PlacesView) → record { entries = places_from es rs; spare = k } ≡ seen → AreStanding es rs → IsDistinct bytes_eq (keys_of es) → IsDistinct bytes_eq (keys_of seen.entries)
+distinct_seen es rs k seen is standing distinct = subst (λ (v : PlacesView). IsDistinct bytes_eq (keys_of v.entries)) is (distinct_from es rs standing distinct)
 
 pub length_from : (es : Nodes) (rs : Rungs) → AreStanding es rs → length (places_from es rs) ≡ length es
 length_from [] rs is = refl

@@ -2,10 +2,11 @@
 --     Place, PlacesView           a node with a step; all of them by their names, and how many more fit without taking memory
 --     place_with, step_of         a place, and the step of it
 --     standing_of                 how a node stands
+--     is_restless, restless_in    a node names a parent and isn't calm, by how it stands;  how many of the rungs stand so
 --     places_from, AreStanding    the places of nodes and of rungs in the same order, where each rung says how its node stands
 --     index_in, entry_in          where a name lies, and what lies there
 --     changed_at                  a place is another one
-use Rattle.std.specs.Prelude.{◌≡◌, ℕ, zero, suc, true, not, ◌&&◌, cond, List, [], ◌∷◌, Option, Some, None, option_map, option_and_then, is_some, slice_get, refl}
+use Rattle.std.specs.Prelude.{◌≡◌, ℕ, zero, suc, ◌+◌, Bool, true, false, not, ◌&&◌, cond, List, [], ◌∷◌, Option, Some, None, option_map, option_and_then, is_some, slice_get, refl}
 use Rattle.std.specs.Coded.{Coded, code_by, coded×, coded_list, coded_ℕ}
 use Rattle.std.specs.Str.{bytes_eq}
 use Rattle.hx_model.specs.contracts.node.Node as node
@@ -47,6 +48,19 @@ places_code = code_by (List (List ℕ × Place) × ℕ) (coded× (coded_list (co
 -- how a node stands
 abbrev pub standing_of : Node → Standing
 standing_of n = record { root = not (is_some n.parent); calm = not n.terminating && not n.excluded }
+
+-- it names a parent, and isn't calm
+abbrev pub is_restless : Standing → Bool
+is_restless s = not s.root && not s.calm
+
+abbrev pub one_if : Bool → ℕ
+one_if true = 1
+one_if false = 0
+
+-- how many stand so
+abbrev pub restless_in : List (Step × Standing) → ℕ
+restless_in [] = 0
+restless_in (r ∷ rs) = one_if (is_restless r.1) + restless_in rs
 
 -- the places of nodes by their names, and of rungs in the same order
 abbrev pub places_from : List (List ℕ × Node) → List (Step × Standing) → List (List ℕ × Place)

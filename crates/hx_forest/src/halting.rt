@@ -1,8 +1,8 @@
 // Why namespaces are halted.
-ghost use Rattle.std.specs.Prelude.{◌≡◌, ◌+◌, ◌≤◌, false, Some, [], ◌∷◌, not, ◌&&◌, is_some, length, option_copied, IfSome};
+ghost use Rattle.std.specs.Prelude.{◌≡◌, ℕ, List, true, ◌+◌, ◌≤◌, false, Some, [], ◌∷◌, not, ◌&&◌, is_some, length, option_copied, IfSome};
 ghost use Rattle.hx_model.specs.Cases.{is_leaving};
 ghost use Rattle.hx_model.specs.First.{so, first};
-ghost use Rattle.hx_model.specs.Forest.{own_halt_of, halt_of, is_live};
+ghost use Rattle.hx_model.specs.Forest.{own_halt_of, halt_of, is_live, parent_of};
 ghost use Rattle.hx_model.specs.Moves.{is_calm};
 ghost use Rattle.hx_model.specs.TreeLabels.{is_open};
 ghost use Rattle.hx_model.specs.Walks.{walk_ends};
@@ -13,7 +13,7 @@ ghost use Rattle.hx_model.specs.declared.node.Halt.TheVariants.{Ancestor};
 
 use crate::forest::Forest;
 use crate::places::Nodes;
-use crate::steps::{Standing, is_calm};
+use crate::steps::Standing;
 use hx_model::{Halt, Node};
 use hx_object::Text;
 
@@ -49,10 +49,17 @@ impl Forest {
     pub fn is_calm(&self, name: &Text) -> bool
         ensures { result ≡ is_calm self.now.nodes name.now }
     {
-        match self.node(name) {
-            Some(node) => is_calm(node),
+        match self.nodes.standing_of(name) {
+            Some(standing) => standing.calm,
             None => false,
         }
+    }
+
+    /// Whether a namespace that names a parent may be on its way out or excluded, in constant time. Where none is, all below one that takes part do.
+    pub fn may_be_restless(&self) -> bool
+        ensures { result ≡ false → (n : List ℕ) → is_some (parent_of self.now.nodes n) ≡ true → is_calm self.now.nodes n ≡ true }
+    {
+        self.nodes.has_restless()
     }
 
     /// Whether a namespace takes part: it is there and not on its way out, and neither excluded nor halted.
@@ -116,8 +123,8 @@ impl Nodes {
     fn is_calm(&self, at: usize) -> bool
         ensures { (node : Node) → node_in (place_in self.now (Some at)) ≡ Some node → result ≡ (not node.terminating && not node.excluded) }
     {
-        match self.node_in(Some(at)) {
-            Some(node) => is_calm(node),
+        match self.standing(Some(at)) {
+            Some(standing) => standing.calm,
             None => false,
         }
     }
@@ -143,6 +150,9 @@ impl Nodes {
     fn parent_halt(&self, at: usize, above: Option<usize>) -> Option<Halt>
         ensures { (node : Node) → node_in (place_in self.now (Some at)) ≡ Some node → result ≡ halt_at node.parent (node_in (place_in self.now above)) }
     {
+        if !is_halted_by(self.standing(Some(at))?, self.standing(above)) {
+            return None;
+        }
         let node = self.node_in(Some(at))?;
         halt_by(node, self.node_in(above))
     }

@@ -5,14 +5,15 @@ ghost use Rattle.hx_model.specs.Forest.{is_in};
 ghost use Rattle.hx_forest.specs.Names.{IsAscending};
 
 use hx_object::{NoMemory, Text};
+use smallvec::SmallVec;
 use std::alloc::Global;
 use std::marker::Model;
 
 /// Names in ascending order, each once.
 ///
-/// Room is made first, and names are added later without taking memory.
+/// One name lies in place, as most namespaces have one child or none. Room is made first, and names are added later without taking memory.
 pub(crate) struct Names {
-    names: Vec<Text>,
+    names: SmallVec<Text, 1>,
 }
 
 impl Drop for Names {
@@ -22,15 +23,15 @@ impl Drop for Names {
 }
 
 impl Model for Names {
-    ghost use Rattle.std.specs.Prelude.{◌-◌, vec_len};
-    ghost use Rattle.std.specs.Vec.{vec_capacity};
+    ghost use Rattle.std.specs.Prelude.{◌-◌};
+    ghost use Rattle.smallvec.specs.SmallVec.{small_vec_len};
     ghost use Rattle.hx_forest.specs.Names.{NamesView, names_code, IsAscending};
 
     ghost Value = { NamesView };
 
     ghost coded = { names_code };
 
-    ghost view = { λ n. record { names = n.names.items; spare = vec_capacity n.names - vec_len n.names } };
+    ghost view = { λ n. record { names = n.names.items; spare = n.names.capacity - small_vec_len n.names } };
 
     ghost invariant = { λ n. IsAscending n.names.items };
 }
@@ -42,7 +43,7 @@ impl Names {
         ensures room { IfOk result (λ n. room ≤ n.spare) }
     {
         Ok(Names {
-            names: Vec::with_capacity(alloc, room)?,
+            names: SmallVec::with_capacity(alloc, room)?,
         })
     }
 

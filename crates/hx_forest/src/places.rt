@@ -6,7 +6,7 @@ ghost use Rattle.std.specs.Option.{option_map_or};
 ghost use Rattle.std.specs.Str.{bytes_eq};
 ghost use Rattle.hx_model.specs.Forest.{halt_of, is_there, node_of, parent_of, with_parent};
 ghost use Rattle.hx_model.specs.ForestChanges.{with_node, with_terminating, without_node};
-ghost use Rattle.hx_forest.specs.Places.{Place, standing_of};
+ghost use Rattle.hx_forest.specs.Places.{Place, is_restless, standing_of};
 ghost use Rattle.hx_forest.specs.Ways.{forest_of, node_in, number_at, index_at, name_in, place_in, parent_in, IsAt, AllLeadUp};
 ghost use Rattle.hx_forest.specs.Notes.{AreNoted};
 
@@ -120,6 +120,20 @@ impl Nodes {
         ensures { option_copied result ≡ option_map standing_of (node_in (place_in self.now at)) }
     {
         self.places.standing(at)
+    }
+
+    /// How the node of a namespace stands.
+    pub(crate) fn standing_of(&self, name: &Text) -> Option<&Standing>
+        ensures { option_copied result ≡ option_map standing_of (node_of (forest_of self.now) name.now) }
+    {
+        self.standing(self.index_of(name))
+    }
+
+    /// Whether a namespace names a parent, and isn't calm.
+    pub(crate) fn has_restless(&self) -> bool
+        ensures { result ≡ false → (q : List ℕ) (node : Node) → node_of (forest_of self.now) q ≡ Some node → is_restless (standing_of node) ≡ false }
+    {
+        self.places.has_restless()
     }
 
     /// Whether a place lies at an index.

@@ -1,9 +1,9 @@
 // The places of namespaces: what a step up reads lies by itself.
-ghost use Rattle.std.specs.Prelude.{◌≡◌, ◌+◌, ◌<◌, ◌≤◌, ◌^◌, ◌++◌, ◌&&◌, not, ℕ, List, None, Some, cond, [], ◌∷◌, length, option_map, option_and_then, OnOk, option_copied};
+ghost use Rattle.std.specs.Prelude.{◌≡◌, false, ◌+◌, ◌<◌, ◌≤◌, ◌^◌, ◌++◌, ◌&&◌, not, ℕ, List, None, Some, cond, [], ◌∷◌, length, option_map, option_and_then, OnOk, option_copied};
 ghost use Rattle.std.specs.List.{IsDistinct};
 ghost use Rattle.std.specs.Map.{keys_of, lookup};
 ghost use Rattle.std.specs.Str.{bytes_eq};
-ghost use Rattle.hx_forest.specs.Places.{place_with, step_of, standing_of, index_in, entry_in, changed_at, with_up, with_noted, terminating, below};
+ghost use Rattle.hx_forest.specs.Places.{Place, place_with, step_of, standing_of, is_restless, one_if, index_in, entry_in, changed_at, with_up, with_noted, terminating, below};
 
 use crate::children::{NameMap, map_by_name};
 use hx_model::Node;
@@ -40,11 +40,17 @@ pub(crate) struct Standing {
 pub(crate) struct Places {
     nodes: NameMap<Node>,
     rungs: Vec<(Step, Standing)>,
+    /// How many namespaces are restless: they name a parent, and aren't calm.
+    restless: usize,
 }
 
 impl Drop for Places {
     fn drop(self) {
-        let Places { nodes: _, rungs: _ } = self;
+        let Places {
+            nodes: _,
+            rungs: _,
+            restless: _,
+        } = self;
     }
 }
 
@@ -55,7 +61,7 @@ impl Model for Places {
     ghost use Rattle.std.specs.Str.{bytes_eq};
     ghost use Rattle.std.specs.Vec.{vec_capacity};
     ghost use Rattle.indexmap.specs.IndexMap.{spare};
-    ghost use Rattle.hx_forest.specs.Places.{PlacesView, places_code, places_from, AreStanding};
+    ghost use Rattle.hx_forest.specs.Places.{PlacesView, places_code, places_from, AreStanding, restless_in};
 
     ghost Value = { PlacesView };
 
@@ -63,7 +69,7 @@ impl Model for Places {
 
     ghost view = { λ p. record { entries = places_from p.nodes.entries p.rungs.items; spare = min (spare p.nodes) (vec_capacity p.rungs - vec_len p.rungs) } };
 
-    ghost invariant = { λ p. AreStanding p.nodes.entries p.rungs.items × IsDistinct bytes_eq (keys_of p.nodes.entries) };
+    ghost invariant = { λ p. AreStanding p.nodes.entries p.rungs.items × IsDistinct bytes_eq (keys_of p.nodes.entries) × (p.restless ≡ restless_in p.rungs.items) };
 }
 
 impl Places {
@@ -74,6 +80,7 @@ impl Places {
         Places {
             nodes: map_by_name(alloc, keys),
             rungs: Vec::new(alloc),
+            restless: 0,
         }
     }
 
@@ -132,6 +139,13 @@ impl Places {
         Some(standing)
     }
 
+    /// Whether a namespace is restless.
+    pub(crate) fn has_restless(&self) -> bool
+        ensures { result ≡ false → (q : List ℕ) (p : Place) → lookup (bytes_eq q) self.now.entries ≡ Some p → is_restless (standing_of p.node) ≡ false }
+    {
+        self.restless > 0
+    }
+
     /// The node at an index.
     pub(crate) fn node(&self, at: Option<usize>) -> Option<&Node>
         ensures { option_copied result ≡ option_map (λ e. e.1.node) (entry_in self.now.entries at) }
@@ -150,6 +164,7 @@ impl Places {
         let standing = standing_of(&node);
         let _none = self.nodes.insert(name, node).unwrap();
         self.rungs.push((step, standing)).unwrap();
+        self.restless = one_more(self.restless, &standing);
     }
 
     /// Takes a place out, and puts the last one where it lay. The node comes back.
@@ -159,7 +174,8 @@ impl Places {
         ensures room { self.old.spare ≤ self.new.spare }
     {
         let (at, _, node) = self.nodes.swap_remove_full(name)?;
-        let _rung = self.rungs.swap_remove(at);
+        let rung = self.rungs.swap_remove(at);
+        self.restless = one_less(self.restless, &rung.1);
         Some(node)
     }
 
@@ -194,7 +210,10 @@ impl Places {
             return;
         };
         node.terminating = true;
-        self.rungs[at].1 = standing_of(node);
+        let standing = standing_of(node);
+        let stood = self.rungs[at].1;
+        self.rungs[at].1 = standing;
+        self.restless = one_more(one_less(self.restless, &stood), &standing);
     }
 
     /// Gives the node at an index another parent, or none, and gives back the one that it had.
@@ -205,7 +224,10 @@ impl Places {
     {
         let node = self.nodes.get_index_mut(at)?;
         let old = mem::replace(&mut node.parent, parent);
-        self.rungs[at].1 = standing_of(node);
+        let standing = standing_of(node);
+        let stood = self.rungs[at].1;
+        self.rungs[at].1 = standing;
+        self.restless = one_more(one_less(self.restless, &stood), &standing);
         old
     }
 }
@@ -220,8 +242,35 @@ fn standing_of(node: &Node) -> Standing
     }
 }
 
+/// A count of those that are restless, with one that stands so.
+fn one_more(count: usize, standing: &Standing) -> usize
+    ensures { count < 2 ^ 63 → result ≡ count + one_if (is_restless standing.now) }
+{
+    if is_restless(standing) {
+        return count.saturating_add(1);
+    }
+    count
+}
+
+/// A count of those that are restless, without one that stands so.
+fn one_less(count: usize, standing: &Standing) -> usize
+    ensures { one_if (is_restless standing.now) ≤ count → result + one_if (is_restless standing.now) ≡ count }
+{
+    if is_restless(standing) {
+        return count.saturating_sub(1);
+    }
+    count
+}
+
+/// Whether a namespace that stands so names a parent, and isn't calm.
+fn is_restless(standing: &Standing) -> bool
+    ensures { result ≡ is_restless standing.now }
+{
+    !standing.root && !standing.calm
+}
+
 /// Whether a namespace isn't on its way out, and isn't excluded.
-pub(crate) fn is_calm(node: &Node) -> bool
+fn is_calm(node: &Node) -> bool
     ensures { result ≡ (not node.now.terminating && not node.now.excluded) }
 {
     !node.terminating && !node.excluded

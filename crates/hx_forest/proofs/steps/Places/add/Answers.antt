@@ -7,6 +7,7 @@ use Rattle.hx_forest.specs.declared.steps.Standing.{Standing}
 use Rattle.hx_forest.specs.declared.steps.Step.{Step}
 use Rattle.hx_forest.specs.Places.{place_with, places_from, AreStanding}
 use Rattle.hx_forest.proofs.Placing.{none_places, places_push, standing_push}
+use Rattle.hx_forest.proofs.Restless.{count_push, small_count}
 use Rattle.hx_forest.proofs.steps.Places.add.Goals as goal
 
 pub invariant_of-self : goal.invariant_of-self
@@ -17,8 +18,12 @@ invariant_of-self c =
     let inserted = rw c.unwrap-none.ensures at c.insert.ensures.entries in
     let nodes : c.insert.new.self.entries ≡ es ++ (c.args.name, c.args.node) ∷ [] = inserted ∙ insert_entry-new bytes_eq c.self.inside.nodes c.args.name c.args.node none in
     let rungs : c.push.new.self.items ≡ rs ++ (c.args.step, c.standing_of-standing.result) ∷ [] = rw c.unwrap.ensures at c.push.ensures.items in
-    let standing = standing_push es rs c.args.name c.args.node (c.args.step, c.standing_of-standing.result) c.self.invariant.0 c.standing_of-standing.ensures in
-    (subst (λ (xs : List (List ℕ × Node)). AreStanding xs c.push.new.self.items) (sym nodes) (subst (λ (xs : List (Step × Standing)). AreStanding (es ++ (c.args.name, c.args.node) ∷ []) xs) (sym rungs) standing), c.insert.ensures.unique)
+    let standing = standing_push es rs c.args.name c.args.node (c.args.step, c.standing_of-standing.result) c.self.invariant.0 c.standing_of-standing.ensures in (
+      subst (λ (xs : List (List ℕ × Node)). AreStanding xs c.push.new.self.items) (sym nodes) (subst (λ (xs : List (Step × Standing)). AreStanding (es ++ (c.args.name, c.args.node) ∷ []) xs) (sym rungs) standing),
+      c.insert.ensures.unique,
+      count_push rs c.push.new.self.items (c.args.step, c.standing_of-standing.result) c.self.inside.restless c.one_more-self-inside.result rungs c.self.invariant.2
+          (small_count rs c.self.inside.restless _ _ c.self.invariant.2 c.self.inside.rungs.ok.0 c.self.inside.rungs.ok.1 c.self.inside.rungs.small) c.one_more-self-inside.ensures,
+    )
 
 pub returns-clause-entries : goal.returns-clause-entries
 returns-clause-entries c =

@@ -2,8 +2,10 @@ use Rattle.std.proofs.Common.{◌≡◌, ◌∙◌, Some, None, cond, position, 
 use Rattle.std.specs.Prelude.{vec_len}
 use Rattle.std.specs.Map.{keys_of, lookup}
 use Rattle.std.specs.Str.{bytes_eq}
+use Rattle.std.proofs.lemmas.Option.{slice_get-get_or}
 use Rattle.hx_forest.specs.Places.{Place, PlacesView, places_from}
 use Rattle.hx_forest.proofs.Placing.{look_nodes, none_nodes, look_none, look_cut, rung_placed, standing_out}
+use Rattle.hx_forest.proofs.Restless.{count_cut}
 use Rattle.hx_forest.proofs.steps.Places.remove.Goals as goal
 
 pub returns-in_err-at-clause-node : goal.returns-in_err-at-clause-node
@@ -41,8 +43,12 @@ invariant_of-self-2 c =
     let es = c.self.inside.nodes.entries in
     let rs = c.self.inside.rungs.items in
     let n = c.args.name.now in
-    let at : position (bytes_eq n) (keys_of es) ≡ Some c.in_ok-at.at = sym c.swap_remove_full.ensures.index ∙ ap (option_map (λ p. p.0)) c.in_ok-at.was in
-    (standing_out es rs n c.in_ok-at.at c.swap_remove-rung.result c.self.invariant.0 at c.swap_remove-rung.ensures.value c.swap_remove_full.new.self.entries c.swap_remove-rung.new.self.items c.swap_remove_full.ensures.entries c.swap_remove-rung.ensures.items, c.swap_remove_full.ensures.unique)
+    let at : position (bytes_eq n) (keys_of es) ≡ Some c.in_ok-at.at = sym c.swap_remove_full.ensures.index ∙ ap (option_map (λ p. p.0)) c.in_ok-at.was in (
+      standing_out es rs n c.in_ok-at.at c.swap_remove-rung.result c.self.invariant.0 at c.swap_remove-rung.ensures.value c.swap_remove_full.new.self.entries c.swap_remove-rung.new.self.items c.swap_remove_full.ensures.entries c.swap_remove-rung.ensures.items,
+      c.swap_remove_full.ensures.unique,
+      count_cut rs c.swap_remove-rung.new.self.items c.in_ok-at.at c.swap_remove-rung.result c.self.inside.restless c.one_less-self-inside.result
+          (slice_get-get_or rs c.in_ok-at.at c.swap_remove-rung.result (rung_placed es rs n c.in_ok-at.at c.self.invariant.0 at) ∙ ap Some (sym c.swap_remove-rung.ensures.value)) c.swap_remove-rung.ensures.items c.self.invariant.2 c.one_less-self-inside.ensures,
+    )
 
 pub returns-clause-node : goal.returns-clause-node
 returns-clause-node c =

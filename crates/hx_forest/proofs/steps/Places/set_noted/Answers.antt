@@ -5,6 +5,7 @@ use Rattle.hx_forest.specs.declared.steps.Standing.{Standing}
 use Rattle.hx_forest.specs.declared.steps.Step.{Step}
 use Rattle.hx_forest.specs.Places.{PlacesView, changed_at, with_noted}
 use Rattle.hx_forest.proofs.Placing.{item_at, rung_set, rung_none, standing_rung}
+use Rattle.hx_forest.proofs.Restless.{same_restless}
 use Rattle.hx_forest.proofs.steps.Places.set_noted.Goals as goal
 
 pub returns-in_default-clause-entries : goal.returns-in_default-clause-entries
@@ -19,7 +20,8 @@ invariant_of-self-2 c =
     let rs = c.self.inside.rungs.items in
     let rung = c.in-Some.rung.now in
     let found : slice_get rs c.args.at ≡ Some rung = sym (item_at (λ (b : MutBor (Step × Standing)). b.now) rs c.args.at c.get_mut.result c.get_mut.ensures.item) ∙ ap (option_map (λ (b : MutBor (Step × Standing)). b.now)) c.in-Some.is in
-    (standing_rung rung (record (rung.0) { noted = c.args.stamp }, rung.1) refl c.args.at c.self.inside.nodes.entries rs c.self.invariant.0 found, c.self.invariant.1)
+    let new : Step × Standing = (record (rung.0) { noted = c.args.stamp }, rung.1) in
+    (standing_rung rung new refl c.args.at c.self.inside.nodes.entries rs c.self.invariant.0 found, c.self.invariant.1, c.self.invariant.2 ∙ sym (same_restless rs c.args.at rung new found refl))
 
 pub returns-clause-entries : goal.returns-clause-entries
 returns-clause-entries c =

@@ -23,10 +23,10 @@ returns-clause-step c =
     ∙ (λ i. option_map (λ (e : List ℕ × Place). step_of e.1) (entry_in ((c.self.view_is i).entries) (sym c.in_ok-at.was i)))
 
 pub returns-in_err-at-clause-unique : goal.returns-in_err-at-clause-unique
-returns-in_err-at-clause-unique c = distinct_seen c.self.inside.nodes.entries c.self.inside.rungs.items _ _ c.self.view_is c.self.invariant
+returns-in_err-at-clause-unique c = distinct_seen c.self.inside.nodes.entries c.self.inside.rungs.items _ _ c.self.view_is c.self.invariant.0 c.self.invariant.1
 
 pub returns-in_err-step-clause-unique : goal.returns-in_err-step-clause-unique
-returns-in_err-step-clause-unique c = distinct_seen c.self.inside.nodes.entries c.self.inside.rungs.items _ _ c.self.view_is c.self.invariant
+returns-in_err-step-clause-unique c = distinct_seen c.self.inside.nodes.entries c.self.inside.rungs.items _ _ c.self.view_is c.self.invariant.0 c.self.invariant.1
 
 pub returns-clause-unique : goal.returns-clause-unique
-returns-clause-unique c = distinct_seen c.self.inside.nodes.entries c.self.inside.rungs.items _ _ c.self.view_is c.self.invariant
+returns-clause-unique c = distinct_seen c.self.inside.nodes.entries c.self.inside.rungs.items _ _ c.self.view_is c.self.invariant.0 c.self.invariant.1
