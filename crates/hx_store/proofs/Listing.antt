@@ -155,7 +155,7 @@ pub same_then : (b : Bool) (u v : Option Object) → (b ≡ true → u ≡ v) �
 same_then true u v same = same refl
 same_then false u v same = refl
 
-pub none_then : (b : Bool) (v : Option Object) → (b ≡ true → v ≡ None) → None ≡ cond b v None
+none_then : (b : Bool) (v : Option Object) → (b ≡ true → v ≡ None) → None ≡ cond b v None
 none_then true v none = sym (none refl)
 none_then false v none = refl
 

@@ -1,14 +1,17 @@
 -- What is listed by kind and name.
-use Rattle.std.proofs.Common.{◌≡◌, ℕ, ◌-◌, ◌==◌, Bool, true, false, cond, ◌&&◌, ◌||◌, not, Option, Some, None, List, [], ◌∷◌, filter, refl, sym, ap, ◌∙◌, true≢false, eqb-true}
+use Rattle.std.proofs.Common.{◌≡◌, ℕ, zero, suc, ◌+◌, ◌-◌, ◌≤◌, ◌==◌, Bool, true, false, cond, ◌&&◌, ◌||◌, not, Option, Some, None, List, [], ◌∷◌, ◌++◌, drop, length, filter, refl, sym, ap, subst, ◌∙◌, add-one, true≢false, eqb-true}
 use Rattle.std.specs.Prelude.{is_some, option_and_then, slice_get}
-use Rattle.std.specs.Option.{option_map_or}
-use Rattle.std.specs.List.{AllByRecursion}
+use Rattle.std.specs.Option.{option_map, option_map_or}
+use Rattle.std.specs.List.{AllByRecursion, IsDistinct, flat_map}
 use Rattle.std.specs.List.Sorted.{IsPermutation, IsSortedByKey}
+use Rattle.std.specs.Map.{keys_of, values_of}
 use Rattle.std.specs.Str.{bytes_eq}
 use Rattle.std.proofs.lemmas.Bool.{and_parts}
+use Rattle.std.proofs.lemmas.List.{append-nil, append_assoc}
 use Rattle.std.proofs.lemmas.List.Elements.{filter_agree}
 use Rattle.std.proofs.lemmas.Map.Entries.{option_filter}
 use Rattle.std.proofs.lemmas.Slice.Eq.{bytes_eq-Decides}
+use Rattle.std.proofs.Math.ListN.{drop_of_length-le}
 use Rattle.hx_object.specs.Kinds.{number_of, is_anchor, can_be_copied}
 use Rattle.hx_object.specs.Order.{id_cmp}
 use Rattle.hx_object.specs.declared.kind.Kind.{Kind}
@@ -18,16 +21,18 @@ use Rattle.hx_object.specs.declared.object.Object.{Object}
 use Rattle.hx_model.specs.State.{same_id, object_at}
 use Rattle.hx_model.specs.Limits.{is_copy}
 use Rattle.hx_model.proofs.Objects.{ascends-objects_from, same_kind}
-use Rattle.hx_store.specs.Places.{entries_of, Place, AreDistinct, IsSound, found, kind_at, place_in, place_of, place_at, board_in, of_place, objects_in, objects_under, objects_listed, all_objects, objects_at}
+use Rattle.hx_store.specs.Places.{entries_of, Place, IsSound, found, kind_at, place_in, place_of, place_at, board_in, of_place, all_objects, objects_at}
 use Rattle.hx_store.specs.Sources.{is_source, is_source_of, is_indexed, is_indexed_of, indexed_in}
-use Rattle.hx_store.specs.ByName.{IsIndex, turned_places, turned}
+use Rattle.hx_store.specs.ByName.{IsIndex, entries_at, indexed_among, indexed_at, turned_places}
 use Rattle.hx_store.specs.declared.board.Board.{Board}
 use Rattle.hx_store.specs.declared.shelves.Shelves.{Shelves}
 use Rattle.hx_store.specs.declared.places.Places.{Places}
 use Rattle.hx_store.specs.declared.by_name.ByName.{ByName}
+use Rattle.hx_store.proofs.Edits.{none_from}
 use Rattle.hx_store.proofs.Finding.{and_false, and_true, each, found_at, id_of, level, text_itself}
 use Rattle.hx_store.proofs.Apart.{AreApart, flat_apart}
-use Rattle.hx_store.proofs.Listing.{flip_eqb, listed, none_then, same_then}
+use Rattle.hx_store.proofs.Least.{Entry, place_among}
+use Rattle.hx_store.proofs.Listing.{flip_eqb, listed, same_then}
 
 -- an identity is of the kind and the name
 abbrev is_named : Kind → List ℕ → Id → Bool
@@ -37,20 +42,20 @@ none_either : (b : Bool) → None ≡ cond {A = Option Object} b None None
 none_either true = refl
 none_either false = refl
 
--- ---- the objects of one kind and name, by their namespaces
+-- ---- entries whose objects are of one kind and name, each in the namespace that its entry names
 
-module _ (kind : Kind) (name : List ℕ) (board : Board) (distinct : AreDistinct board) (own : (m : List ℕ) (x : Object) → found (place_in board m) ≡ Some x → x.id ≡ id_of kind m name) where
-  apart_named : (q : Id) (m : List ℕ) (v : Option Object) → place_in board m ≡ Some v → bytes_eq q.ns m ≡ false → object_at (of_place v) q ≡ None
+module _ (kind : Kind) (name : List ℕ) (es : List Entry) (distinct : IsDistinct bytes_eq (keys_of es)) (own : (m : List ℕ) (x : Object) → found (place_among es m) ≡ Some x → x.id ≡ id_of kind m name) where
+  apart_named : (q : Id) (m : List ℕ) (v : Option Object) → place_among es m ≡ Some v → bytes_eq q.ns m ≡ false → object_at (of_place v) q ≡ None
   apart_named q m None e other = refl
   apart_named q m (Some x) e other =
       ap (λ i. cond (same_id q i) (Some x) None) (own m x (ap found e))
       ∙ ap (λ b. cond {A = Option Object} (number_of q.kind == number_of kind && b && bytes_eq q.name name) (Some x) None) other
       ∙ ap (λ b. cond {A = Option Object} (b && bytes_eq q.name name) (Some x) None) (and_false (number_of q.kind == number_of kind))
 
-  pub found_named : (q : Id) → object_at (objects_in board) q ≡ cond (is_named kind name q) (found (place_in board q.ns)) None
-  found_named q = level of_place q q.ns (entries_of board) distinct (each (λ m v. bytes_eq q.ns m ≡ false → object_at (of_place v) q ≡ None) (entries_of board) distinct (apart_named q)) ∙ by (place_in board q.ns) refl
+  found_named : (q : Id) → object_at (flat_map of_place (values_of es)) q ≡ cond (is_named kind name q) (found (place_among es q.ns)) None
+  found_named q = level of_place q q.ns es distinct (each (λ m v. bytes_eq q.ns m ≡ false → object_at (of_place v) q ≡ None) es distinct (apart_named q)) ∙ by (place_among es q.ns) refl
     where
-      by : (p : Place) → place_in board q.ns ≡ p → option_and_then (λ v. object_at (of_place v) q) p ≡ cond (is_named kind name q) (found p) None
+      by : (p : Place) → place_among es q.ns ≡ p → option_and_then (λ v. object_at (of_place v) q) p ≡ cond (is_named kind name q) (found p) None
       by None e = none_either (is_named kind name q)
       by (Some None) e = none_either (is_named kind name q)
       by (Some (Some x)) e =
@@ -58,19 +63,61 @@ module _ (kind : Kind) (name : List ℕ) (board : Board) (distinct : AreDistinct
           ∙ ap (λ b. cond {A = Option Object} (number_of q.kind == number_of kind && b && bytes_eq q.name name) (Some x) None) (text_itself q.ns)
           ∙ ap (λ b. cond {A = Option Object} (b && bytes_eq q.name name) (Some x) None) (and_true (number_of q.kind == number_of kind))
 
-  pub named_apart : AreApart (objects_in board)
-  named_apart = flat_apart of_place (λ i. i.ns) (entries_of board) distinct
-      (each (λ m v. AreApart (of_place v)) (entries_of board) distinct (λ m v e. one v))
-      (each (λ m v. AllByRecursion (λ x. x.id.ns ≡ m) (of_place v)) (entries_of board) distinct lies)
-      (λ q. each (λ m v. bytes_eq q.ns m ≡ false → object_at (of_place v) q ≡ None) (entries_of board) distinct (apart_named q))
+  named_apart : AreApart (flat_map of_place (values_of es))
+  named_apart = flat_apart of_place (λ i. i.ns) es distinct
+      (each (λ m v. AreApart (of_place v)) es distinct (λ m v e. one v))
+      (each (λ m v. AllByRecursion (λ x. x.id.ns ≡ m) (of_place v)) es distinct lies)
+      (λ q. each (λ m v. bytes_eq q.ns m ≡ false → object_at (of_place v) q ≡ None) es distinct (apart_named q))
     where
       one : (v : Option Object) → AreApart (of_place v)
       one None = tt
       one (Some x) = (refl, tt)
 
-      lies : (m : List ℕ) (v : Option Object) → place_in board m ≡ Some v → AllByRecursion (λ x. x.id.ns ≡ m) (of_place v)
+      lies : (m : List ℕ) (v : Option Object) → place_among es m ≡ Some v → AllByRecursion (λ x. x.id.ns ≡ m) (of_place v)
       lies m None e = tt
       lies m (Some x) e = (ap (λ (i : Id). i.ns) (own m x (ap found e)), tt)
+
+-- ---- entries, each with what is found at its name in place of what it holds
+
+module _ (at : List ℕ → Option Object) where
+  abbrev looked_up : List Entry → List Entry
+  looked_up [] = []
+  looked_up (e ∷ es) = (e.0, at e.0) ∷ looked_up es
+
+  names_stay : (es : List Entry) → keys_of (looked_up es) ≡ keys_of es
+  names_stay [] = refl
+  names_stay (e ∷ es) = ap (λ ks. e.0 ∷ ks) (names_stay es)
+
+  objects_looked : (es : List Entry) → flat_map of_place (values_of (looked_up es)) ≡ flat_map (λ e. of_place (at e.0)) es
+  objects_looked [] = refl
+  objects_looked (e ∷ es) = ap (λ xs. of_place (at e.0) ++ xs) (objects_looked es)
+
+  among : (m : List ℕ) (es : List Entry) → found (place_among (looked_up es) m) ≡ cond (is_some (place_among es m)) (at m) None
+  among m [] = refl
+  among m (e ∷ es) = by (bytes_eq m e.0) refl (among m es)
+    where
+      by : (b : Bool) → bytes_eq m e.0 ≡ b → found (place_among (looked_up es) m) ≡ cond (is_some (place_among es m)) (at m) None
+          → found (cond b (Some (at e.0)) (place_among (looked_up es) m)) ≡ cond (is_some (cond b (Some e.1) (place_among es m))) (at m) None
+      by true same rest = ap at (sym ((bytes_eq-Decides m e.0).0 same))
+      by false other rest = rest
+
+-- one entry after another
+next_entry : (f : List ℕ → List Object) (es : List Entry) (i : ℕ) → flat_map (λ e. f e.0) (drop i es) ≡ option_map_or f (option_map (λ e. e.0) (slice_get es i)) [] ++ flat_map (λ e. f e.0) (drop (suc i) es)
+next_entry f [] zero = refl
+next_entry f [] (suc i) = refl
+next_entry f (e ∷ es) zero = refl
+next_entry f (e ∷ es) (suc i) = next_entry f es i
+
+pub more_listed : (f : List ℕ → List Object) (es : List Entry) (i : ℕ) (name : Option (List ℕ)) (old new all : List Object) → name ≡ option_map (λ e. e.0) (slice_get es i) → new ≡ old ++ option_map_or f name []
+    → old ++ flat_map (λ e. f e.0) (drop i es) ≡ all → new ++ flat_map (λ e. f e.0) (drop (i + 1) es) ≡ all
+more_listed f es i name old new all is_name is_new before =
+    (λ j. is_new j ++ flat_map (λ e. f e.0) (drop (add-one i j) es))
+    ∙ append_assoc old (option_map_or f name []) (flat_map (λ e. f e.0) (drop (suc i) es))
+    ∙ ap (λ o. old ++ (option_map_or f o [] ++ flat_map (λ e. f e.0) (drop (suc i) es))) is_name
+    ∙ ap (λ xs. old ++ xs) (sym (next_entry f es i)) ∙ before
+
+pub all_listed : (f : List ℕ → List Object) (es : List Entry) (i : ℕ) (now all : List Object) → length es ≤ i → now ++ flat_map (λ e. f e.0) (drop i es) ≡ all → now ≡ all
+all_listed f es i now all past before = sym (append-nil now) ∙ ap (λ ds. now ++ flat_map (λ e. f e.0) ds) (sym (drop_of_length-le es past)) ∙ before
 
 -- ---- the sources and the anchors of a kind and a name
 
@@ -86,37 +133,58 @@ both_then : (a b : Bool) (x : Object) → cond a (cond b (Some x) None) None ≡
 both_then true b x = refl
 both_then false b x = refl
 
+no_names : IsDistinct bytes_eq []
+unfolding IsDistinct
+no_names = tt
+
 module _ (places : Places) (by_name : ByName) (sound : IsSound places) (index : IsIndex by_name places) (kind : Kind) (name : List ℕ) where
-  own_entry : (s : Shelves) → kind_at (turned_places by_name) kind ≡ Some s → (board : Board) → board_in s name ≡ Some board → (m : List ℕ) (x : Object) → found (place_in board m) ≡ Some x → x.id ≡ id_of kind m name
-  own_entry s e board at m x there =
-      sound.own (id_of kind m name) x (from_indexed (found (place_at places (id_of kind m name))) x (sym (index.same (id_of kind m name))
-      ∙ ap (λ o. found (option_and_then (λ t. place_of t name m) o)) e ∙ ap (λ o. found (option_and_then (λ t. place_in t m) o)) at ∙ there))
-
-  same_place : (o : Option Shelves) → kind_at (turned_places by_name) kind ≡ o → (q : Id) → (number_of q.kind == number_of kind) ≡ true → place_at (turned_places by_name) (turned q) ≡ option_and_then (λ s. place_of s q.name q.ns) o
-  same_place o e q same = ap (λ n. option_and_then (λ s. place_of s q.name q.ns) (slice_get by_name.kinds (n - 1))) (eqb-true (number_of q.kind) (number_of kind) same) ∙ ap (option_and_then (λ s. place_of s q.name q.ns)) e
-
-  finds : (o : Option Shelves) → kind_at (turned_places by_name) kind ≡ o → (q : Id) → object_at (option_map_or (objects_under (Some name)) o []) q ≡ cond (is_named kind name q) (found (place_at (turned_places by_name) (turned q))) None
-  finds None e q = none_then (is_named kind name q) (found (place_at (turned_places by_name) (turned q))) (λ t. ap found (same_place None e q (and_parts (number_of q.kind == number_of kind) (bytes_eq q.name name) t).0))
-  finds (Some s) e q = by (board_in s name) refl
+  entries_distinct : (o : Option Shelves) → kind_at (turned_places by_name) kind ≡ o → IsDistinct bytes_eq (keys_of (option_map_or entries_of (option_and_then (λ s. board_in s name) o) []))
+  entries_distinct None e = no_names
+  entries_distinct (Some s) e = by (board_in s name) refl
     where
-      here : is_named kind name q ≡ true → (o : Option Board) → board_in s name ≡ o → place_at (turned_places by_name) (turned q) ≡ option_and_then (λ board. place_in board q.ns) o
-      here t o at =
-          let parts = and_parts (number_of q.kind == number_of kind) (bytes_eq q.name name) t in
-          same_place (Some s) e q parts.0 ∙ ap (option_and_then (λ board. place_in board q.ns)) (ap (board_in s) ((bytes_eq-Decides q.name name).0 parts.1) ∙ at)
+      by : (o : Option Board) → board_in s name ≡ o → IsDistinct bytes_eq (keys_of (option_map_or entries_of o []))
+      by None at = no_names
+      by (Some board) at = ((index.distinct.1 (number_of kind - 1) s e).1 name board at).0.0
 
-      by : (o : Option Board) → board_in s name ≡ o → object_at (option_map_or objects_in o []) q ≡ cond (is_named kind name q) (found (place_at (turned_places by_name) (turned q))) None
-      by None at = none_then (is_named kind name q) (found (place_at (turned_places by_name) (turned q))) (λ t. ap found (here t None at))
-      by (Some board) at =
-          found_named kind name board ((index.distinct.1 (number_of kind - 1) s e).1 name board at).0.0 (own_entry s e board at) q
-          ∙ same_then (is_named kind name q) (found (place_in board q.ns)) (found (place_at (turned_places by_name) (turned q))) (λ t. ap found (sym (here t (Some board) at)))
-
-  are_apart : (o : Option Shelves) → kind_at (turned_places by_name) kind ≡ o → AreApart (option_map_or (objects_under (Some name)) o [])
-  are_apart None e = tt
-  are_apart (Some s) e = by (board_in s name) refl
+  -- the entries are the places of the index
+  lies : (o : Option Shelves) (m : List ℕ) → option_and_then (λ s. place_of s name m) o ≡ place_among (option_map_or entries_of (option_and_then (λ s. board_in s name) o) []) m
+  lies None m = refl
+  lies (Some s) m = by (board_in s name)
     where
-      by : (o : Option Board) → board_in s name ≡ o → AreApart (option_map_or objects_in o [])
-      by None at = tt
-      by (Some board) at = named_apart kind name board ((index.distinct.1 (number_of kind - 1) s e).1 name board at).0.0 (own_entry s e board at)
+      by : (o : Option Board) → option_and_then (λ board. place_in board m) o ≡ place_among (option_map_or entries_of o []) m
+      by None = refl
+      by (Some board) = refl
+
+  abbrev entries : List Entry
+  entries = looked_up (indexed_at places kind name) (entries_at by_name kind name)
+
+  distinct : IsDistinct bytes_eq (keys_of entries)
+  distinct = subst (IsDistinct bytes_eq) (sym (names_stay (indexed_at places kind name) (entries_at by_name kind name))) (entries_distinct (kind_at (turned_places by_name) kind) refl)
+
+  -- what is found there is what is found by a look-up
+  stands : (m : List ℕ) → found (place_among entries m) ≡ indexed_at places kind name m
+  stands m = among (indexed_at places kind name) m (entries_at by_name kind name) ∙ by (is_some (indexed_at places kind name m)) refl
+    where
+      by : (b : Bool) → is_some (indexed_at places kind name m) ≡ b → cond (is_some (place_among (entries_at by_name kind name) m)) (indexed_at places kind name m) None ≡ indexed_at places kind name m
+      by true some = ap (λ b. cond b (indexed_at places kind name m) None) (ap is_some (sym (lies (kind_at (turned_places by_name) kind) m)) ∙ index.all (id_of kind m name) some)
+      by false none =
+          let is : indexed_at places kind name m ≡ None = none_from (indexed_at places kind name m) none in
+          ap (λ o. cond (is_some (place_among (entries_at by_name kind name) m)) o None) is ∙ sym (none_either (is_some (place_among (entries_at by_name kind name) m))) ∙ sym is
+
+  own_entry : (m : List ℕ) (x : Object) → found (place_among entries m) ≡ Some x → x.id ≡ id_of kind m name
+  own_entry m x there = sound.own (id_of kind m name) x (from_indexed (found (place_at places (id_of kind m name))) x (sym (stands m) ∙ there))
+
+  is_this : (q : Id) → is_named kind name q ≡ true → id_of kind q.ns name ≡ q
+  is_this q t =
+      let parts = and_parts (number_of q.kind == number_of kind) (bytes_eq q.name name) t in
+      let of_kind : q.kind ≡ kind = same_kind q.kind kind (eqb-true (number_of q.kind) (number_of kind) parts.0) in
+      let of_name : q.name ≡ name = (bytes_eq-Decides q.name name).0 parts.1 in
+      λ i. record { kind = sym of_kind i; ns = q.ns; name = sym of_name i }
+
+  finds : (q : Id) → object_at (flat_map of_place (values_of entries)) q ≡ cond (is_named kind name q) (indexed_in (found (place_at places q))) None
+  finds q =
+      found_named kind name entries distinct own_entry q
+      ∙ same_then (is_named kind name q) (found (place_among entries q.ns)) (indexed_in (found (place_at places q))) (λ t. stands q.ns ∙ ap (λ (i : Id). indexed_in (found (place_at places i))) (is_this q t))
 
   -- what the index has of the kind and the name is what a filter keeps
   kept : (q : Id) (o : Option Object) → found (place_at places q) ≡ o → cond (is_named kind name q) (indexed_in o) None ≡ option_filter (is_indexed_of kind name) o
@@ -126,10 +194,11 @@ module _ (places : Places) (by_name : ByName) (sound : IsSound places) (index : 
       ∙ ap (λ b. cond {A = Option Object} (b && is_indexed x) (Some x) None)
       (ap (λ b. b && bytes_eq q.name name) (flip_eqb (number_of q.kind) (number_of kind)) ∙ ap (λ (i : Id). (number_of kind == number_of i.kind) && bytes_eq i.name name) (sym (sound.own q x e)))
 
-  pub indexed_listed : (ys : List Object) → IsPermutation (objects_listed (turned_places by_name) kind (Some name)) ys → IsSortedByKey (λ x. x.id) id_cmp ys → ys ≡ filter (is_indexed_of kind name) (objects_at places)
+  pub indexed_listed : (ys : List Object) → IsPermutation (indexed_among places kind name (entries_at by_name kind name)) ys → IsSortedByKey (λ x. x.id) id_cmp ys → ys ≡ filter (is_indexed_of kind name) (objects_at places)
   indexed_listed ys moved sorted =
-      listed (is_indexed_of kind name) (objects_at places) (objects_listed (turned_places by_name) kind (Some name)) ys (ascends-objects_from (all_objects places)) (are_apart (kind_at (turned_places by_name) kind) refl) moved sorted
-      (λ q. finds (kind_at (turned_places by_name) kind) refl q ∙ ap (λ o. cond {A = Option Object} (is_named kind name q) o None) (index.same q) ∙ kept q (found (place_at places q)) refl ∙ ap (option_filter (is_indexed_of kind name)) (sym (found_at places sound q)))
+      listed (is_indexed_of kind name) (objects_at places) (flat_map of_place (values_of entries)) ys (ascends-objects_from (all_objects places)) (named_apart kind name entries distinct own_entry)
+      (subst (λ xs. IsPermutation xs ys) (sym (objects_looked (indexed_at places kind name) (entries_at by_name kind name))) moved) sorted
+      (λ q. finds q ∙ kept q (found (place_at places q)) refl ∙ ap (option_filter (is_indexed_of kind name)) (sym (found_at places sound q)))
 
 -- ---- of which sources alone, or anchors alone
 

@@ -10,7 +10,7 @@ use Rattle.hx_model.proofs.Objects.{is_same_id}
 use Rattle.hx_store.specs.Changes.{id_of}
 use Rattle.hx_store.specs.Places.{ArePlaces, HasPlace, Place, EditsPlaces, found, AreAwaited, AreSwept, IsReady, IsSound, KeepsOthers, is_written, made, swept, unchanged, place_at}
 use Rattle.hx_store.specs.declared.places.Places.{Places}
-use Rattle.hx_store.proofs.Writing.{flip_same, same_itself, sound_by}
+use Rattle.hx_store.proofs.Writing.{flip_same, here, same_itself, sound_by}
 
 or_false : (a b : Bool) → (a || b) ≡ false → (a ≡ false) × (b ≡ false)
 or_false true b e = absurd (true≢false e)
@@ -58,6 +58,9 @@ swept_some : (p : Place) → swept p ≢ Some None
 swept_some None e = true≢false (sym (ap is_some e))
 swept_some (Some None) e = true≢false (sym (ap is_some e))
 swept_some (Some (Some x)) e = let none : Some x ≡ None = cc in true≢false (ap is_some none)
+
+pub swept_gone : (old new : Places) (id : Id) → EditsPlaces swept old new id → place_at new id ≢ Some None
+swept_gone old new id edits empty = swept_some (place_at old id) (sym (here swept old new id edits) ∙ empty)
 
 pub more_swept : (old new : Places) (ws : List Write) (n : ℕ) (d : Write) (id : Id) → id ≡ id_of (get_or ws n d) → EditsPlaces swept old new id → ((i : ℕ) (w : Write) → i < n → slice_get ws i ≡ Some w → place_at old (id_of w) ≢ Some None)
     → (i : ℕ) (w : Write) → i < n + 1 → slice_get ws i ≡ Some w → place_at new (id_of w) ≢ Some None

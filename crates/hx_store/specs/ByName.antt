@@ -1,17 +1,23 @@
--- Where a store keeps sources and anchors once more: by kind, then by name, then by namespace.
+-- Where sources and anchors lie: by kind, then by name, then by namespace. The places there hold nothing.
 --     turned id                the identity with its namespace and its name in each other's place
 --     turned_places by_name    the places of the index, by turned identities
 --     entry_place by_name kind name ns   the place of a kind and a name in a namespace
---     if_indexed kind g        a place changes by g, if objects of its kind may be in the index
+--     entries_at by_name kind name       the places of a kind and a name, with their namespaces
+--     indexed_at places kind name ns     the source or the anchor of a kind and a name in a namespace
+--     indexed_among places kind name es  those in the namespaces of entries
 --     HasEntry by_name w       the source or the anchor that is put has its place there
---     IsIndex by_name places   the index has the sources and the anchors among the objects, and nothing else
+--     IsIndex by_name places   each source and each anchor among the objects has its place there
+--     IsSwept by_name places id  where no source and no anchor lies, no empty place of the identity is left there
 --     IsKept places by_name staged   what a store keeps true
-use Rattle.std.specs.Prelude.{◌≡◌, ℕ, true, cond, List, Some, IsSome, slice_get}
+use Rattle.std.specs.Prelude.{◌≡◌, ◌≢◌, ℕ, true, List, [], Option, Some, None, IsSome, is_some, option_and_then, slice_get}
+use Rattle.std.specs.List.{flat_map}
+use Rattle.std.specs.Option.{option_map_or}
 use Rattle.hx_object.specs.declared.kind.Kind.{Kind}
 use Rattle.hx_object.specs.declared.object.Id.{Id}
+use Rattle.hx_object.specs.declared.object.Object.{Object}
 use Rattle.hx_model.specs.declared.key.Write.{Write}
 use Rattle.hx_model.specs.declared.key.Write.TheVariants.{Put, Cut}
-use Rattle.hx_store.specs.Places.{Place, ArePlaces, IsReady, found, place_at}
+use Rattle.hx_store.specs.Places.{Place, ArePlaces, IsReady, board_in, entries_of, found, kind_at, of_place, place_at}
 use Rattle.hx_store.specs.Sources.{is_indexed, indexed_in, may_be_indexed}
 use Rattle.hx_store.specs.declared.places.Places.{Places}
 use Rattle.hx_store.specs.declared.by_name.ByName.{ByName}
@@ -28,9 +34,17 @@ turned_places by_name = record { kinds = by_name.kinds }
 abbrev pub entry_place : ByName → Kind → List ℕ → List ℕ → Place
 entry_place by_name kind name ns = place_at (turned_places by_name) (record { kind = kind; ns = name; name = ns })
 
--- a place changes so, if objects of its kind may be in the index
-abbrev pub if_indexed : Kind → (Place → Place) → Place → Place
-if_indexed kind g place = cond (may_be_indexed kind) (g place) place
+-- the places of a kind and a name, with their namespaces
+abbrev pub entries_at : ByName → Kind → List ℕ → List (List ℕ × Option Object)
+entries_at by_name kind name = option_map_or entries_of (option_and_then (λ shelves. board_in shelves name) (kind_at (turned_places by_name) kind)) []
+
+-- the source or the anchor of a kind and a name in a namespace
+abbrev pub indexed_at : Places → Kind → List ℕ → List ℕ → Option Object
+indexed_at places kind name ns = indexed_in (found (place_at places (record { kind = kind; ns = ns; name = name })))
+
+-- those in the namespaces of entries
+abbrev pub indexed_among : Places → Kind → List ℕ → List (List ℕ × Option Object) → List Object
+indexed_among places kind name es = flat_map (λ e. of_place (indexed_at places kind name e.0)) es
 
 -- the source or the anchor that is put has its place
 abbrev pub HasEntry : ByName → Write → Type 0
@@ -45,10 +59,14 @@ HasEntries by_name writes = (i : ℕ) (w : Write) → slice_get writes i ≡ Som
 abbrev pub KeepsEntries : ByName → ByName → Type 0
 KeepsEntries old new = (w : Write) → HasEntry old w → HasEntry new w
 
--- the index has the sources and the anchors among the objects, and nothing else
+-- each source and each anchor among the objects has its place; there may be others
 pub record IsIndex (by_name : ByName) (places : Places) : Type 0 where
   pub distinct : ArePlaces (turned_places by_name)
-  pub same : (id : Id) → found (place_at (turned_places by_name) (turned id)) ≡ indexed_in (found (place_at places id))
+  pub all : (id : Id) → is_some (indexed_in (found (place_at places id))) ≡ true → IsSome (place_at (turned_places by_name) (turned id))
+
+-- where no source and no anchor lies, no empty place of the identity is left
+abbrev pub IsSwept : ByName → Places → Id → Type 0
+IsSwept by_name places id = may_be_indexed id.kind ≡ true → indexed_in (found (place_at places id)) ≡ None → place_at (turned_places by_name) (turned id) ≢ Some None
 
 -- what a store keeps true
 pub record IsKept (places : Places) (by_name : ByName) (staged : List Write) : Type 0 where

@@ -2,7 +2,6 @@
 --     write_of key object     the object is put, or that of the key is cut
 --     id_of, object_of        the identity that is written, and the object that is put
 --     HasItsKey key object    the key is the object's own
---     IsChange key object entry    so it is, and the entry is that object, if it is a source or an anchor
 use Rattle.std.specs.Prelude.{◌≡◌, Option, Some, None, IfSome}
 use Rattle.std.specs.Option.{option_map_or}
 use Rattle.std.specs.Coded.{Coded}
@@ -11,7 +10,6 @@ use Rattle.hx_object.specs.declared.object.Object.{Object}
 use Rattle.hx_model.specs.contracts.key.Write as write
 use Rattle.hx_model.specs.declared.key.Write.{Write}
 use Rattle.hx_model.specs.declared.key.Write.TheVariants.{Put, Cut}
-use Rattle.hx_store.specs.Sources.{indexed_in}
 
 -- the code of writes
 abbrev pub write_code : Coded Write
@@ -34,8 +32,3 @@ object_of (Cut id) = None
 -- the key is the object's own
 abbrev pub HasItsKey : Id → Option Object → Type 0
 HasItsKey key object = IfSome object (λ x. x.id ≡ key)
-
--- and the entry is that object, if it is a source or an anchor
-pub record IsChange (key : Id) (object entry : Option Object) : Type 0 where
-  pub own : HasItsKey key object
-  pub same : entry ≡ indexed_in object

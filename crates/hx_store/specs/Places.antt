@@ -1,7 +1,7 @@
 -- Where a store keeps its objects: by kind, then by namespace, then by name. A place holds an object, or is empty.
 --     entries_of board           the places of one kind and namespace, with their names: none, one, those of a rack, or those of a shelf
 --     place_in board name        the place of a name, among those;  place_along rack name, along a rack;  place_on shelf name, on a shelf
---     HoldsNone at name          where places are found so, none of another name has an object
+--     HasNoOther at name         where places are found so, there is none of another name
 --     place_of shelves ns name   the place of a namespace and a name, among the objects of one kind
 --     place_at places id         the place of an identity
 --     found place                the object in a place, where there is one
@@ -10,7 +10,7 @@
 --     objects_in, objects_of     the objects of one kind and namespace;  of one kind
 --     objects_at places          all objects, in the order of their identities
 --     IsReady places staged      what a store keeps true: each object is in its place, each staged write has its place, and no place is empty but those
-use Rattle.std.specs.Prelude.{◌≡◌, ◌≢◌, ℕ, ◌-◌, Bool, true, false, ◌&&◌, cond, List, [], ◌∷◌, Option, Some, None, IsSome, is_some, not, option_and_then, length}
+use Rattle.std.specs.Prelude.{◌≡◌, ◌≢◌, ℕ, ◌-◌, Bool, true, false, ◌&&◌, cond, List, [], ◌∷◌, Option, Some, None, IsSome, not, option_and_then, length}
 use Rattle.std.specs.List.{IsDistinct, flat_map, list_any, slice_get}
 use Rattle.std.specs.Map.{keys_of, lookup, values_of}
 use Rattle.std.specs.HashMap.{get}
@@ -68,13 +68,13 @@ place_alone held place name = cond (bytes_eq name held) (Some place) None
 abbrev pub board_in : Shelves → List ℕ → Option Board
 board_in shelves ns = get bytes_eq shelves.shelves ns
 
--- an entry has an object, and another name
+-- an entry has another name
 abbrev pub is_of_another : List ℕ → List ℕ × Option Object → Bool
-is_of_another name entry = is_some entry.1 && not (bytes_eq name entry.0)
+is_of_another name entry = not (bytes_eq name entry.0)
 
--- no object is found at another name, where these are the places by their names
-abbrev pub HoldsNone : (List ℕ → Place) → List ℕ → Type 0
-HoldsNone at name = (other : List ℕ) → bytes_eq name other ≡ false → found (at other) ≡ None
+-- there is no place of another name, where these are the places by their names
+abbrev pub HasNoOther : (List ℕ → Place) → List ℕ → Type 0
+HasNoOther at name = (other : List ℕ) → bytes_eq name other ≡ false → at other ≡ None
 
 -- the place of a namespace and a name
 abbrev pub place_of : Shelves → List ℕ → List ℕ → Place

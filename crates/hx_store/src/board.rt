@@ -1,8 +1,9 @@
 // The objects of one kind in one namespace: one by itself, a few in a rack, or more on a shelf.
-ghost use Rattle.std.specs.Prelude.{◌≡◌, ◌++◌, ◌∷◌, ◌↔◌, ℕ, List, false, cond, IfOk, OnOk, IsTrue, [], MatchResult, option_copied};
+ghost use Rattle.std.specs.Prelude.{◌≡◌, ◌++◌, ◌∷◌, ◌↔◌, ℕ, List, false, cond, IfOk, OnOk, IsTrue, [], MatchResult, length, option_copied, slice_get};
+ghost use Rattle.std.specs.Option.{option_map};
 ghost use Rattle.std.specs.Str.{bytes_eq};
 ghost use Rattle.hx_store.specs.Least.{IsLeast};
-ghost use Rattle.hx_store.specs.Places.{IsBoard, IsShelf, place_in, place_along, place_on, entries_of, found, EditsBoard, made, filled, swept, unchanged, objects_in, IsNewBoard, HoldsNone};
+ghost use Rattle.hx_store.specs.Places.{IsBoard, IsShelf, place_in, place_along, place_on, entries_of, found, EditsBoard, made, filled, swept, unchanged, objects_in, IsNewBoard, HasNoOther};
 
 use crate::rack::Rack;
 use crate::shelf::Shelf;
@@ -169,15 +170,41 @@ impl Board {
         }
     }
 
-    /// Whether there may be an object of another name. Of many it looks at none, and says that there may.
-    pub(crate) fn may_hold_another(&self, name: &str) -> bool
-        ensures { result ≡ false → HoldsNone (place_in self.now) name.now }
+    /// How many places there are.
+    pub(crate) fn len(&self) -> usize
+        ensures { result ≡ length (entries_of self.now) }
+    {
+        match self {
+            Board::Empty => 0,
+            Board::Held { .. } => 1,
+            Board::One { .. } => 1,
+            Board::Few(rack) => rack.len(),
+            Board::Many(shelf) => shelf.as_ref().len(),
+        }
+    }
+
+    /// The name of the place at an index.
+    pub(crate) fn name_at(&self, index: usize) -> Option<&Text>
+        ensures { option_copied result ≡ option_map (λ e. e.0) (slice_get (entries_of self.now) index) }
+    {
+        match self {
+            Board::Empty => None,
+            Board::Held { name } => first(name, index),
+            Board::One { name, .. } => first(name, index),
+            Board::Few(rack) => rack.name_at(index),
+            Board::Many(shelf) => shelf.as_ref().name_at(index),
+        }
+    }
+
+    /// Whether there may be a place of another name. Of many it looks at none, and says that there may.
+    pub(crate) fn may_have_another(&self, name: &str) -> bool
+        ensures { result ≡ false → HasNoOther (place_in self.now) name.now }
     {
         match self {
             Board::Empty => false,
-            Board::Held { .. } => false,
+            Board::Held { name: held } => name != held.as_str(),
             Board::One { name: held, .. } => name != held.as_str(),
-            Board::Few(rack) => rack.holds_another(name),
+            Board::Few(rack) => rack.has_another(name),
             Board::Many(_) => true,
         }
     }
@@ -231,6 +258,16 @@ fn alone(name: Text, place: Option<Shared>) -> Board
         Some(object) => Board::One { name, object },
         None => Board::Held { name },
     }
+}
+
+/// The one name of a board, at the first index.
+fn first(name: &Text, index: usize) -> Option<&Text>
+    ensures { option_copied result ≡ slice_get (name.now ∷ []) index }
+{
+    if index == 0 {
+        return Some(name);
+    }
+    None
 }
 
 /// A name that is taken out of its board. An empty text, which needs no memory, stands there until the board is replaced.

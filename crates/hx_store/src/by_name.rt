@@ -1,18 +1,20 @@
-// Sources and anchors, by their names.
-ghost use Rattle.std.specs.Prelude.{◌≡◌, ◌++◌, ℕ, false, [], Some, OnOk, MatchResult, length, slice_get};
-ghost use Rattle.hx_store.specs.Places.{ArePlaces, EditsPlaces, made, filled, swept, unchanged, objects_listed, HoldsNone};
-ghost use Rattle.hx_store.specs.ByName.{turned, turned_places, entry_place, if_indexed};
+// The namespaces of sources and anchors, by their names.
+ghost use Rattle.std.specs.Prelude.{◌≡◌, ◌++◌, ℕ, false, [], Some, OnOk, MatchResult, length, slice_get, option_copied};
+ghost use Rattle.std.specs.Option.{option_map_or};
+ghost use Rattle.hx_store.specs.Places.{ArePlaces, EditsPlaces, made, swept, unchanged, entries_of, of_place, HasNoOther};
+ghost use Rattle.hx_store.specs.Sources.{indexed_in};
+ghost use Rattle.hx_store.specs.ByName.{turned, turned_places, entry_place, entries_at, indexed_at, indexed_among};
 
-use crate::change::may_be_indexed;
-use crate::places::{empty_kinds, index_of};
+use crate::board::Board;
+use crate::places::{Places, empty_kinds, index_of};
 use crate::shelves::Shelves;
-use hx_object::{Id, Kind, NoMemory, Shared};
+use hx_object::{Id, Kind, NoMemory, Shared, Text};
 use std::alloc::Global;
 use std::hash::RandomState;
 
-/// The sources and the anchors among the objects, kind by kind in the order of their numbers.
+/// Where sources and anchors lie, kind by kind in the order of their numbers.
 ///
-/// They lie in places like all objects, but the other way round: by name, and then by namespace. So those of one name are found in all namespaces at once.
+/// Each has a place like all objects, but the other way round: by name, and then by namespace. So the namespaces of one name are found at once. The places are always empty: an object lies in one place alone, and a write of contents leaves the index as it is. There may be places of others, which are passed over.
 pub(crate) struct ByName {
     kinds: [Shelves; 14],
 }
@@ -42,45 +44,69 @@ impl ByName {
         self.kinds[index_of(id.kind)].make(id.name.as_str(), id.ns.as_str())
     }
 
-    /// Puts a source or an anchor, or none, in the place of an identity, where there is one. For kinds of neither it does nothing.
-    pub(crate) fn fill(&mut self, id: &Id, entry: Option<Shared>)
-        ensures places { ArePlaces (turned_places self.old) → ArePlaces (turned_places self.new) }
-        ensures filled { EditsPlaces (if_indexed id.now.kind (filled entry)) (turned_places self.old) (turned_places self.new) (turned id.now) }
-    {
-        if !may_be_indexed(id.kind) {
-            drop(entry);
-            return;
-        }
-        self.kinds[index_of(id.kind)].fill(id.name.as_str(), id.ns.as_str(), entry);
-    }
-
-    /// Takes the place of an identity away where it is empty. For kinds of neither it does nothing.
+    /// Takes the place of an identity away, which is empty.
     pub(crate) fn sweep(&mut self, id: &Id)
         ensures places { ArePlaces (turned_places self.old) → ArePlaces (turned_places self.new) }
-        ensures swept { EditsPlaces (if_indexed id.now.kind swept) (turned_places self.old) (turned_places self.new) (turned id.now) }
+        ensures swept { EditsPlaces swept (turned_places self.old) (turned_places self.new) (turned id.now) }
     {
-        if !may_be_indexed(id.kind) {
-            return;
-        }
         self.kinds[index_of(id.kind)].sweep(id.name.as_str(), id.ns.as_str());
     }
 
     /// Whether a source of a kind and a name, or an anchor of the name, may lie in another namespace than this one.
     pub(crate) fn may_lie_beside(&self, kind: Kind, name: &str, ns: &str) -> bool
-        ensures { result ≡ false → HoldsNone (entry_place self.now kind name.now) ns.now }
+        ensures { result ≡ false → HasNoOther (entry_place self.now kind name.now) ns.now }
     {
-        self.kinds[index_of(kind)].may_hold_another(name, ns)
+        self.kinds[index_of(kind)].may_have_another(name, ns)
     }
 
-    /// Adds the sources of a kind and a name, or the anchors of a name, to those that are listed.
+    /// Adds the sources of a kind and a name, or the anchors of a name, to those that are listed: those among the objects that lie where the index says.
     pub(crate) fn list(
         &self,
+        places: &Places,
         kind: Kind,
         name: &str,
         listed: &mut Vec<Shared>,
     ) -> Result<(), NoMemory>
-        ensures { OnOk result (listed.new.items ≡ listed.old.items ++ objects_listed (turned_places self.now) kind (Some name.now)) }
+        ensures { OnOk result (listed.new.items ≡ listed.old.items ++ indexed_among places.now kind name.now (entries_at self.now kind name.now)) }
     {
-        self.kinds[index_of(kind)].list_in(name, listed)
+        match self.kinds[index_of(kind)].board(name) {
+            Some(board) => list_board(board, places, kind, name, listed),
+            None => Ok(()),
+        }
     }
+}
+
+/// Adds the sources or the anchors in the namespaces of a board.
+fn list_board(
+    board: &Board,
+    places: &Places,
+    kind: Kind,
+    name: &str,
+    listed: &mut Vec<Shared>,
+) -> Result<(), NoMemory>
+    ensures { OnOk result (listed.new.items ≡ listed.old.items ++ indexed_among places.now kind name.now (entries_of board.now)) }
+{
+    for index in 0..board.len() {
+        list_in(board.name_at(index), places, kind, name, listed)?;
+    }
+    Ok(())
+}
+
+/// Adds the source or the anchor in a namespace, where there is one.
+fn list_in(
+    ns: Option<&Text>,
+    places: &Places,
+    kind: Kind,
+    name: &str,
+    listed: &mut Vec<Shared>,
+) -> Result<(), NoMemory>
+    ensures { OnOk result (listed.new.items ≡ listed.old.items ++ option_map_or (λ ns. of_place (indexed_at places.now kind name.now ns)) (option_copied ns.entry) []) }
+{
+    let Some(ns) = ns else {
+        return Ok(());
+    };
+    if let Some(object) = places.find_indexed(kind, ns.as_str(), name) {
+        listed.push(object.share()?)?;
+    }
+    Ok(())
 }

@@ -1,5 +1,5 @@
 // Writes that are ready to be made.
-ghost use Rattle.std.specs.Prelude.{◌≡◌, Some, IfOk, is_some, option_copied};
+ghost use Rattle.std.specs.Prelude.{◌≡◌, IfOk, is_some, option_copied};
 ghost use Rattle.hx_store.specs.Changes.{id_of, object_of};
 ghost use Rattle.hx_store.specs.Sources.{indexed_in, is_indexed, may_be_indexed};
 ghost use Rattle.hx_object.specs.Kinds.{is_anchor};
@@ -12,23 +12,17 @@ use std::marker::Model;
 pub struct Change {
     key: Id,
     object: Option<Shared>,
-    /// The object once more, if it is a source or an anchor.
-    entry: Option<Shared>,
 }
 
 impl Drop for Change {
     fn drop(self) {
-        let Change {
-            key: _,
-            object: _,
-            entry: _,
-        } = self;
+        let Change { key: _, object: _ } = self;
     }
 }
 
 impl Model for Change {
     ghost use Rattle.hx_model.specs.declared.key.Write.{Write};
-    ghost use Rattle.hx_store.specs.Changes.{write_code, write_of, IsChange};
+    ghost use Rattle.hx_store.specs.Changes.{write_code, write_of, HasItsKey};
 
     ghost Value = { Write };
 
@@ -36,7 +30,7 @@ impl Model for Change {
 
     ghost view = { λ c. write_of c.key c.object };
 
-    ghost invariant = { λ c. IsChange c.key c.object c.entry };
+    ghost invariant = { λ c. HasItsKey c.key c.object };
 }
 
 impl Change {
@@ -46,7 +40,6 @@ impl Change {
     {
         Ok(Change {
             key: object.object().id.clone()?,
-            entry: share_indexed(&object)?,
             object: Some(object),
         })
     }
@@ -58,7 +51,6 @@ impl Change {
         Change {
             key: id,
             object: None,
-            entry: None,
         }
     }
 
@@ -80,31 +72,23 @@ impl Change {
     pub(crate) fn puts_indexed(&self) -> bool
         ensures { result ≡ is_some (indexed_in (object_of self.now)) }
     {
-        self.entry.is_some()
+        match &self.object {
+            Some(object) => is_indexed(object.object()),
+            None => false,
+        }
     }
 
-    /// Takes the object out, and once more if it is a source or an anchor, which leaves a write that takes the object of the identity away.
-    pub(crate) fn take(&mut self) -> (Option<Shared>, Option<Shared>)
-        ensures object { result.0 ≡ object_of self.old }
-        ensures entry { result.1 ≡ indexed_in (object_of self.old) }
+    /// Takes the object out, which leaves a write that takes the object of the identity away.
+    pub(crate) fn take(&mut self) -> Option<Shared>
+        ensures object { result ≡ object_of self.old }
         ensures rest { self.new ≡ Write.Cut (id_of self.old) }
     {
-        (self.object.take(), self.entry.take())
+        self.object.take()
     }
-}
-
-/// One more owner of an object, if it is a source or an anchor.
-fn share_indexed(object: &Shared) -> Result<Option<Shared>, NoMemory>
-    ensures { IfOk result (λ entry. entry ≡ indexed_in (Some object.now)) }
-{
-    if is_indexed(object.object()) {
-        return Ok(Some(object.share()?));
-    }
-    Ok(None)
 }
 
 /// Whether an object is a source or an anchor.
-fn is_indexed(object: &Object) -> bool
+pub(crate) fn is_indexed(object: &Object) -> bool
     ensures { result ≡ is_indexed object.now }
 {
     is_source(object) || is_anchor(object.id.kind)

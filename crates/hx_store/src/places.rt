@@ -1,9 +1,11 @@
 // The places of the objects of all kinds.
-ghost use Rattle.std.specs.Prelude.{◌≡◌, ◌++◌, ◌-◌, ◌<◌, ℕ, List, [], true, Option, Some, OnOk, MatchResult, length, option_copied, slice_get};
+ghost use Rattle.std.specs.Prelude.{◌≡◌, ◌++◌, ◌-◌, ◌<◌, ℕ, List, [], true, Option, Some, OnOk, MatchResult, is_some, length, option_copied, slice_get};
 ghost use Rattle.hx_object.specs.Kinds.{number_of};
 ghost use Rattle.hx_model.specs.State.{least_in};
 ghost use Rattle.hx_store.specs.Places.{AreShelves, ArePlaces, IsSound, objects_at, place_at, found, EditsPlaces, made, filled, swept, unchanged, objects_listed};
+ghost use Rattle.hx_store.specs.Sources.{indexed_in};
 
+use crate::change::is_indexed;
 use crate::shelves::Shelves;
 use hx_object::{Id, Kind, NoMemory, Shared, Text};
 use std::alloc::Global;
@@ -43,6 +45,27 @@ impl Places {
         ensures { option_copied result ≡ found (place_at self.now (record { kind = kind; ns = ns.now; name = name.now })) }
     {
         self.kinds[index_of(kind)].find(ns, name)
+    }
+
+    /// The source or the anchor of a kind, a namespace and a name.
+    pub(crate) fn find_indexed(&self, kind: Kind, ns: &str, name: &str) -> Option<&Shared>
+        ensures { option_copied result ≡ indexed_in (found (place_at self.now (record { kind = kind; ns = ns.now; name = name.now }))) }
+    {
+        let Some(object) = self.find(kind, ns, name) else {
+            return None;
+        };
+        if is_indexed(object.object()) {
+            return Some(object);
+        }
+        None
+    }
+
+    /// Whether the object of an identity is a source or an anchor.
+    pub(crate) fn has_indexed(&self, id: &Id) -> bool
+        ensures { result ≡ is_some (indexed_in (found (place_at self.now id.now))) }
+    {
+        self.find_indexed(id.kind, id.ns.as_str(), id.name.as_str())
+            .is_some()
     }
 
     /// Whether there are no places of a kind.

@@ -1,5 +1,5 @@
 // The objects of a few names of one kind in one namespace.
-ghost use Rattle.std.specs.Prelude.{◌≡◌, ◌++◌, ◌∷◌, ◌↔◌, ℕ, List, cond, IfOk, OnOk, IsTrue, [], MatchResult, None, option_copied, position};
+ghost use Rattle.std.specs.Prelude.{◌≡◌, ◌++◌, ◌∷◌, ◌↔◌, ℕ, List, cond, IfOk, OnOk, IsTrue, [], MatchResult, None, length, option_copied, position, slice_get};
 ghost use Rattle.std.specs.List.{list_any};
 ghost use Rattle.std.specs.Map.Iter.{deref_pair};
 ghost use Rattle.std.specs.Option.{option_map};
@@ -143,12 +143,29 @@ impl Rack {
         self.places.is_empty()
     }
 
-    /// Whether there is an object of another name.
-    pub(crate) fn holds_another(&self, name: &str) -> bool
+    /// How many places there are.
+    pub(crate) fn len(&self) -> usize
+        ensures { result ≡ length self.now.places.items }
+    {
+        self.places.len()
+    }
+
+    /// The name of the place at an index.
+    pub(crate) fn name_at(&self, index: usize) -> Option<&Text>
+        ensures { option_copied result ≡ option_map (λ e. e.0) (slice_get self.now.places.items index) }
+    {
+        match self.places.get(index) {
+            Some((name, _)) => Some(name),
+            None => None,
+        }
+    }
+
+    /// Whether there is a place of another name.
+    pub(crate) fn has_another(&self, name: &str) -> bool
         ensures { result ≡ list_any (is_of_another name.now) self.now.places.items }
     {
-        for (held, place) in self.places.iter() {
-            if place.is_some() && name != held.as_str() {
+        for (held, _) in self.places.iter() {
+            if name != held.as_str() {
                 return true;
             }
         }

@@ -1,5 +1,5 @@
 // The objects of one kind in one namespace.
-ghost use Rattle.std.specs.Prelude.{◌≡◌, ◌++◌, ◌↔◌, ℕ, List, cond, Some, None, IfSome, OnOk, IsTrue, [], MatchResult, option_copied};
+ghost use Rattle.std.specs.Prelude.{◌≡◌, ◌++◌, ◌↔◌, ℕ, List, cond, Some, None, IfSome, OnOk, IsTrue, [], MatchResult, length, option_copied, slice_get};
 ghost use Rattle.std.specs.HashMap.{get};
 ghost use Rattle.std.specs.List.{IsDistinct};
 ghost use Rattle.std.specs.Map.{keys_of};
@@ -126,6 +126,23 @@ impl Shelf {
         ensures { IsTrue result ↔ (self.now.places.entries ≡ []) }
     {
         self.places.is_empty()
+    }
+
+    /// How many places there are.
+    pub(crate) fn len(&self) -> usize
+        ensures { result ≡ length self.now.places.entries }
+    {
+        self.places.len()
+    }
+
+    /// The name of the place at an index.
+    pub(crate) fn name_at(&self, index: usize) -> Option<&Text>
+        ensures { option_copied result ≡ option_map (λ e. e.0) (slice_get self.now.places.entries index) }
+    {
+        match self.places.get_index(index) {
+            Some((name, _)) => Some(name),
+            None => None,
+        }
     }
 
     /// Adds the objects to those that are listed.

@@ -2,7 +2,7 @@
 ghost use Rattle.std.specs.Prelude.{◌≡◌, ◌++◌, ℕ, List, false, true, Option, [], None, OnOk, MatchResult, option_copied};
 ghost use Rattle.std.specs.Option.{option_map_or};
 ghost use Rattle.hx_store.specs.Least.{IsLeast};
-ghost use Rattle.hx_store.specs.Places.{AreShelves, board_in, place_of, found, EditsShelves, made, filled, swept, unchanged, objects_in, objects_of, objects_under, HoldsNone};
+ghost use Rattle.hx_store.specs.Places.{AreShelves, board_in, place_of, found, EditsShelves, made, filled, swept, unchanged, objects_in, objects_of, objects_under, HasNoOther};
 
 use crate::board::Board;
 use crate::map::{TextMap, empty_map};
@@ -130,12 +130,12 @@ impl Shelves {
         }
     }
 
-    /// Whether a namespace may have an object of another name. Of many it looks at none, and says that it may.
-    pub(crate) fn may_hold_another(&self, ns: &str, name: &str) -> bool
-        ensures { result ≡ false → HoldsNone (place_of self.now ns.now) name.now }
+    /// Whether a namespace may have a place of another name. Of many it looks at none, and says that it may.
+    pub(crate) fn may_have_another(&self, ns: &str, name: &str) -> bool
+        ensures { result ≡ false → HasNoOther (place_of self.now ns.now) name.now }
     {
         match self.board(ns) {
-            Some(board) => board.may_hold_another(name),
+            Some(board) => board.may_have_another(name),
             None => false,
         }
     }

@@ -18,7 +18,7 @@ use std::mem;
 
 /// Objects by kind, namespace and name, and the version of the last write.
 ///
-/// An object is found in constant time on average, and a list looks at nothing but what it gives. Sources, which copies are made of, and anchors lie by kind, name and namespace as well. Writes are staged, which makes room for them, and then made without taking memory.
+/// An object is found in constant time on average, and a list looks at nothing but what it gives. In which namespaces sources (which copies are made of) and anchors lie is kept by kind and name as well. Writes are staged, which makes room for them, and then made without taking memory.
 pub struct Store {
     places: Places,
     by_name: ByName,
@@ -114,7 +114,7 @@ impl Store {
 
     /// The sources of a kind and a name in all namespaces, in ascending order of identities: the objects that copies are made of.
     ///
-    /// Roles, role bindings, config maps, secrets, network policies and limit ranges can be copied. A copy has the label `hnc.x-k8s.io/inherited-from` (HNC user guide, "Object propagation"). It looks at nothing but what it gives.
+    /// Roles, role bindings, config maps, secrets, network policies and limit ranges can be copied. A copy has the label `hnc.x-k8s.io/inherited-from` (HNC user guide, "Object propagation"). It looks at nothing but what it gives, and what is staged.
     pub fn sources(&self, kind: Kind, name: &str) -> Result<Vec<Shared>, NoMemory>
         ensures { IfOk result (λ objects. objects.items ≡ filter (is_source_of kind name.now) self.now.objects) }
     {
@@ -126,7 +126,7 @@ impl Store {
 
     /// The anchors of a name in all namespaces, in ascending order of identities: by each, its namespace asks for a subnamespace of the name.
     ///
-    /// It looks at nothing but what it gives.
+    /// It looks at nothing but what it gives, and what is staged.
     pub fn anchors(&self, name: &str) -> Result<Vec<Shared>, NoMemory>
         ensures { IfOk result (λ objects. objects.items ≡ filter (is_anchor_of name.now) self.now.objects) }
     {
@@ -147,7 +147,7 @@ impl Store {
         ensures { IfOk result (λ objects. objects.items ≡ filter (is_indexed_of kind name.now) self.now.objects) }
     {
         let mut listed = Vec::new(self.alloc);
-        self.by_name.list(kind, name, &mut listed)?;
+        self.by_name.list(&self.places, kind, name, &mut listed)?;
         sort(&mut listed);
         Ok(listed)
     }
@@ -197,7 +197,7 @@ impl Store {
         ensures staged { self.new.staged ≡ [] }
     {
         let mut changes = mem::replace(&mut self.staged, Vec::new(self.alloc));
-        make_writes(&mut self.places, &mut self.by_name, &mut changes);
+        make_writes(&mut self.places, &mut changes);
         sweep_places(&mut self.places, &mut self.by_name, &changes);
         self.version = version;
     }

@@ -2,11 +2,11 @@
 ghost use Rattle.std.specs.Prelude.{◌≡◌, [], ◌∷◌, OnOk, OnErr};
 ghost use Rattle.hx_store.specs.Changes.{id_of};
 ghost use Rattle.hx_model.specs.State.{after_writes};
-ghost use Rattle.hx_store.specs.Places.{IsReady, IsSound, ArePlaces, AreSwept, HasPlace, HasPlaces, HasSame, KeepsOthers, KeepsPlaces, is_written, objects_at};
-ghost use Rattle.hx_store.specs.ByName.{turned_places, HasEntry, HasEntries, IsIndex, KeepsEntries};
+ghost use Rattle.hx_store.specs.Places.{IsReady, IsSound, AreSwept, HasPlace, HasPlaces, HasSame, KeepsOthers, KeepsPlaces, is_written, objects_at};
+ghost use Rattle.hx_store.specs.ByName.{HasEntry, HasEntries, IsIndex, IsSwept, KeepsEntries};
 
 use crate::by_name::ByName;
-use crate::change::Change;
+use crate::change::{Change, may_be_indexed};
 use crate::places::Places;
 use hx_object::{Id, NoMemory};
 
@@ -46,7 +46,7 @@ fn add_places(places: &mut Places, by_name: &mut ByName, changes: &[Change]) -> 
 {
     for change in changes {
         add_place(places, change)?;
-        add_entry(by_name, change)?;
+        add_entry(by_name, places, change)?;
     }
     Ok(())
 }
@@ -66,54 +66,50 @@ fn add_place(places: &mut Places, change: &Change) -> Result<(), NoMemory>
     places.make(change.id())
 }
 
-/// Makes a place in the index for the source or the anchor that a write stores.
-fn add_entry(by_name: &mut ByName, change: &Change) -> Result<(), NoMemory>
-    requires { ArePlaces (turned_places by_name.old) }
-    ensures distinct { ArePlaces (turned_places by_name.new) }
-    ensures same { HasSame (turned_places by_name.old) (turned_places by_name.new) }
+/// Makes a place in the index for the source or the anchor that a write stores. Where one lies there already, the index has it.
+fn add_entry(by_name: &mut ByName, places: &Places, change: &Change) -> Result<(), NoMemory>
+    requires { IsIndex by_name.old places.now }
+    ensures index { IsIndex by_name.new places.now }
     ensures kept { KeepsEntries by_name.old by_name.new }
     ensures there { OnOk result (HasEntry by_name.new change.now) }
 {
     if !change.puts_indexed() {
         return Ok(());
     }
+    if places.has_indexed(change.id()) {
+        return Ok(());
+    }
     by_name.make(change.id())
 }
 
-/// Makes the writes, whose places are there. The objects move out of the changes.
-pub(crate) fn make_writes(places: &mut Places, by_name: &mut ByName, changes: &mut [Change])
+/// Makes the writes, whose places are there. The objects move out of the changes. The index stays as it is.
+pub(crate) fn make_writes(places: &mut Places, changes: &mut [Change])
     requires sound { IsSound places.old }
     requires there { HasPlaces places.old changes.old }
-    requires index { IsIndex by_name.old places.old }
-    requires awaited { HasEntries by_name.old changes.old }
     ensures sound { IsSound places.new }
-    ensures index { IsIndex by_name.new places.new }
+    ensures index { (by_name : ByName) → IsIndex by_name places.old → HasEntries by_name changes.old → IsIndex by_name places.new }
     ensures objects { objects_at places.new ≡ after_writes changes.old (objects_at places.old) }
     ensures others { KeepsOthers changes.old places.old places.new }
     ensures ids { (id : Id) → is_written changes.new id ≡ is_written changes.old id }
 {
     for change in changes.iter_mut() {
-        make_write(places, by_name, change);
+        make_write(places, change);
     }
 }
 
 /// Makes a write, whose place is there.
-fn make_write(places: &mut Places, by_name: &mut ByName, change: &mut Change)
+fn make_write(places: &mut Places, change: &mut Change)
     requires sound { IsSound places.old }
     requires there { HasPlace places.old change.old }
-    requires index { IsIndex by_name.old places.old }
-    requires awaited { HasEntry by_name.old change.old }
     ensures sound { IsSound places.new }
-    ensures index { IsIndex by_name.new places.new }
+    ensures index { (by_name : ByName) → IsIndex by_name places.old → HasEntry by_name change.old → IsIndex by_name places.new }
     ensures kept { KeepsPlaces places.old places.new }
-    ensures kept_entries { KeepsEntries by_name.old by_name.new }
     ensures objects { objects_at places.new ≡ after_writes (change.old ∷ []) (objects_at places.old) }
     ensures others { KeepsOthers (change.old ∷ []) places.old places.new }
     ensures id { id_of change.new ≡ id_of change.old }
 {
-    let (object, entry) = change.take();
+    let object = change.take();
     places.fill(change.id(), object);
-    by_name.fill(change.id(), entry);
 }
 
 /// Takes the empty places of writes away.
@@ -128,6 +124,21 @@ pub(crate) fn sweep_places(places: &mut Places, by_name: &mut ByName, changes: &
 {
     for change in changes {
         places.sweep(change.id());
-        by_name.sweep(change.id());
+        sweep_entry(by_name, places, change.id());
     }
+}
+
+/// Takes the place of an identity in the index away, where no source and no anchor lies any more.
+fn sweep_entry(by_name: &mut ByName, places: &Places, id: &Id)
+    requires { IsIndex by_name.old places.now }
+    ensures index { IsIndex by_name.new places.now }
+    ensures swept { IsSwept by_name.new places.now id.now }
+{
+    if !may_be_indexed(id.kind) {
+        return;
+    }
+    if places.has_indexed(id) {
+        return;
+    }
+    by_name.sweep(id);
 }

@@ -2,7 +2,7 @@ use Rattle.std.proofs.Common.{[], ◌∷◌, refl, subst, ◌∙◌, arith}
 use Rattle.std.proofs.lemmas.Option.{slice_get_within}
 use Rattle.hx_store.specs.Places.{HasPlace, KeepsOthers}
 use Rattle.hx_store.specs.ByName.{HasEntry}
-use Rattle.hx_store.proofs.Indexing.{index_places, index_entries}
+use Rattle.hx_store.proofs.Indexing.{index_places}
 use Rattle.hx_store.proofs.Waiting.{more_others}
 use Rattle.hx_store.proofs.Writing.{more_hold}
 use Rattle.hx_store.proofs.writes.add_places.Goals as goal
@@ -14,7 +14,7 @@ pub add_place-requires : goal.add_place-requires
 add_place-requires c = c.loop-change.invariant.sound
 
 pub add_entry-requires : goal.add_entry-requires
-add_entry-requires c = c.loop-change.invariant.index.distinct
+add_entry-requires c = index_places c.loop-change.by_name c.loop-change.places c.add_place.new.places c.add_place.ensures.same c.loop-change.invariant.index
 
 pub returns-in_err-add_place-clause-same : goal.returns-in_err-add_place-clause-same
 returns-in_err-add_place-clause-same c id = c.add_place.ensures.same id ∙ c.loop-change.invariant.same id
@@ -36,15 +36,12 @@ returns-in_err-add_entry-clause-others c =
     (subst (λ w. KeepsOthers (w ∷ []) c.loop-change.places c.add_place.new.places) c.change-item.is c.add_place.ensures.others)
 
 pub returns-in_err-add_entry-clause-index : goal.returns-in_err-add_entry-clause-index
-returns-in_err-add_entry-clause-index c =
-    index_entries c.loop-change.by_name c.add_entry.new.by_name c.add_place.new.places c.add_entry.ensures.distinct c.add_entry.ensures.same
-    (index_places c.loop-change.by_name c.loop-change.places c.add_place.new.places c.add_place.ensures.same c.loop-change.invariant.index)
+returns-in_err-add_entry-clause-index c = c.add_entry.ensures.index
 
 pub loop-change-preserved : goal.loop-change-preserved
 loop-change-preserved c = record {
   sound = c.add_place.ensures.sound;
-  index = index_entries c.loop-change.by_name c.add_entry.new.by_name c.add_place.new.places c.add_entry.ensures.distinct c.add_entry.ensures.same
-      (index_places c.loop-change.by_name c.loop-change.places c.add_place.new.places c.add_place.ensures.same c.loop-change.invariant.index);
+  index = c.add_entry.ensures.index;
   same = λ id. c.add_place.ensures.same id ∙ c.loop-change.invariant.same id;
   others = more_others c.args.changes.now c.args.changes.now c.loop-change.change-index c.change-item.result c.args.places.now c.loop-change.places c.add_place.new.places c.loop-change-test.true (λ id. refl) c.loop-change.invariant.others
       (subst (λ w. KeepsOthers (w ∷ []) c.loop-change.places c.add_place.new.places) c.change-item.is c.add_place.ensures.others);

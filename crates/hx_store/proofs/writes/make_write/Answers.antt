@@ -1,31 +1,21 @@
 use Rattle.std.proofs.Common.{ap, refl, ◌∙◌}
 use Rattle.hx_store.specs.Changes.{id_of, object_of}
 use Rattle.hx_store.specs.Places.{EditsPlaces, filled}
-use Rattle.hx_store.specs.Sources.{indexed_in}
-use Rattle.hx_store.specs.ByName.{turned_places, if_indexed, turned}
-use Rattle.hx_store.proofs.Indexing.{fill_kept, fill_entry, index_write}
+use Rattle.hx_store.proofs.Indexing.{index_write}
 use Rattle.hx_store.proofs.Waiting.{edit_others}
 use Rattle.hx_store.proofs.Writing.{fill_edits, objects_write, place_kept, sound_write}
 use Rattle.hx_store.proofs.Edits.{filled_keeps}
 use Rattle.hx_store.proofs.writes.make_write.Goals as goal
 
-edits : (c : goal.After-fill-2) → EditsPlaces (filled (object_of c.args.change.now)) c.args.places.now c.fill.new.self (id_of c.args.change.now)
-edits c = fill_edits c.args.places.now c.fill.new.self c.args.change.now c.take-object.result.0 c.id.result.now
+edits : (c : goal.After-fill) → EditsPlaces (filled (object_of c.args.change.now)) c.args.places.now c.fill.new.self (id_of c.args.change.now)
+edits c = fill_edits c.args.places.now c.fill.new.self c.args.change.now c.take-object.result c.id.result.now
     c.take-object.ensures.object (c.id.ensures ∙ ap id_of c.take-object.ensures.rest) c.fill.ensures.filled
-
-entry_edits : (c : goal.After-fill-2) → EditsPlaces (if_indexed (id_of c.args.change.now).kind (filled (indexed_in (object_of c.args.change.now)))) (turned_places c.args.by_name.now) (turned_places c.fill-2.new.self) (turned (id_of c.args.change.now))
-entry_edits c = fill_entry c.args.by_name.now c.fill-2.new.self c.args.change.now c.take-object.result.1 c.id-2.result.now
-    c.take-object.ensures.entry (c.id-2.ensures ∙ ap id_of c.take-object.ensures.rest) c.fill-2.ensures.filled
 
 pub returns-clause-sound : goal.returns-clause-sound
 returns-clause-sound c = sound_write c.args.places.now c.fill.new.self c.args.change.now c.requires.sound (c.fill.ensures.places c.requires.sound.distinct) (edits c)
 
 pub returns-clause-index : goal.returns-clause-index
-returns-clause-index c = index_write c.args.by_name.now c.fill-2.new.self c.args.places.now c.fill.new.self c.args.change.now c.requires.sound c.requires.index c.requires.there c.requires.awaited (edits c) (entry_edits c)
-    (c.fill-2.ensures.places c.requires.index.distinct)
-
-pub returns-clause-kept_entries : goal.returns-clause-kept_entries
-returns-clause-kept_entries c = fill_kept c.args.by_name.now c.fill-2.new.self (id_of c.args.change.now) (indexed_in (object_of c.args.change.now)) (entry_edits c)
+returns-clause-index c = λ by_name index awaited. index_write by_name c.args.places.now c.fill.new.self c.args.change.now (edits c) index awaited
 
 pub returns-clause-objects : goal.returns-clause-objects
 returns-clause-objects c = objects_write c.args.places.now c.fill.new.self c.args.change.now c.requires.sound (returns-clause-sound c) c.requires.there (edits c)

@@ -9,7 +9,7 @@ use Rattle.hx_store.proofs.Writing.{left_hold, left_writes}
 use Rattle.hx_store.proofs.writes.make_writes.Goals as goal
 
 pub loop-change-init : goal.loop-change-init
-loop-change-init c = record { sound = c.requires.sound; there = λ i w _ e. c.requires.there i w e; index = c.requires.index; awaited = λ i w _ e. c.requires.awaited i w e; others = λ id _. refl; ids = λ id. refl; objects = refl }
+loop-change-init c = record { sound = c.requires.sound; there = λ i w _ e. c.requires.there i w e; index = λ by_name index awaited. (index, λ i w _ e. awaited i w e); others = λ id _. refl; ids = λ id. refl; objects = refl }
 
 pub make_write-requires-clause-sound : goal.make_write-requires-clause-sound
 make_write-requires-clause-sound c = c.loop-change.invariant.sound
@@ -19,21 +19,15 @@ make_write-requires-clause-there c =
     let within : c.loop-change.change-index < length c.loop-change.changes = omega arith in
     c.loop-change.invariant.there c.loop-change.change-index _ (omega arith) (slice_get-get_or c.loop-change.changes c.loop-change.change-index c.change-item.result within)
 
-pub make_write-requires-clause-index : goal.make_write-requires-clause-index
-make_write-requires-clause-index c = c.loop-change.invariant.index
-
-pub make_write-requires-clause-awaited : goal.make_write-requires-clause-awaited
-make_write-requires-clause-awaited c =
-    let within : c.loop-change.change-index < length c.loop-change.changes = omega arith in
-    c.loop-change.invariant.awaited c.loop-change.change-index _ (omega arith) (slice_get-get_or c.loop-change.changes c.loop-change.change-index c.change-item.result within)
-
 pub loop-change-preserved : goal.loop-change-preserved
 loop-change-preserved c =
     let within : c.loop-change.change-index < length c.loop-change.changes = omega arith in
     record {
       sound = c.make_write.ensures.sound;
-      index = c.make_write.ensures.index;
-      awaited = left_hold (HasEntry c.loop-change.by_name) (HasEntry c.make_write.new.by_name) c.loop-change.changes c.loop-change.change-index c.make_write.new.change c.make_write.ensures.kept_entries c.loop-change.invariant.awaited;
+      index = λ by_name index awaited.
+          let so_far = c.loop-change.invariant.index by_name index awaited in
+          let this = so_far.1 c.loop-change.change-index _ (omega arith) (slice_get-get_or c.loop-change.changes c.loop-change.change-index c.change-item.result within) in
+          (c.make_write.ensures.index by_name so_far.0 this, left_hold (HasEntry by_name) (HasEntry by_name) c.loop-change.changes c.loop-change.change-index c.make_write.new.change (λ w entry. entry) so_far.1);
       there = left_hold (HasPlace c.loop-change.places) (HasPlace c.make_write.new.places) c.loop-change.changes c.loop-change.change-index c.make_write.new.change c.make_write.ensures.kept c.loop-change.invariant.there;
       others = more_others c.args.changes.now c.loop-change.changes c.loop-change.change-index c.change-item.result c.args.places.now c.loop-change.places c.make_write.new.places within c.loop-change.invariant.ids c.loop-change.invariant.others c.make_write.ensures.others;
       ids = λ id. same_written c.loop-change.changes c.loop-change.change-index c.change-item.result c.make_write.new.change id c.make_write.ensures.id ∙ c.loop-change.invariant.ids id;
@@ -44,7 +38,7 @@ pub returns-clause-sound : goal.returns-clause-sound
 returns-clause-sound c = c.loop-change.invariant.sound
 
 pub returns-clause-index : goal.returns-clause-index
-returns-clause-index c = c.loop-change.invariant.index
+returns-clause-index c = λ by_name index awaited. (c.loop-change.invariant.index by_name index awaited).0
 
 pub returns-clause-objects : goal.returns-clause-objects
 returns-clause-objects c =

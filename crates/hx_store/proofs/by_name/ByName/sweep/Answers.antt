@@ -1,18 +1,12 @@
 use Rattle.std.proofs.Common.{rules}
-use Rattle.std.specs.Prelude.{slice_set}
 use Rattle.hx_store.specs.Places.{swept}
 use Rattle.hx_store.specs.ByName.{turned_places, turned}
 use Rattle.hx_store.proofs.ByKind.{set_edits, set_places}
-use Rattle.hx_store.proofs.Indexing.{may_then, may_else}
 use Rattle.hx_store.proofs.by_name.ByName.sweep.Goals as goal
-
-pub returns-then-not-may_be_indexed-clause-swept : goal.returns-then-not-may_be_indexed-clause-swept
-returns-then-not-may_be_indexed-clause-swept c = may_else c.args.id.now.kind swept (turned_places c.args.self.now) (turned c.args.id.now) (search rules)
 
 pub returns-clause-places : goal.returns-clause-places
 returns-clause-places c = set_places (turned_places c.args.self.now) c.index_of.result c.index-self-index_of.result c.sweep.new.self (turned c.args.id.now) (search rules) c.index_of.ensures.small c.index_of.ensures.value c.sweep.ensures.shelves
 
 pub returns-clause-swept : goal.returns-clause-swept
-returns-clause-swept c = may_then c.args.id.now.kind swept (turned_places c.args.self.now) (turned_places (record { kinds = slice_set c.args.self.now.kinds c.index_of.result c.sweep.new.self })) (turned c.args.id.now) (search rules)
-    (set_edits (turned_places c.args.self.now) c.index_of.result c.index-self-index_of.result c.sweep.new.self (turned c.args.id.now) (search rules) c.index_of.ensures.small c.index_of.ensures.value
-    swept c.as_str.result.now c.as_str-2.result.now c.as_str.ensures.value c.as_str-2.ensures.value c.sweep.ensures.places)
+returns-clause-swept c = set_edits (turned_places c.args.self.now) c.index_of.result c.index-self-index_of.result c.sweep.new.self (turned c.args.id.now) (search rules) c.index_of.ensures.small c.index_of.ensures.value
+    swept c.as_str.result.now c.as_str-2.result.now c.as_str.ensures.value c.as_str-2.ensures.value c.sweep.ensures.places

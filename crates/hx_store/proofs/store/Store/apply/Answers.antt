@@ -1,7 +1,8 @@
-use Rattle.std.proofs.Common.{◌≡◌, ◌++◌, drop, length, sym, take, ap, ◌∙◌}
+use Rattle.std.proofs.Common.{◌≡◌, ◌++◌, drop, length, sym, take, ap, subst, ◌∙◌}
 use Rattle.std.proofs.Math.Seq.{take-append_seam}
 use Rattle.hx_model.specs.State.{after_writes}
 use Rattle.hx_store.specs.Places.{AreAwaited, is_written, objects_at}
+use Rattle.hx_store.specs.ByName.{HasEntries}
 use Rattle.hx_store.proofs.Indexing.{none_staged}
 use Rattle.hx_store.proofs.Waiting.{more_awaited, none_awaited, none_ready}
 use Rattle.hx_store.proofs.Writing.{same_objects}
@@ -9,6 +10,11 @@ use Rattle.hx_store.proofs.store.Store.apply.Goals as goal
 
 all : (c : goal.After-drop-changes) → c.deref_mut.result.now ≡ c.self.inside.staged.items
 all c = c.deref_mut.ensures.value ∙ ap (λ v. v.items) c.replace-changes.ensures.value
+
+pub sweep_places-requires-clause-index : goal.sweep_places-requires-clause-index
+sweep_places-requires-clause-index c =
+    let by_name = c.self.inside.by_name in
+    c.make_writes.ensures.index by_name c.self.invariant.index (subst (HasEntries by_name) (sym (c.deref_mut.ensures.value ∙ ap (λ v. v.items) c.replace-changes.ensures.value)) c.self.invariant.awaited)
 
 pub returns-clause-objects : goal.returns-clause-objects
 returns-clause-objects c =

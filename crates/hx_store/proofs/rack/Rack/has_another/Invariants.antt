@@ -1,7 +1,7 @@
 use Rattle.std.proofs.Common.{◌≡◌, drop}
 use Rattle.std.specs.List.{list_any}
 use Rattle.hx_store.specs.Places.{is_of_another}
-use Rattle.hx_store.proofs.rack.Rack.holds_another.Given as goal
+use Rattle.hx_store.proofs.rack.Rack.has_another.Given as goal
 
 -- the places that are left give the same as all places
 abbrev pub invariant-loop-held : goal.invariant-loop-held
