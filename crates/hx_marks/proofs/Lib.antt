@@ -20,6 +20,7 @@ pub mod ModeKeys
 pub mod Replacing
 pub mod Labelling
 pub mod MoveChains
+pub mod Calm
 pub mod MoveSources
 pub mod MoveStates
 pub mod MoveBelow

@@ -27,6 +27,9 @@ pub fn open_below(alloc: Global, forest: &Forest, name: &Text) -> Result<Vec<Tex
         return Ok(names);
     }
     let below = forest.below(name)?;
+    if !forest.may_be_restless() {
+        return Ok(below);
+    }
     push_open(&mut names, forest, &below)?;
     Ok(names)
 }
@@ -69,6 +72,9 @@ pub(crate) fn live_below(forest: &Forest, name: &Text) -> Result<Vec<Text>, NoMe
     ensures { IfOk result (λ names. names.items ≡ live_below forest.now.nodes name.now) }
 {
     let mut names = forest.below(name)?;
+    if !forest.may_be_restless() {
+        return Ok(names);
+    }
     names.retain(|member| is_live_under(forest, name, member));
     Ok(names)
 }

@@ -3,7 +3,11 @@ use Rattle.std.proofs.lemmas.Fn.{filter_same}
 use Rattle.std.specs.List.{list_all}
 use Rattle.hx_model.specs.Forest.{chain_of}
 use Rattle.hx_model.specs.Moves.{up_to, is_calm}
+use Rattle.hx_marks.proofs.Calm.{all_live}
 use Rattle.hx_marks.proofs.below.live_below.Goals as goal
+
+pub returns-then-not-may_be_restless : goal.returns-then-not-may_be_restless
+returns-then-not-may_be_restless c = c.in_ok-names.ensures ∙ all_live c.args.forest.now.nodes c.args.name.now (c.may_be_restless.ensures c.if-not-may_be_restless.true)
 
 pub returns : goal.returns
 returns c =
