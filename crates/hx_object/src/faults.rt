@@ -85,13 +85,23 @@ fn has_legal_labels(object: &Object) -> bool
 fn are_legal_labels(labels: &[(Text, Text)]) -> bool
     ensures { result ≡ list_all is_legal_label labels.now }
 {
-    labels.iter().all(is_legal_label)
+    for label in labels {
+        if !is_legal_label(label) {
+            return false;
+        }
+    }
+    true
 }
 
 fn are_legal_annotations(annotations: &[(Text, Text)]) -> bool
     ensures { result ≡ list_all is_legal_annotation annotations.now }
 {
-    annotations.iter().all(is_legal_annotation)
+    for annotation in annotations {
+        if !is_legal_annotation(annotation) {
+            return false;
+        }
+    }
+    true
 }
 
 fn is_legal_label(label: &(Text, Text)) -> bool
@@ -116,7 +126,13 @@ fn has_too_many_labels(object: &Object) -> bool
 fn count(labels: &[(Text, Text)]) -> usize
     ensures { result ≡ length (counted labels.now) }
 {
-    labels.iter().filter(|label| is_counted(*label)).count()
+    let mut count = 0;
+    for label in labels {
+        if is_counted(label) {
+            count += 1;
+        }
+    }
+    count
 }
 
 #[tactic(auto, unfolding(crate::specs::Sizes::is_counted))]

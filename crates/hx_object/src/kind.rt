@@ -1,12 +1,12 @@
 // The kinds of objects.
 ghost use Rattle.std.specs.Prelude.{◌≡◌, find};
 ghost use Rattle.std.specs.Str.{bytes_eq};
-ghost use Rattle.hx_object.specs.Kinds.{kind_row, number_of, resource_of, is_in_cluster, is_namespace, is_hierarchy, can_be_copied, kind_of_plural, name_of, api_version_of, group_of, plural_of};
+ghost use Rattle.hx_object.specs.Kinds.{number_of, resource_of, is_in_cluster, is_namespace, is_hierarchy, can_be_copied, kind_of_plural, name_of, api_version_of, group_of, plural_of};
 
 /// A kind of object: a resource of the Kubernetes core, RBAC or networking API, or of HNC's own group `hnc.x-k8s.io/v1alpha2`.
 ///
 /// The order of the variants is the order of the kinds' numbers.
-#[derive(Clone, Copy, Debug, PartialEq, Eq, PartialOrd, Ord, Hash)]
+#[derive(Clone, Copy, PartialEq, Eq, PartialOrd, Ord, Hash)]
 pub enum Kind {
     Namespace,
     HncConfiguration,
@@ -25,74 +25,56 @@ pub enum Kind {
 }
 
 /// Whether the objects of a kind lie in namespaces.
-#[derive(Clone, Copy, Debug, PartialEq, Eq)]
+#[derive(Clone, Copy)]
 enum Scope {
     Cluster,
     Namespaced,
 }
 
-/// What the table of kinds says of a kind.
-#[derive(Clone, Copy)]
-struct Row {
-    number: u8,
-    /// The API group. The core group is the empty text.
-    group: &'static str,
-    plural: &'static str,
-    /// The plural, and behind a point the API group where that isn't the core group.
-    resource: &'static str,
-    name: &'static str,
-    /// The group's version, behind the group and a slash where that isn't the core group.
-    api_version: &'static str,
-    scope: Scope,
-}
-
-/// A row by its number, its API group, the group's version, its plural, its name and its scope. The core group is the empty text.
-macro_rules! row {
-    ($number:literal, "", $version:literal, $plural:literal, $name:literal, $scope:ident) => {
-        Row {
-            number: $number,
-            group: "",
-            plural: $plural,
-            resource: $plural,
-            name: $name,
-            api_version: $version,
-            scope: Scope::$scope,
-        }
+/// A column of a row of the table of kinds. The core group is the empty text.
+macro_rules! column {
+    (number: $number:literal, $group:literal, $version:literal, $plural:literal, $name:literal, $scope:ident) => {
+        $number
     };
-    ($number:literal, $group:literal, $version:literal, $plural:literal, $name:literal, $scope:ident) => {
-        Row {
-            number: $number,
-            group: $group,
-            plural: $plural,
-            resource: concat!($plural, ".", $group),
-            name: $name,
-            api_version: concat!($group, "/", $version),
-            scope: Scope::$scope,
-        }
+    (group: $number:literal, $group:literal, $version:literal, $plural:literal, $name:literal, $scope:ident) => {
+        $group
+    };
+    (plural: $number:literal, $group:literal, $version:literal, $plural:literal, $name:literal, $scope:ident) => {
+        $plural
+    };
+    (name: $number:literal, $group:literal, $version:literal, $plural:literal, $name:literal, $scope:ident) => {
+        $name
+    };
+    (scope: $number:literal, $group:literal, $version:literal, $plural:literal, $name:literal, $scope:ident) => {
+        Scope::$scope
+    };
+    (resource: $number:literal, "", $version:literal, $plural:literal, $name:literal, $scope:ident) => {
+        $plural
+    };
+    (resource: $number:literal, $group:literal, $version:literal, $plural:literal, $name:literal, $scope:ident) => {
+        concat!($plural, ".", $group)
+    };
+    (api_version: $number:literal, "", $version:literal, $plural:literal, $name:literal, $scope:ident) => {
+        $version
+    };
+    (api_version: $number:literal, $group:literal, $version:literal, $plural:literal, $name:literal, $scope:ident) => {
+        concat!($group, "/", $version)
     };
 }
 
-/// The row of a kind, among the rows of all kinds.
-macro_rules! kind_rows {
-    ($self:expr; $($kind:ident => $number:literal, $group:tt, $version:literal, $plural:literal, $name:literal, $scope:ident;)*) => {
+/// What the row of a kind has in a column, among the rows of all kinds.
+macro_rules! among_rows {
+    ($self:expr, $column:ident; $($kind:ident => $number:literal, $group:tt, $version:literal, $plural:literal, $name:literal, $scope:ident;)*) => {
         match $self {
-            $(Kind::$kind => row!($number, $group, $version, $plural, $name, $scope),)*
+            $(Kind::$kind => column!($column: $number, $group, $version, $plural, $name, $scope),)*
         }
     };
 }
 
-impl Kind {
-    /// The kind's row in the table of kinds.
-    fn row(self) -> Row
-        ensures number { result.number ≡ number_of self }
-        ensures group { result.group.now ≡ group_of self }
-        ensures plural { result.plural.now ≡ plural_of self }
-        ensures name { result.name.now ≡ name_of self }
-        ensures resource { result.resource.now ≡ resource_of self }
-        ensures api_version { result.api_version.now ≡ api_version_of self }
-        ensures scope { result.scope ≡ (kind_row self).scope }
-    {
-        kind_rows!(self;
+/// What the table of kinds has for a kind in a column. A row has a kind's number, its API group, the group's version, its plural, its name and its scope.
+macro_rules! in_table {
+    ($self:expr, $column:ident) => {
+        among_rows!($self, $column;
             Namespace => 1, "", "v1", "namespaces", "Namespace", Cluster;
             HncConfiguration => 2, "hnc.x-k8s.io", "v1alpha2", "hncconfigurations", "HNCConfiguration", Cluster;
             HierarchyConfiguration => 3, "hnc.x-k8s.io", "v1alpha2", "hierarchyconfigurations", "HierarchyConfiguration", Namespaced;
@@ -108,55 +90,57 @@ impl Kind {
             Service => 13, "", "v1", "services", "Service", Namespaced;
             PersistentVolumeClaim => 14, "", "v1", "persistentvolumeclaims", "PersistentVolumeClaim", Namespaced;
         )
-    }
+    };
+}
 
+impl Kind {
     /// The kind's number, 1 to 14, by which identities are ordered and stored rows begin.
     pub fn number(self) -> u8
         ensures { result ≡ number_of self }
     {
-        self.row().number
+        in_table!(self, number)
     }
 
     /// Whether objects of the kind lie in no namespace.
     pub fn is_in_cluster(self) -> bool
         ensures { result ≡ is_in_cluster self }
     {
-        matches!(self.row().scope, Scope::Cluster)
+        matches!(in_table!(self, scope), Scope::Cluster)
     }
 
     /// The API group of the kind. The core group is the empty text.
     pub fn group(self) -> &'static str
         ensures { result.now ≡ group_of self }
     {
-        self.row().group
+        in_table!(self, group)
     }
 
     /// The plural under which objects of the kind are listed.
     pub fn plural(self) -> &'static str
         ensures { result.now ≡ plural_of self }
     {
-        self.row().plural
+        in_table!(self, plural)
     }
 
     /// The name of the kind's resource as messages give it: the plural, and behind a point the API group where that isn't the core group.
     pub fn resource(self) -> &'static str
         ensures { result.now ≡ resource_of self }
     {
-        self.row().resource
+        in_table!(self, resource)
     }
 
     /// The kind as bodies name it.
     pub fn name(self) -> &'static str
         ensures { result.now ≡ name_of self }
     {
-        self.row().name
+        in_table!(self, name)
     }
 
     /// The `apiVersion` of the kind's bodies: the version, behind the API group and a slash where that isn't the core group.
     pub fn api_version(self) -> &'static str
         ensures { result.now ≡ api_version_of self }
     {
-        self.row().api_version
+        in_table!(self, api_version)
     }
 
     /// The kind whose objects are listed under a plural.
@@ -198,10 +182,12 @@ impl Kind {
 fn of_plural(kinds: &[Kind], plural: &str) -> Option<Kind>
     ensures { result ≡ find (λ kind. bytes_eq plural.now (plural_of kind)) kinds.now }
 {
-    kinds
-        .iter()
-        .copied()
-        .find(|kind| plural == kind.row().plural)
+    for kind in kinds {
+        if plural == kind.plural() {
+            return Some(*kind);
+        }
+    }
+    None
 }
 
 /// All kinds, in the order of their numbers.

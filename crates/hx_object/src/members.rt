@@ -23,7 +23,7 @@ impl Drop for Members {
 }
 
 /// How many bytes of the text of kept members stand in front of where each member goes that they lack: `{` and the members whose keys come before it.
-#[derive(Clone, Copy, Debug, PartialEq, Eq)]
+#[derive(Clone, Copy)]
 pub struct Places {
     pub api_version: u32,
     pub kind: u32,

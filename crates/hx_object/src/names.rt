@@ -119,7 +119,12 @@ fn is_dns_part(any_case: bool, part: &[u8]) -> bool
 fn has_part_bytes(any_case: bool, part: &[u8]) -> bool
     ensures { result ≡ list_all (is_part_byte any_case) part.now }
 {
-    part.iter().all(|byte| is_part_byte(any_case, *byte))
+    for byte in part {
+        if !is_part_byte(any_case, *byte) {
+            return false;
+        }
+    }
+    true
 }
 
 #[tactic(auto, unfolding(crate::specs::Names::is_qualified_part))]
@@ -135,13 +140,23 @@ fn is_qualified_part(name: &[u8]) -> bool
 fn has_qualified_bytes(name: &[u8]) -> bool
     ensures { result ≡ list_all is_qualified_byte name.now }
 {
-    name.iter().all(|byte| is_qualified_byte(*byte))
+    for byte in name {
+        if !is_qualified_byte(*byte) {
+            return false;
+        }
+    }
+    true
 }
 
 fn has_role_bytes(name: &[u8]) -> bool
     ensures { result ≡ list_all is_role_byte name.now }
 {
-    name.iter().all(|byte| is_role_byte(*byte))
+    for byte in name {
+        if !is_role_byte(*byte) {
+            return false;
+        }
+    }
+    true
 }
 
 /// Whether the name is a step of a path to the same folder or to the one above.
@@ -166,7 +181,12 @@ fn has_name_length(name: &[u8]) -> bool
 fn has_label_bytes(name: &[u8]) -> bool
     ensures { result ≡ list_all is_dns_byte name.now }
 {
-    name.iter().all(|byte| is_dns_byte(*byte))
+    for byte in name {
+        if !is_dns_byte(*byte) {
+            return false;
+        }
+    }
+    true
 }
 
 fn ends_well(name: &[u8]) -> bool

@@ -122,7 +122,7 @@ impl Drop for ModeEntry {
 }
 
 /// HNC's synchronization modes.
-#[derive(Clone, Copy, Debug, PartialEq, Eq)]
+#[derive(Clone, Copy, PartialEq, Eq)]
 pub enum Mode {
     Propagate,
     AllowPropagate,
@@ -131,7 +131,7 @@ pub enum Mode {
 }
 
 /// What is reported of a namespace's place in the tree.
-#[derive(Clone, Copy, Debug, PartialEq, Eq)]
+#[derive(Clone, Copy, PartialEq, Eq)]
 pub enum Condition {
     InCycle,
     ParentMissing,
@@ -141,7 +141,7 @@ pub enum Condition {
 }
 
 /// What is reported of a SubnamespaceAnchor and the namespace that it asks for.
-#[derive(Clone, Copy, Debug, PartialEq, Eq)]
+#[derive(Clone, Copy, PartialEq, Eq)]
 pub enum AnchorStatus {
     Missing,
     Ok,
@@ -222,7 +222,7 @@ impl Drop for Container {
 }
 
 /// Why an object is refused. Where several hold, the first of them is given.
-#[derive(Clone, Copy, Debug, PartialEq, Eq)]
+#[derive(Clone, Copy)]
 pub enum ObjectFault {
     /// The namespace or the name breaks its grammar.
     BadName,

@@ -122,7 +122,12 @@ fn put_in(pairs: &mut Vec<(Text, Text)>, key: Text, value: Text) -> Result<(), N
 fn place_of(pairs: &[(Text, Text)], key: &Text) -> usize
     ensures { result ≡ length (take_while (λ pair. is_gt (bytes_cmp key.now pair.0)) pairs.now) }
 {
-    pairs.iter().take_while(|pair| *key > pair.0).count()
+    for i in 0..pairs.len() {
+        if *key <= pairs[i].0 {
+            return i;
+        }
+    }
+    pairs.len()
 }
 
 impl Clone for Pairs {

@@ -1,7 +1,7 @@
 // Why a text isn't read as a quantity.
 
 /// Why a text isn't read as a quantity. The reader is `hx_quantity`'s.
-#[derive(Clone, Copy, Debug, PartialEq, Eq)]
+#[derive(Clone, Copy)]
 pub enum QuantityFault {
     /// It isn't a number in decimal with one of the suffixes or without one. Signs, exponents and spaces aren't taken.
     Syntax,

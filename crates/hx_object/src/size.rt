@@ -83,10 +83,13 @@ fn quota_size(hard: &[Limit]) -> usize
 fn labels_size(labels: &[(Text, Text)]) -> usize
     ensures { result ≡ capped_sum (λ label. capped (pair_size label)) (counted labels.now) }
 {
-    labels
-        .iter()
-        .filter(|label| is_counted(*label))
-        .fold(0, |sum, label| add(sum, pair_size(label)))
+    let mut sum = 0;
+    for label in labels {
+        if is_counted(label) {
+            sum = add(sum, pair_size(label));
+        }
+    }
+    sum
 }
 
 fn pair_size(pair: &(Text, Text)) -> usize
@@ -98,7 +101,11 @@ fn pair_size(pair: &(Text, Text)) -> usize
 fn pairs_size(pairs: &[(Text, Text)]) -> usize
     ensures { result ≡ capped_sum (λ pair. capped (pair_size pair)) pairs.now }
 {
-    pairs.iter().fold(0, |sum, pair| add(sum, pair_size(pair)))
+    let mut sum = 0;
+    for pair in pairs {
+        sum = add(sum, pair_size(pair));
+    }
+    sum
 }
 
 #[tactic(auto, using(crate::proofs::Sizes::hierarchy_sizes))]
@@ -123,9 +130,11 @@ fn hierarchy_size(parent: &Option<Text>, cascade: bool) -> usize
 fn entries_size(entries: &[ModeEntry]) -> usize
     ensures { result ≡ capped_sum (λ entry. capped (entry_size entry)) entries.now }
 {
-    entries
-        .iter()
-        .fold(0, |sum, entry| add(sum, entry_size(entry)))
+    let mut sum = 0;
+    for entry in entries {
+        sum = add(sum, entry_size(entry));
+    }
+    sum
 }
 
 /// The size of an entry and of one byte more.
@@ -147,9 +156,11 @@ fn entry_size(entry: &ModeEntry) -> usize
 fn limits_size(limits: &[Limit]) -> usize
     ensures { result ≡ capped_sum (λ limit. capped (limit_size limit)) limits.now }
 {
-    limits
-        .iter()
-        .fold(0, |sum, limit| add(sum, limit_size(limit)))
+    let mut sum = 0;
+    for limit in limits {
+        sum = add(sum, limit_size(limit));
+    }
+    sum
 }
 
 /// The size of a limit as a member, and of one byte more.
@@ -174,9 +185,11 @@ fn quoted_size(text: &[u8]) -> usize
 fn escaped_size(bytes: &[u8]) -> usize
     ensures { result ≡ capped_sum (λ byte. length (escape_byte byte)) bytes.now }
 {
-    bytes
-        .iter()
-        .fold(0, |sum, byte| add(sum, escape_size(*byte)))
+    let mut sum = 0;
+    for byte in bytes {
+        sum = add(sum, escape_size(*byte));
+    }
+    sum
 }
 
 #[tactic(auto, unfolding(json::specs::Print::escape_byte))]
