@@ -7,7 +7,6 @@ use hx_object::{List, NoMemory, Pairs, Text};
 use std::alloc::{AllocFailed, Global};
 
 /// What labels have to be: all the requirements hold. Without a requirement it always holds.
-#[derive(Clone, PartialEq, Eq)]
 pub struct Selector {
     pub needs: List<Requirement>,
 }
@@ -19,7 +18,6 @@ impl Drop for Selector {
 }
 
 /// What the label of one key has to be.
-#[derive(Clone, PartialEq, Eq)]
 pub struct Requirement {
     pub key: Text,
     pub test: Test,
@@ -32,7 +30,6 @@ impl Drop for Requirement {
 }
 
 /// What is asked of a label.
-#[derive(Clone, PartialEq, Eq)]
 pub enum Test {
     /// It is there, whatever its value.
     There,
@@ -56,7 +53,7 @@ impl Drop for Test {
 }
 
 /// Why a text isn't read as a selector. A place is the number of bytes before it.
-#[derive(Clone, Copy, Debug, PartialEq, Eq)]
+#[derive(Clone, Copy)]
 pub enum SelectFault {
     /// The token at the place can't stand there; at the end of the text more has to come.
     Syntax { at: usize },
@@ -115,10 +112,12 @@ impl Selector {
     pub fn matches(&self, labels: &Pairs) -> bool
         ensures { result ≡ selects self.now labels.now }
     {
-        self.needs
-            .as_slice()
-            .iter()
-            .all(|need| need.test.holds_for(labels.get(need.key.as_str())))
+        for need in self.needs.as_slice() {
+            if !need.test.holds_for(labels.get(need.key.as_str())) {
+                return false;
+            }
+        }
+        true
     }
 }
 
@@ -145,8 +144,10 @@ impl Test {
 fn is_among(value: &Text, values: &List<Text>) -> bool
     ensures { result ≡ is_among value.now values.now }
 {
-    values
-        .as_slice()
-        .iter()
-        .any(|other| value.as_str() == other.as_str())
+    for other in values.as_slice() {
+        if value == other {
+            return true;
+        }
+    }
+    false
 }

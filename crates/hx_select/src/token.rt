@@ -1,7 +1,7 @@
 // The tokens of a selector.
 
 /// What a token is.
-#[derive(Clone, Copy, Debug, PartialEq, Eq)]
+#[derive(Clone, Copy)]
 pub(crate) enum TokenKind {
     Comma,
     Open,

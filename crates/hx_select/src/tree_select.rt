@@ -11,14 +11,14 @@ use hx_object::{List, NoMemory, Pairs, Text, is_dns_label};
 use std::alloc::{AllocFailed, Global};
 
 /// The part of a tree that an object goes to: the namespaces at and below one, if it is named, and not those at and below others.
-#[derive(Clone, PartialEq, Eq, Drop)]
+#[derive(Drop)]
 pub struct TreeSelect {
     pub plain: Option<Text>,
     pub not: List<Text>,
 }
 
 /// Why a text isn't read as a tree selector.
-#[derive(Clone, Copy, Debug, PartialEq, Eq)]
+#[derive(Clone, Copy)]
 pub enum TreeFault {
     /// A piece between the commas is empty.
     Syntax,
@@ -135,7 +135,12 @@ fn is_under_plain(labels: &Pairs, plain: &Option<Text>) -> bool
 fn is_under_none(labels: &Pairs, names: &[Text]) -> bool
     ensures { result ≡ list_all (λ name. not (is_under labels.now name)) names.now }
 {
-    names.iter().all(|name| !is_under(labels, name.as_str()))
+    for name in names {
+        if is_under(labels, name.as_str()) {
+            return false;
+        }
+    }
+    true
 }
 
 /// Whether a namespace with the labels is at or below the one of the name.
@@ -148,9 +153,12 @@ fn is_under(labels: &Pairs, name: &str) -> bool
 fn has_tree_label(labels: &[(Text, Text)], name: &str) -> bool
     ensures { result ≡ list_any (λ label. bytes_eq (name.now ++ tree_suffix) label.0) labels.now }
 {
-    labels
-        .iter()
-        .any(|label| is_tree_label(label.0.as_str(), name))
+    for label in labels {
+        if is_tree_label(label.0.as_str(), name) {
+            return true;
+        }
+    }
+    false
 }
 
 /// Whether a key is that of the tree label of a name.
