@@ -1,5 +1,8 @@
 // What the suffixes stand for.
-ghost use Rattle.std.specs.Prelude.{◌≡◌, ◌<◌, IfSome, option_map};
+ghost use Rattle.std.specs.Prelude.{◌≡◌, ◌<◌, IfSome, map, option_map};
+ghost use Rattle.std.specs.List.{AllByRecursion};
+ghost use Rattle.std.specs.Map.{lookup};
+ghost use Rattle.std.specs.Str.{bytes_eq};
 ghost use Rattle.hx_quantity.specs.Inside.{times};
 ghost use Rattle.hx_object.specs.Quantities.{factor_of};
 
@@ -10,21 +13,25 @@ pub(crate) struct Factor {
     pub over: u32,
 }
 
-impl Factor {
-    fn times(times: u64) -> Factor
-        ensures times { result.times ≡ times }
-        ensures over { result.over ≡ 1 }
-    {
-        Factor { times, over: 1 }
-    }
-
-    fn over(over: u32) -> Factor
-        ensures times { result.times ≡ 1 }
-        ensures over { result.over ≡ over }
-    {
-        Factor { times: 1, over }
-    }
-}
+/// The suffixes, each with what a number is times and over.
+static FACTORS: [(&[u8], u64, u32); 16] = [
+    (b"", 1, 1),
+    (b"n", 1, 1_000_000_000),
+    (b"u", 1, 1_000_000),
+    (b"m", 1, 1_000),
+    (b"k", 1_000, 1),
+    (b"M", 1_000_000, 1),
+    (b"G", 1_000_000_000, 1),
+    (b"T", 1_000_000_000_000, 1),
+    (b"P", 1_000_000_000_000_000, 1),
+    (b"E", 1_000_000_000_000_000_000, 1),
+    (b"Ki", 1 << 10, 1),
+    (b"Mi", 1 << 20, 1),
+    (b"Gi", 1 << 30, 1),
+    (b"Ti", 1 << 40, 1),
+    (b"Pi", 1 << 50, 1),
+    (b"Ei", 1 << 60, 1),
+];
 
 /// What a suffix stands for.
 #[tactic(auto, unfolding(hx_object::specs::Quantities::factor_of))]
@@ -32,23 +39,22 @@ pub(crate) fn factor_of(suffix: &[u8]) -> Option<Factor>
     ensures factor { option_map times result ≡ factor_of suffix.now }
     ensures some { IfSome result (λ factor. 0 < factor.over) }
 {
-    match suffix {
-        b"" => Some(Factor::times(1)),
-        b"n" => Some(Factor::over(1_000_000_000)),
-        b"u" => Some(Factor::over(1_000_000)),
-        b"m" => Some(Factor::over(1_000)),
-        b"k" => Some(Factor::times(1_000)),
-        b"M" => Some(Factor::times(1_000_000)),
-        b"G" => Some(Factor::times(1_000_000_000)),
-        b"T" => Some(Factor::times(1_000_000_000_000)),
-        b"P" => Some(Factor::times(1_000_000_000_000_000)),
-        b"E" => Some(Factor::times(1_000_000_000_000_000_000)),
-        b"Ki" => Some(Factor::times(1 << 10)),
-        b"Mi" => Some(Factor::times(1 << 20)),
-        b"Gi" => Some(Factor::times(1 << 30)),
-        b"Ti" => Some(Factor::times(1 << 40)),
-        b"Pi" => Some(Factor::times(1 << 50)),
-        b"Ei" => Some(Factor::times(1 << 60)),
-        _ => None,
+    factor_in(&FACTORS, suffix)
+}
+
+/// What the first row with the suffix has.
+fn factor_in(rows: &[(&'static [u8], u64, u32)], suffix: &[u8]) -> Option<Factor>
+    requires { AllByRecursion (λ row. 0 < row.2) rows.now }
+    ensures factor { option_map times result ≡ lookup (bytes_eq suffix.now) (map (λ row. (row.0.now, times (record { times = row.1; over = row.2 }))) rows.now) }
+    ensures some { IfSome result (λ factor. 0 < factor.over) }
+{
+    for row in rows {
+        if suffix == row.0 {
+            return Some(Factor {
+                times: row.1,
+                over: row.2,
+            });
+        }
     }
+    None
 }
