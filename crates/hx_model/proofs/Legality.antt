@@ -26,7 +26,7 @@ use Rattle.hx_object.specs.declared.object.Payload.{Payload}
 use Rattle.hx_object.specs.declared.object.Payload.TheVariants.{Namespace as NamespaceOf, Config, Hierarchy, Anchor, Quota, Plain}
 use Rattle.hx_model.specs.State.{with_version}
 use Rattle.hx_model.specs.Answers.{with_status, replaced_by}
-use Rattle.hx_model.specs.Serving.{IsGiven, is_given, is_typed}
+use Rattle.hx_model.specs.Serving.{is_typed}
 use Rattle.hx_model.proofs.Storing.{HasNoSlash, IsKeyed}
 
 -- ---- versions

@@ -12,15 +12,13 @@ use Rattle.std.proofs.lemmas.Map.Keys.{IsDistinct-head, IsDistinct-tail}
 use Rattle.hx_object.specs.declared.object.Id.{Id}
 use Rattle.hx_object.specs.declared.object.Object.{Object}
 use Rattle.hx_model.specs.Limits.{names_in, is_named}
-use Rattle.hx_model.specs.State.{State, Objects, same_id, object_at, put, cut, after_writes}
-use Rattle.hx_model.specs.Valid.{IsValid}
-use Rattle.hx_model.specs.Writes.{MayWrite, MayWriteAll, gives_name, changes_names, id_written}
+use Rattle.hx_model.specs.State.{Objects, same_id, object_at, put, cut, after_writes}
+use Rattle.hx_model.specs.Writes.{gives_name, changes_names, id_written}
 use Rattle.hx_model.specs.declared.key.Write.{Write}
 use Rattle.hx_model.specs.declared.key.Write.TheVariants.{Put, Cut}
 use Rattle.hx_model.proofs.Distinct.{one_unless, itself}
-use Rattle.hx_model.proofs.Naming.{IsHomed, AreNamed, AreAlike, named_valid, named_put, named_cut, same_itself, some_is, given_by, named_from, named_alike, names_put_new, names_put_other, names_cut, names_cut_other, alike_put_same, alike_put_other, alike_cut_other}
+use Rattle.hx_model.proofs.Naming.{IsHomed, AreNamed, AreAlike, named_put, named_cut, same_itself, some_is, given_by, named_from, named_alike, names_put_new, names_put_other, names_cut, names_cut_other, alike_put_same, alike_put_other, alike_cut_other}
 use Rattle.hx_model.proofs.Objects.{is_same_id, object_at-put, object_at-cut}
-use Rattle.hx_model.proofs.Planting.{namespace_is_homed}
 
 -- ---- the writes of one commit
 

@@ -40,7 +40,7 @@ use Rattle.hx_model.specs.ForestChanges.{with_node, without_node, with_terminati
 use Rattle.hx_model.specs.Limits.{is_namespace, is_hierarchy}
 use Rattle.hx_model.specs.Serving.{IsServed}
 use Rattle.hx_model.specs.State.{Objects, same_id, object_at, put, cut, is_below_all, ascends, namespace_id, home_in}
-use Rattle.hx_model.specs.Tree.{hierarchy, hierarchy_id, subnamespace_parent, named_parent, spec_parent, is_terminating, node_in, namespaces_in, forest_in}
+use Rattle.hx_model.specs.Tree.{hierarchy, hierarchy_id, subnamespace_parent, named_parent, is_terminating, node_in, namespaces_in, forest_in}
 use Rattle.hx_model.specs.Answers.{with_status, replaced_by}
 use Rattle.hx_model.specs.declared.node.Node.{Node}
 use Rattle.hx_model.proofs.Storing.{All-found}

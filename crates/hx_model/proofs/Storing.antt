@@ -15,7 +15,7 @@ use Rattle.hx_object.specs.Order.{id_cmp}
 use Rattle.hx_object.specs.Texts.{bytes_cmp}
 use Rattle.hx_object.specs.declared.object.Id.{Id}
 use Rattle.hx_object.specs.declared.object.Object.{Object}
-use Rattle.hx_model.specs.State.{Objects, put, cut, object_at, same_id, objects_from}
+use Rattle.hx_model.specs.State.{Objects, put, cut, object_at, same_id}
 use Rattle.hx_object.specs.Json.{object_text}
 use Rattle.hx_model.specs.Texts.{key_text, stored_entry, rows_of_objects}
 use Rattle.hx_model.proofs.Objects.{id_total, exact_ids, same_kind, is_same_id, same_from_Equal}

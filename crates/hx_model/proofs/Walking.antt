@@ -7,13 +7,12 @@ use Rattle.std.specs.Prelude.{is_some, option_and_then}
 use Rattle.std.proofs.Common.{◌≡◌, ℕ, zero, suc, ◌+◌, ◌≤◌, Bool, true, false, cond, not, ◌&&◌, ◌||◌, Option, Some, None, option_map, List, [], ◌∷◌, ◌++◌, length, filter, refl, sym, ap, ◌∙◌, subst, inl, inr, arith, length-append, true≢false}
 use Rattle.std.specs.List.{list_any, AllByRecursion, IsDistinct}
 use Rattle.std.specs.Str.{bytes_eq}
-use Rattle.std.proofs.lemmas.Cmp.{nat_list_eq_equiv}
 use Rattle.std.proofs.lemmas.Bool.{and_parts, and_from, or_cases, or_left, or_right, cases_Bool, false_from_ne_true}
 use Rattle.std.proofs.lemmas.Bool.Decides.{same_from_decides}
 use Rattle.std.proofs.lemmas.Option.{none-some, same_Some}
 use Rattle.std.proofs.lemmas.List.Folds.{list_any-append}
 use Rattle.std.proofs.lemmas.Map.Keys.{IsDistinct-cons, IsDistinct-head, IsDistinct-tail}
-use Rattle.std.proofs.lemmas.Map.Made.{length-from_same_keys, is_some-lookup}
+use Rattle.std.proofs.lemmas.Map.Made.{is_some-lookup}
 use Rattle.std.specs.Option.{option_map_or}
 use Rattle.hx_model.specs.First.{so, first}
 use Rattle.hx_model.specs.declared.node.Node.{Node}
@@ -22,7 +21,7 @@ use Rattle.hx_model.specs.Forest.{Forest, is_in, names_of, node_of, is_there, is
 use Rattle.hx_model.specs.Walks.{walk_has, walk_to, walk_ends, walk_halts, length_from}
 pub use Rattle.hx_model.specs.Moves.{chain_from}
 use Rattle.hx_model.proofs.Climbing.{Climbs, at_top, stopped, onward, chain-Climbs, AreThere, AreThere-push, none_there, few, Above, itself, through, chain_above, above_chain, is_same, same_itself}
-use Rattle.hx_model.proofs.Parents.{up_to_all, chain_alone, chain_parent, is_in_filter}
+use Rattle.hx_model.proofs.Parents.{up_to_all, chain_alone, chain_parent}
 
 -- two answers that follow from each other are the same
 pub both : (r s : Bool) → (r ≡ true → s ≡ true) → (s ≡ true → r ≡ true) → r ≡ s

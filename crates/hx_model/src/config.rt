@@ -2,6 +2,7 @@
 ghost use Rattle.std.specs.Prelude.{◌≡◌};
 ghost use Rattle.hx_model.specs.Forest.{is_in};
 
+use crate::plain::is_in;
 use hx_object::{List, Text};
 
 /// What is fixed for a run.
@@ -26,9 +27,6 @@ impl RunConfig {
     pub fn excludes(&self, name: &Text) -> bool
         ensures { result ≡ is_in name.now self.now.excluded }
     {
-        self.excluded
-            .as_slice()
-            .iter()
-            .any(|excluded| name.as_str() == excluded.as_str())
+        is_in(name, self.excluded.as_slice())
     }
 }

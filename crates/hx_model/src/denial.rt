@@ -6,7 +6,7 @@ use crate::{Refusal, Rule};
 use hx_object::{Id, Kind, NoMemory};
 
 /// Why an ask is denied. The refusal that is made of it names the identity that is asked about.
-#[derive(Clone, Copy, Debug, PartialEq, Eq)]
+#[derive(Clone, Copy)]
 pub enum Denial {
     /// The namespace isn't there.
     NoNamespace,

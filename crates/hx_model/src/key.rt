@@ -58,7 +58,7 @@ pub enum Write {
 }
 
 /// How a worker's turn ended.
-#[derive(Clone, Copy, Debug, PartialEq, Eq)]
+#[derive(Clone, Copy)]
 pub enum Finish {
     /// The worker held nothing.
     Empty,

@@ -13,7 +13,7 @@ pub struct Node {
 }
 
 /// Why reconcilers leave a namespace alone, in the order in which the reasons count. These are the reasons of the condition `ActivitiesHalted` in a HierarchyConfiguration's status.
-#[derive(Clone, Copy, Debug, PartialEq, Eq)]
+#[derive(Clone, Copy, PartialEq, Eq)]
 pub enum Halt {
     /// The walk up from it comes back to it.
     InCycle,

@@ -32,10 +32,15 @@ pub fn parent_of<'a>(nodes: &'a [(Text, Node)], name: &Text) -> Option<&'a Text>
 }
 
 /// Whether the name is among them.
-fn is_in(name: &Text, names: &[Text]) -> bool
+pub(crate) fn is_in(name: &Text, names: &[Text]) -> bool
     ensures { result ≡ is_in name.now names.now }
 {
-    names.iter().any(|other| *name == *other)
+    for other in names {
+        if name == other {
+            return true;
+        }
+    }
+    false
 }
 
 fn goes_on(nodes: &[(Text, Node)], built: &[Text], name: &Text) -> bool

@@ -3,7 +3,7 @@ ghost use Rattle.std.specs.Prelude.{◌≡◌};
 ghost use Rattle.hx_model.specs.Replies.{reason_row};
 
 /// Why a request is refused in one word, as a Kubernetes `Status` has it. Each has an HTTP status.
-#[derive(Clone, Copy, Debug, PartialEq, Eq)]
+#[derive(Clone, Copy)]
 pub enum Reason {
     BadRequest,
     Forbidden,

@@ -5,7 +5,7 @@ ghost use Rattle.hx_model.specs.Replies.{rule_row};
 use crate::Reason;
 
 /// The rules of admission and the limits of a store, in the order in which they are tried. The refusal of what passes a limit of a quota names more than a rule: it is [`crate::Refusal::OverQuota`].
-#[derive(Clone, Copy, Debug, PartialEq, Eq)]
+#[derive(Clone, Copy)]
 pub enum Rule {
     /// Admission is skipped only where that is allowed.
     X1,
