@@ -24,9 +24,9 @@ use std::hash::RandomState;
 pub(crate) struct Nodes {
     places: Places,
     /// The greatest number of a place so far.
-    drawn: u64,
+    drawn: u32,
     /// The stamp of the tree, which it hasn't had before. Where none is left it is 0, and nothing is noted any more.
-    stamp: u64,
+    stamp: u32,
 }
 
 impl Drop for Nodes {
@@ -169,9 +169,10 @@ impl Nodes {
     fn at_way(&self, up: Way) -> Option<usize>
         ensures { IfSome result (IsAt self.now up) }
     {
-        let above = self.places.step(Some(up.index))?;
+        let index = up.index as usize;
+        let above = self.places.step(Some(index))?;
         if up.number > 0 && above.number == up.number {
-            Some(up.index)
+            Some(index)
         } else {
             None
         }
@@ -193,13 +194,13 @@ impl Nodes {
     {
         let at = self.at_name(parent);
         Way {
-            index: at.unwrap_or(0),
+            index: u32::try_from(at.unwrap_or(0)).unwrap_or(0),
             number: self.number_in(at),
         }
     }
 
     /// The number of the place at an index, and 0 where there is none.
-    fn number_in(&self, at: Option<usize>) -> u64
+    fn number_in(&self, at: Option<usize>) -> u32
         ensures { result ≡ option_map_or (λ p. p.number) (place_in self.now at) 0 }
     {
         match self.places.step(at) {
@@ -235,7 +236,7 @@ impl Nodes {
     }
 
     /// A number that no place has had, or 0 where there is none left.
-    fn draw(&mut self) -> u64
+    fn draw(&mut self) -> u32
         ensures places { self.new.places ≡ self.old.places }
         ensures stamp { self.new.stamp ≡ self.old.stamp }
         ensures grows { self.old.drawn ≤ self.new.drawn }
@@ -333,7 +334,7 @@ impl Nodes {
 }
 
 /// The stamp of the tree after this one, or 0 where there is none left.
-fn stamp_after(stamp: u64) -> u64
+fn stamp_after(stamp: u32) -> u32
     ensures { 0 < result → 0 < stamp × stamp < result }
 {
     match stamp.checked_add(1) {

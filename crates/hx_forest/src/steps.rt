@@ -16,17 +16,17 @@ use std::mem;
 /// Where the place of a parent was when it was looked up, and its number. The number 0 is that of no place.
 #[derive(Clone, Copy)]
 pub(crate) struct Way {
-    pub(crate) index: usize,
-    pub(crate) number: u64,
+    pub(crate) index: u32,
+    pub(crate) number: u32,
 }
 
 /// What a walk up reads of a place: a number that no other place has had, and the way to the place of the parent.
 #[derive(Clone, Copy)]
 pub(crate) struct Step {
-    pub(crate) number: u64,
+    pub(crate) number: u32,
     pub(crate) up: Way,
     /// The stamp that the tree had when the namespace was last noted not to be halted, or 0.
-    pub(crate) noted: u64,
+    pub(crate) noted: u32,
 }
 
 /// What a walk up asks of a node: whether it names no parent, and whether it is neither on its way out nor excluded.
@@ -191,7 +191,7 @@ impl Places {
     }
 
     /// Gives the place at an index another stamp.
-    pub(crate) fn set_noted(&mut self, at: usize, stamp: u64)
+    pub(crate) fn set_noted(&mut self, at: usize, stamp: u32)
         ensures entries { self.new.entries ≡ changed_at (with_noted stamp) at self.old.entries }
         ensures room { self.old.spare ≤ self.new.spare }
     {
