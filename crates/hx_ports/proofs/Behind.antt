@@ -5,7 +5,7 @@ use Rattle.std.specs.Cmp.Lexicographic.{nat_list_cmp_total, slice_partial_cmp}
 use Rattle.std.specs.FinMap.{is_sorted}
 use Rattle.std.specs.FinMap.Entries.{below_all}
 use Rattle.std.specs.Option.{option_map}
-use Rattle.std.specs.Ordering.{is_ge, is_lt, is_some_and, nat_cmp}
+use Rattle.std.specs.Ordering.{is_lt, is_some_and, nat_cmp}
 use Rattle.std.specs.Prelude.{T, IfSome, find as find_first, slice_get}
 use Rattle.std.specs.declared.cmp.Ordering.{Ordering}
 use Rattle.std.specs.declared.cmp.Ordering.TheVariants.{Less, Equal, Greater}
@@ -13,7 +13,7 @@ use Rattle.std.specs.declared.option.Option.{Option}
 use Rattle.hx_object.specs.Texts.{bytes_cmp}
 use Rattle.hx_ports.specs.declared.keeper.Row.{Row}
 use Rattle.hx_ports.specs.Rows.{Entry, entry_of, entries_of, lies_behind}
-use Rattle.hx_ports.proofs.Placed.{first, second, less-of, not_less-of, order-is}
+use Rattle.hx_ports.proofs.Placed.{first, second, order-is}
 
 less : (r : Ordering) → T (is_lt r) → r ≡ Less
 less Less p = refl
@@ -66,12 +66,3 @@ found-at after (r ∷ rows) (suc m) lies = found-at after rows m lies
 -- what a test of two keys says
 pub lies-is : (after key seen : List ℕ) (b was : Bool) → b ≡ is_some_and is_lt (slice_partial_cmp (λ m n. Some (nat_cmp m n)) after seen) → seen ≡ key → b ≡ was → is_lt (bytes_cmp after key) ≡ was
 lies-is after key seen b was e same is = ap (λ k. is_lt (bytes_cmp after k)) (sym same) ∙ sym (order-is is_lt b after seen e) ∙ is
-
-pub lies-not : (after key seen : List ℕ) (b : Bool) → b ≡ is_some_and is_ge (slice_partial_cmp (λ m n. Some (nat_cmp m n)) after seen) → seen ≡ key → b ≡ true → is_lt (bytes_cmp after key) ≡ false
-lies-not after key seen b e same above = not_less-of _ (ap (λ k. is_ge (bytes_cmp after k)) (sym same) ∙ sym (order-is is_ge b after seen e) ∙ above)
-
-pub lies-so : (after key seen : List ℕ) (b : Bool) → b ≡ is_some_and is_ge (slice_partial_cmp (λ m n. Some (nat_cmp m n)) after seen) → seen ≡ key → b ≡ false → is_lt (bytes_cmp after key) ≡ true
-lies-so after key seen b e same below = ap is_lt (less-of _ (ap (λ k. is_ge (bytes_cmp after k)) (sym same) ∙ sym (order-is is_ge b after seen e) ∙ below))
-
-pub less-is : (x y seen_x seen_y : List ℕ) (b was : Bool) → b ≡ is_some_and is_lt (slice_partial_cmp (λ m n. Some (nat_cmp m n)) seen_x seen_y) → seen_x ≡ x → seen_y ≡ y → b ≡ was → is_lt (bytes_cmp x y) ≡ was
-less-is x y seen_x seen_y b was e same_x same_y is = (λ i. is_lt (bytes_cmp (sym same_x i) (sym same_y i))) ∙ sym (order-is is_lt b seen_x seen_y e) ∙ is

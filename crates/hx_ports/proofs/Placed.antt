@@ -1,22 +1,18 @@
--- How rows by their keys change where a row is put or cut, as their map does, and when rows in a list ascend.
-use Rattle.std.proofs.Common.{◌≡◌, ℕ, suc, ◌+◌, ◌-◌, ◌<◌, ◌≤◌, Bool, true, false, cond, List, [], ◌∷◌, ◌++◌, map, length, get_or, take, drop, None, Some, refl, sym, ap, subst, ◌∙◌, arith}
+-- Rows in a list over those in their places, and when rows in a list ascend.
+use Rattle.std.proofs.Common.{◌≡◌, ℕ, suc, ◌+◌, ◌-◌, ◌<◌, ◌≤◌, Bool, true, false, List, [], ◌∷◌, ◌++◌, map, length, get_or, take, drop, Some, refl, sym, ap, subst, ◌∙◌, arith}
 use Rattle.std.proofs.lemmas.Bool.{and_parts}
 use Rattle.std.proofs.lemmas.List.{length-map, take_at as take_at_seam, take-append-drop, length-take, length-drop, drop-drop, map-append}
 use Rattle.std.proofs.Math.Seq.{drop-cons}
-use Rattle.std.specs.Cmp.Lexicographic.{nat_list_cmp_total, nat_list_eq_equiv, slice_partial_cmp, lists_agrees, texts_ties}
-use Rattle.std.specs.FinMap.{IsAntisymmetric, nat_cmp-IsAntisymmetric, slice_cmp-IsAntisymmetric, same_map, get, empty, get-from_entries, get-insert, get-remove, get-from_sorted, entries-from_sorted, entries, is_sorted, from_sorted, from_entries, find, put, insert as map_insert, remove as map_remove}
+use Rattle.std.specs.Cmp.Lexicographic.{nat_list_cmp_total, slice_partial_cmp, lists_agrees}
+use Rattle.std.specs.FinMap.{IsAntisymmetric, nat_cmp-IsAntisymmetric, slice_cmp-IsAntisymmetric, same_map, empty, get-from_entries, get-from_sorted, entries-from_sorted, entries, is_sorted, from_sorted, from_entries, put, insert as map_insert}
 use Rattle.std.specs.FinMap.Entries.{by_order, below_all, is_sorted-put}
-use Rattle.std.specs.HashMap.{get as held_at}
 use Rattle.std.specs.List.{drop-map, AllByRecursion}
 use Rattle.std.specs.List.Sorted.{IsStrictlySortedBy}
-use Rattle.std.specs.Map.{lookup, keys_of}
-use Rattle.std.specs.Ordering.{eq_by_cmp, nat_cmp, is_eq, is_lt, is_ge, is_some_and}
-use Rattle.std.specs.Prelude.{T, Ok, Err, IsOk, OnOk, ◌&&◌}
-use Rattle.std.specs.Str.{bytes_eq}
+use Rattle.std.specs.Map.{keys_of}
+use Rattle.std.specs.Ordering.{nat_cmp, is_eq, is_lt, is_ge, is_some_and}
+use Rattle.std.specs.Prelude.{T, ◌&&◌}
 use Rattle.std.specs.declared.cmp.Ordering.{Ordering}
 use Rattle.std.specs.declared.cmp.Ordering.TheVariants.{Less, Equal, Greater}
-use Rattle.std.specs.declared.option.Option.{Option}
-use Rattle.std.specs.declared.result.Result.{Result}
 use Rattle.hx_object.specs.Texts.{bytes_cmp}
 use Rattle.hx_ports.specs.declared.keeper.Row.{Row}
 use Rattle.hx_ports.specs.Keeping.{Rows}
@@ -33,45 +29,6 @@ tied : (r : Ordering) → is_eq r ≡ true → r ≡ Equal
 tied Less e = cc
 tied Equal e = refl
 tied Greater e = cc
-
--- a look-up among the entries is one in the map
-pub found : (q : List ℕ) (es : List Entry) → find bytes_cmp q es ≡ lookup (bytes_eq q) es
-found q [] = refl
-found q (e ∷ es) = λ i. cond (sym (texts_ties q e.0) i) (Some e.1) (found q es i)
-
-pub get-rows_in : (held : HeldRows) (q : List ℕ) → get (rows_in held) q ≡ held_at bytes_eq held q
-get-rows_in held q = get-from_entries nat_list_cmp_total held.entries q ∙ found q held.entries
-
--- each key has what it had, but that one key has a row, or has none
-abbrev pub Changes : HeldRows → HeldRows → List ℕ → Option (ℕ × List ℕ) → Type 0
-Changes old new key had = (q : List ℕ) → held_at bytes_eq new q ≡ cond (bytes_eq key q) had (held_at bytes_eq old q)
-
-turned : (q key : List ℕ) → bytes_eq key q ≡ eq_by_cmp bytes_cmp q key
-turned q key = nat_list_eq_equiv.symm key q ∙ texts_ties q key
-
-get-changed : (old new : HeldRows) (key : List ℕ) (had : Option (ℕ × List ℕ)) → Changes old new key had → (q : List ℕ) → get (rows_in new) q ≡ cond (eq_by_cmp bytes_cmp q key) had (get (rows_in old) q)
-get-changed old new key had is q = get-rows_in new q ∙ is q ∙ (λ i. cond (turned q key i) had (sym (get-rows_in old q) i))
-
--- of a key that is another's
-pub changes-at : (old new : HeldRows) (key is : List ℕ) (had : Option (ℕ × List ℕ)) → is ≡ key → Changes old new is had → Changes old new key had
-changes-at old new key is had same h = subst (λ (k : List ℕ). Changes old new k had) same h
-
--- the rows lie in another order
-pub same-rows_in : (old new : HeldRows) → ((q : List ℕ) → held_at bytes_eq new q ≡ held_at bytes_eq old q) → rows_in new ≡ rows_in old
-same-rows_in old new is = same_map nat_list_cmp_total same_bytes _ _ (λ q. get-rows_in new q ∙ is q ∙ sym (get-rows_in old q))
-
--- a row is put
-pub put-rows_in : (old new : HeldRows) (key : List ℕ) (row : ℕ × List ℕ) → Changes old new key (Some row) → rows_in new ≡ map_insert (rows_in old) key row
-put-rows_in old new key row is = same_map nat_list_cmp_total same_bytes _ _ (λ q. get-changed old new key (Some row) is q ∙ sym (get-insert nat_list_cmp_total (rows_in old) key row q))
-
--- of a call that doesn't fail
-pub sure : {A E P : Type 0} (result : Result A E) → IsOk result → OnOk result P → P
-sure (Ok a) is done = done
-sure (Err e) is done = cc
-
--- a row is cut
-pub cut-rows_in : (old new : HeldRows) (key : List ℕ) → Changes old new key None → rows_in new ≡ map_remove (rows_in old) key
-cut-rows_in old new key is = same_map nat_list_cmp_total same_bytes _ _ (λ q. get-changed old new key None is q ∙ sym (get-remove nat_list_cmp_total (rows_in old) key q))
 
 pub onto-push : (es : List Entry) (e : Entry) (rows : Rows) → onto (es ++ e ∷ []) rows ≡ onto es (map_insert rows e.0 e.1)
 onto-push [] e rows = refl
@@ -209,7 +166,7 @@ pub lay_rows-ascends : (old new : List Row) (row : Row) → old ≡ new ++ row �
 lay_rows-ascends old new row is up = sorted-init (entries_of new) (entry_of row) (ap (is_sorted bytes_cmp) (sym (ap entries_of is ∙ map-append entry_of new (row ∷ []))) ∙ up)
 
 -- rows over an empty map are their own map
-pub rows_over-empty : (rows : List Row) (held : HeldRows) → held.entries ≡ [] → rows_over rows (rows_in held) ≡ rows_of rows
+pub rows_over-empty : (rows : List Row) (held : HeldRows) → held.keys ≡ [] → rows_over rows (rows_in held) ≡ rows_of rows
 rows_over-empty rows held none = ap (λ es. onto (entries_of rows) (from_entries es)) none ∙ onto-empty (entries_of rows)
 
 -- once no rows lie outside of the map, it has them all

@@ -1,6 +1,6 @@
 -- Rows that are kept by their keys in any order: how many they are, that those in order are the entries of their map, and that the first row behind a key is the least of all that lie behind it.
 use Rattle.std.proofs.Common.{◌≡◌, ℕ, ◌+◌, Bool, true, false, cond, List, [], ◌∷◌, ◌++◌, length, get_or, None, Some, refl, sym, ap, subst, ◌∙◌, arith}
-use Rattle.std.proofs.lemmas.List.{append_assoc, length-map}
+use Rattle.std.proofs.lemmas.List.{append_assoc, get_or-map, length-map}
 use Rattle.std.proofs.lemmas.Map.Keys.{IsDistinct-head, IsDistinct-tail, apart_from_distinct, sorted_from_all_adjacent}
 use Rattle.std.specs.Cmp.Lexicographic.{nat_list_cmp_total, nat_list_eq_equiv, texts_ties}
 use Rattle.std.specs.FinMap.{contains_key, entries-insert, from_entries_push, get-entries, get-from_entries, put, len-empty, len-entries, len-insert, len, entries, is_sorted, from_entries, find}
@@ -19,7 +19,7 @@ use Rattle.std.specs.declared.result.Result.{Result}
 use Rattle.hx_object.specs.Texts.{bytes_cmp}
 use Rattle.hx_ports.specs.declared.keeper.Row.{Row}
 use Rattle.hx_ports.specs.Keeping.{Rows, first_behind, row_of_entry}
-use Rattle.hx_ports.specs.Rows.{Entry, HeldRows, entry_of, entries_of, lies_behind, nearer, rows_in, rows_over}
+use Rattle.hx_ports.specs.Rows.{Entry, HeldRows, entry_of, entries_of, lies_behind, nearer, rows_in, rows_over, same_key}
 use Rattle.hx_ports.proofs.Placed.{entries-from_entries, rows_over-empty, same_bytes, sorted-keys}
 
 missing : (q : List ℕ) (es : List Entry) → AllByRecursion (λ y. bytes_eq q y ≡ false) (keys_of es) → find bytes_cmp q es ≡ None
@@ -34,26 +34,41 @@ len-distinct (e ∷ es) d =
     let before = len-distinct es (IsDistinct-tail bytes_eq e.0 (keys_of es) d) in
     len-insert nat_list_cmp_total (from_entries es) e.0 e.1 ∙ ap (λ b. cond b (len (from_entries {R = bytes_cmp} es)) (len (from_entries {R = bytes_cmp} es) + 1)) new ∙ ap (λ n. n + 1) before ∙ (omega arith)
 
-pub len-rows_in : (held : HeldRows) → IsDistinct bytes_eq (keys_of held.entries) → len (rows_in held) ≡ length held.entries
-len-rows_in held d = len-distinct held.entries d
+-- rows no two of which have one key have keys none of which stands twice
+apart : (es : List Entry) → IsDistinct same_key es → IsDistinct bytes_eq (keys_of es)
+unfolding IsDistinct
+apart [] d = tt
+apart (e ∷ es) d = (each es d.0, apart es d.1)
+  where
+    each : (fs : List Entry) → AllByRecursion (λ f. same_key e f ≡ false) fs → AllByRecursion (λ k. bytes_eq e.0 k ≡ false) (keys_of fs)
+    each [] all = tt
+    each (f ∷ fs) all = (all.0, each fs all.1)
+
+pub len-rows_in : (held : HeldRows) → IsDistinct same_key held.keys → len (rows_in held) ≡ length held.keys
+len-rows_in held d = len-distinct held.keys (apart held.keys d)
 
 not_greater : (r : Ordering) → is_lt (ordering_reverse r) ≡ false → is_eq r ≡ false → r ≡ Less
 not_greater Less g e = refl
 not_greater Equal g e = cc
 not_greater Greater g e = cc
 
--- keys that don't descend, none of which stands twice, ascend
-pub sorted-distinct : (es : List Entry) → IsSorted bytes_cmp (keys_of es) → IsDistinct bytes_eq (keys_of es) → T (is_sorted bytes_cmp es)
-sorted-distinct es up apart = sorted-keys es (sorted_from_all_adjacent nat_list_cmp_total (keys_of es) [] (λ k within.
-    let a = get_or (keys_of es) k [] in
-    let b = get_or (keys_of es) (k + 1) [] in
-    not_greater (bytes_cmp a b) (ap is_lt (sym (nat_list_cmp_total.antisymm b a)) ∙ up k [] (omega arith) within) (sym (texts_ties a b) ∙ apart_from_distinct bytes_eq (keys_of es) k (k + 1) [] apart (omega arith) within)))
+-- rows whose keys don't descend, none of which stands twice, ascend
+pub sorted-distinct : (es : List Entry) → IsSorted (λ (e f : Entry). bytes_cmp e.0 f.0) es → IsDistinct same_key es → T (is_sorted bytes_cmp es)
+sorted-distinct es up d = sorted-keys es (sorted_from_all_adjacent nat_list_cmp_total (keys_of es) [] (λ k within.
+    let none : Entry = ([], (0, [])) in
+    let long : length (keys_of es) ≡ length es = length-map es (λ (e : Entry). e.0) in
+    let a = get_or es k none in
+    let b = get_or es (k + 1) none in
+    let here = get_or-map (λ (e : Entry). e.0) es k none [] (omega arith) in
+    let next = get_or-map (λ (e : Entry). e.0) es (k + 1) none [] (omega arith) in
+    (λ i. bytes_cmp (here i) (next i))
+    ∙ not_greater (bytes_cmp a.0 b.0) (ap is_lt (sym (nat_list_cmp_total.antisymm b.0 a.0)) ∙ up k none (omega arith) (omega arith)) (sym (texts_ties a.0 b.0) ∙ apart_from_distinct same_key es k (k + 1) none d (omega arith) (omega arith))))
 
 -- rows in order are the entries of their map
-pub entries-rows_in : (held : HeldRows) → is_sorted bytes_cmp held.entries ≡ true → entries (rows_in held) ≡ held.entries
-entries-rows_in held h = entries-from_entries held.entries (subst T (sym h) tt)
+pub entries-rows_in : (held : HeldRows) → is_sorted bytes_cmp held.keys ≡ true → entries (rows_in held) ≡ held.keys
+entries-rows_in held h = entries-from_entries held.keys (subst T (sym h) tt)
 
-pub ordered-rows : {A E : Type 0} (r : Result A E) (held : HeldRows) (rows : Rows) → OnOk r (is_sorted bytes_cmp held.entries ≡ true) → rows_in held ≡ rows → OnOk r (entries rows ≡ held.entries)
+pub ordered-rows : {A E : Type 0} (r : Result A E) (held : HeldRows) (rows : Rows) → OnOk r (is_sorted bytes_cmp held.keys ≡ true) → rows_in held ≡ rows → OnOk r (entries rows ≡ held.keys)
 ordered-rows (Ok a) held rows sorted same = ap entries (sym same) ∙ entries-rows_in held sorted
 ordered-rows (Err e) held rows sorted same = tt
 
@@ -61,14 +76,14 @@ no_entries : (es : List Entry) → length es ≡ 0 → es ≡ []
 no_entries [] e = refl
 no_entries (x ∷ es) e = absurd (omega arith)
 
-pub none_held : (held : HeldRows) → length held.entries ≡ 0 → held.entries ≡ []
-none_held held e = no_entries held.entries e
+pub none_held : (held : HeldRows) → length held.keys ≡ 0 → held.keys ≡ []
+none_held held e = no_entries held.keys e
 
 -- where none are held, the given rows that ascend are all that there are
-pub count-given : (given : List Row) (held : HeldRows) → is_sorted bytes_cmp (entries_of given) ≡ true → held.entries ≡ [] → length given ≡ len (rows_over given (rows_in held))
+pub count-given : (given : List Row) (held : HeldRows) → is_sorted bytes_cmp (entries_of given) ≡ true → held.keys ≡ [] → length given ≡ len (rows_over given (rows_in held))
 count-given given held h none = sym (ap len (rows_over-empty given held none) ∙ len-entries _ ∙ ap length (entries-from_entries (entries_of given) (subst T (sym h) tt)) ∙ length-map given entry_of)
 
-pub first-given : (after : List ℕ) (given : List Row) (held : HeldRows) → is_sorted bytes_cmp (entries_of given) ≡ true → held.entries ≡ []
+pub first-given : (after : List ℕ) (given : List Row) (held : HeldRows) → is_sorted bytes_cmp (entries_of given) ≡ true → held.keys ≡ []
     → option_map row_of_entry (find_first (lies_behind after) (entries_of given)) ≡ first_behind after (rows_over given (rows_in held))
 first-given after given held h none =
     sym (ap (first_behind after) (rows_over-empty given held none) ∙ ap (λ es. option_map row_of_entry (find_first (lies_behind after) es)) (entries-from_entries (entries_of given) (subst T (sym h) tt)))
@@ -132,10 +147,10 @@ first-put after e (f ∷ es) none =
         ∙ sym (ap (λ b. cond b (Some f) (find_first (lies_behind after) (put bytes_cmp e.0 e.1 es))) lies)
 
 -- the next entry is walked
-pub least-step : (after : List ℕ) (walked rest es : List Entry) (e : Entry) (least : Option Entry) → walked ++ e ∷ rest ≡ es → IsDistinct bytes_eq (keys_of es) → least ≡ find_first (lies_behind after) (entries (from_entries {R = bytes_cmp} walked))
+pub least-step : (after : List ℕ) (walked rest es : List Entry) (e : Entry) (least : Option Entry) → walked ++ e ∷ rest ≡ es → IsDistinct same_key es → least ≡ find_first (lies_behind after) (entries (from_entries {R = bytes_cmp} walked))
     → nearer after least e ≡ find_first (lies_behind after) (entries (from_entries {R = bytes_cmp} (walked ++ e ∷ [])))
 least-step after walked rest es e least is d so_far =
-    let none = not_before walked rest e (subst (λ (fs : List Entry). IsDistinct bytes_eq (keys_of fs)) (sym is) d) in
+    let none = not_before walked rest e (apart (walked ++ e ∷ rest) (subst (λ (fs : List Entry). IsDistinct same_key fs) (sym is) d)) in
     let before = from_entries {R = bytes_cmp} walked in
     ap (λ o. nearer after o e) so_far
     ∙ first-put after e (entries before) (sym (get-entries before e.0) ∙ get-from_entries nat_list_cmp_total walked e.0 ∙ none)

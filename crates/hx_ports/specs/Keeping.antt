@@ -3,10 +3,11 @@
 --     row_of_entry          a row of the map
 --     first_behind, row_after      the first row behind a key;  of what is held
 --     with_batch            what is held after a batch
+--     keys_of               the keys that a batch writes
 --     IsBatch, MayFollow    what a batch has to be;  and over what is held
 --     Lands                 the batch landed, where the rows are told
 --     meta_of               what `meta` says of what is held
-use Rattle.std.specs.Prelude.{◌≡◌, ℕ, ◌+◌, ◌-◌, ◌^◌, ◌≤◌, true, List, [], ◌∷◌, ◌++◌, IsUtf8, find as find_first}
+use Rattle.std.specs.Prelude.{◌≡◌, ℕ, ◌+◌, ◌-◌, ◌^◌, ◌≤◌, true, List, [], ◌∷◌, ◌++◌, map as each, find as find_first}
 use Rattle.std.specs.Option.{option_map}
 use Rattle.std.specs.Ordering.{is_lt, eq_by_cmp}
 use Rattle.std.specs.declared.option.Option.{Option}
@@ -15,7 +16,9 @@ use Rattle.std.specs.FinMap as map
 use Rattle.hx_object.specs.Faults.{IsLegal}
 use Rattle.hx_object.specs.Json.{object_text}
 use Rattle.hx_object.specs.Texts.{bytes_cmp}
-use Rattle.hx_ports.specs.declared.keeper.PutRow.{PutRow}
+use Rattle.hx_object.specs.declared.object.Id.{Id}
+use Rattle.hx_object.specs.declared.object.Object.{Object}
+use Rattle.hx_model.specs.Texts.{key_text}
 use Rattle.hx_ports.specs.declared.keeper.Row.{Row}
 use Rattle.hx_ports.specs.declared.keeper.Batch.{Batch}
 use Rattle.hx_ports.specs.declared.keeper.Meta.{Meta}
@@ -42,46 +45,43 @@ first_behind after rows = option_map row_of_entry (find_first (λ e. is_lt (byte
 abbrev pub row_after : List ℕ → Kept → Option Row
 row_after after kept = first_behind after kept.rows
 
--- the rows with those of a batch, the first one first: each has the version and the text of its object
-abbrev pub with_puts : List PutRow → Rows → Rows
+-- the rows with those of objects, the first one first: each has its object's key, version and text
+abbrev pub with_puts : List Object → Rows → Rows
 with_puts [] rows = rows
-with_puts (put ∷ puts) rows = with_puts puts (map.insert rows put.key (put.object.version, object_text put.object))
+with_puts (x ∷ puts) rows = with_puts puts (map.insert rows (key_text x.id) (x.version, object_text x))
 
--- the rows without those of some keys
-abbrev pub with_cuts : List (List ℕ) → Rows → Rows
+-- the rows without those of some identities
+abbrev pub with_cuts : List Id → Rows → Rows
 with_cuts [] rows = rows
-with_cuts (cut ∷ cuts) rows = with_cuts cuts (map.remove rows cut)
+with_cuts (id ∷ cuts) rows = with_cuts cuts (map.remove rows (key_text id))
 
 -- what is held after a batch: its version, and the rows with the puts and without the cuts
 abbrev pub with_batch : Batch → Kept → Kept
 with_batch batch kept = record { schema = kept.schema; version = batch.version; rows = with_cuts batch.cuts (with_puts batch.puts kept.rows) }
 
--- the keys of rows that are put
-abbrev pub keys_of : List PutRow → List (List ℕ)
-keys_of [] = []
-keys_of (put ∷ puts) = put.key ∷ keys_of puts
+-- the keys that a batch writes: of what it puts, and then of what it cuts
+abbrev pub keys_of : Batch → List (List ℕ)
+keys_of batch = each (λ (x : Object). key_text x.id) batch.puts ++ each key_text batch.cuts
 
 -- the greatest version
 abbrev pub greatest_version : ℕ
 greatest_version = 2 ^ 63 - 1
 
--- a row that is put has a text as its key, and a legal object whose version isn't too great
-pub record IsPut (put : PutRow) : Type 0 where
-  pub key : IsUtf8 put.key
-  pub legal : IsLegal put.object
-  pub version : put.object.version ≤ greatest_version
+-- an object that is put is legal, and its version isn't too great
+pub record IsPut (x : Object) : Type 0 where
+  pub legal : IsLegal x
+  pub version : x.version ≤ greatest_version
 
--- a batch of such rows, no key of which stands twice
+-- a batch of such objects, no key of which stands twice
 pub record IsBatch (batch : Batch) : Type 0 where
-  pub distinct : IsDistinct (eq_by_cmp bytes_cmp) (keys_of batch.puts ++ batch.cuts)
+  pub distinct : IsDistinct (eq_by_cmp bytes_cmp) (keys_of batch)
   pub version : batch.version ≤ greatest_version
   pub puts : AllByRecursion IsPut batch.puts
-  pub cuts : AllByRecursion IsUtf8 batch.cuts
 
 -- a batch may be put to a keeper that holds this: its version is the next one, and what it cuts is there
 pub record MayFollow (batch : Batch) (kept : Kept) : Type 0 where
   pub next : batch.version ≡ kept.version + 1
-  pub there : AllByRecursion (λ cut. map.contains_key kept.rows cut ≡ true) batch.cuts
+  pub there : AllByRecursion (λ id. map.contains_key kept.rows (key_text id) ≡ true) batch.cuts
 
 -- the batch landed, where the rows are told
 abbrev pub Lands : Batch → Option Kept → Option Kept → Type 0

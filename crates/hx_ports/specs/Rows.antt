@@ -3,14 +3,16 @@
 --     rows_of, kept_of                 the map of rows;  what a keeper of them holds
 --     is_told, told                    whether a keeper of them tells them;  what it tells
 --     rows_over                        rows of a list that aren't in their places yet, over those that are
+--     same_key                         two entries have one key
 --     HeldRows, rows_in                rows that are kept by their keys, in any order;  the map of them
 --     lies_behind, nearer              an entry has a greater key;  of an entry and another the one with the lesser such key
 use Rattle.std.specs.Prelude.{ℕ, Bool, List, [], ◌∷◌, map, length, ◌&&◌, nat_eq, if◌then◌else◌, Some, None}
 use Rattle.std.specs.declared.option.Option.{Option}
 use Rattle.std.specs.FinMap as finite
 use Rattle.std.specs.FinMap.{is_sorted}
-use Rattle.std.specs.HashMap.{HashMap}
+use Rattle.std.specs.HashSet.{HashSet}
 use Rattle.std.specs.Ordering.{is_lt}
+use Rattle.std.specs.Str.{bytes_eq}
 use Rattle.std.specs.declared.random_state.RandomState.{RandomState}
 use Rattle.hx_object.specs.Texts.{bytes_cmp}
 use Rattle.hx_ports.specs.declared.keeper.Row.{Row}
@@ -54,13 +56,17 @@ is_told rows meta = nat_eq (length rows) meta.rows && is_sorted bytes_cmp (entri
 abbrev pub told : List Row → Meta → Option Kept
 told rows meta = if is_told rows meta then Some (kept_of rows meta) else None
 
+-- two entries have one key
+abbrev pub same_key : Entry → Entry → Bool
+same_key e f = bytes_eq e.0 f.0
+
 -- rows that are kept by their keys
 abbrev pub HeldRows : Type 0
-HeldRows = HashMap (List ℕ) (ℕ × List ℕ) RandomState
+HeldRows = HashSet Entry RandomState
 
 -- the map of rows that are kept by their keys, in any order
 abbrev pub rows_in : HeldRows → Rows
-rows_in held = finite.from_entries held.entries
+rows_in held = finite.from_entries held.keys
 
 -- an entry has a greater key
 abbrev pub lies_behind : List ℕ → Entry → Bool

@@ -80,7 +80,7 @@ pub(crate) fn ordered_copies(
 
 /// Lays all rows into the map, and brings it into the order of their keys.
 fn order_rows(given: &mut Vec<Row>, held: &mut RowMap) -> Result<(), NoMemory>
-    ensures ordered { OnOk result (map.entries (rows_over given.old.items (rows_in held.old)) ≡ held.new.entries) }
+    ensures ordered { OnOk result (map.entries (rows_over given.old.items (rows_in held.old)) ≡ held.new.keys) }
     ensures same { rows_over given.new.items (rows_in held.new) ≡ rows_over given.old.items (rows_in held.old) }
     ensures ascends { is_sorted bytes_cmp (entries_of given.old.items) ≡ true → is_sorted bytes_cmp (entries_of given.new.items) ≡ true }
 {

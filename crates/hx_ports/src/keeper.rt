@@ -1,14 +1,10 @@
 // Keepers of rows.
 ghost use Rattle.std.specs.Prelude.{◌≡◌, true, false, OnOk, OnErr, IsErrOf, IfSome, IfOk, IsUtf8, None, Some, ◌⊎◌};
-ghost use Rattle.hx_object.specs.Faults.{IsLegal};
-ghost use Rattle.hx_object.specs.Json.{object_text};
 ghost use Rattle.hx_ports.specs.Causes.{KeeperCause};
 ghost use Rattle.hx_ports.specs.Keeping.{meta_of, row_after, IsBatch, MayFollow, Lands};
 ghost use Rattle.hx_ports.specs.Views.{KeeperView, HoldsOn};
 
-use hx_json::write_object;
-use hx_object::{List, NoMemory, Shared, Text};
-use std::alloc::Global;
+use hx_object::{Id, List, NoMemory, Shared};
 
 /// Why a keeper refused a call.
 #[derive(Clone, Copy, Debug, PartialEq, Eq)]
@@ -44,29 +40,14 @@ pub struct Meta {
     pub rows: u64,
 }
 
-/// A row that is put: its key, and the object whose version and text it has. Keepers that want the text write it.
-#[derive(Drop)]
-pub struct PutRow {
-    pub key: List<u8>,
-    pub object: Shared,
-}
-
-impl PutRow {
-    /// The text of the object.
-    pub fn body(&self, alloc: Global) -> Result<Text, NoMemory>
-        requires { IsLegal self.now.object }
-        ensures { IfOk result (λ body. body ≡ object_text self.now.object) }
-    {
-        write_object(alloc, self.object.object())
-    }
-}
-
-/// One write: rows that are put in place of those with their keys, and keys whose rows are cut.
+/// One write: objects whose rows are put in place of those with their keys, and identities whose rows are cut.
+///
+/// The row of an object has its version and its text, and lies under the key of its identity. Keepers form keys and texts where they want them.
 #[derive(Drop)]
 pub struct Batch {
     pub version: u64,
-    pub puts: List<PutRow>,
-    pub cuts: List<List<u8>>,
+    pub puts: List<Shared>,
+    pub cuts: List<Id>,
 }
 
 /// Keeps rows in ascending order of their keys, and counts its own failures.
@@ -96,7 +77,7 @@ pub trait Keeper {
         ensures same { HoldsOn (shown self.old) (shown self.new) }
         ensures cause { KeeperCause (shown self.old).faults (shown self.new).faults result };
 
-    /// Writes a batch as a whole, whose rows the keeper takes over. After a fault the batch may have landed, and the keeper is broken: it refuses each later batch.
+    /// Writes a batch as a whole, whose objects the keeper takes over. After a fault the batch may have landed, and the keeper is broken: it refuses each later batch.
     fn commit(&mut self, batch: Batch) -> Result<(), KeepFault>
         requires batch { IsBatch batch }
         requires follows { (shown self.old).broken ≡ false → IfSome (shown self.old).kept (MayFollow batch) }

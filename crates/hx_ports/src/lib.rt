@@ -9,15 +9,16 @@ mod given_rows;
 mod held_row;
 mod keeper;
 mod mem;
-mod row_key;
+mod row_keys;
 mod row_map;
 mod std_stream;
 mod stream;
 mod sure;
 mod sure_keeper;
 
-pub use keeper::{Batch, KeepFault, Keeper, Meta, PutRow, Row};
+pub use keeper::{Batch, KeepFault, Keeper, Meta, Row};
 pub use mem::{FailCommit, MemKeeper, MemSink, MemSource};
+pub use row_keys::row_key;
 pub use std_stream::{StdSink, StdSource};
 pub use stream::{ReadFault, Sink, Source, WriteFault};
 pub use sure::{SureSink, SureSource};

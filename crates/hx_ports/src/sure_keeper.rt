@@ -11,11 +11,11 @@ use crate::given_rows::{count_rows, is_told, lay_rows, ordered_copies, row_behin
 use crate::keeper::{Batch, KeepFault, Keeper, Meta, Row};
 use crate::row_map::{RowMap, cut_rows, put_rows};
 use hx_object::NoMemory;
-use indexmap::IndexMap;
+use indexmap::IndexSet;
 use std::alloc::Global;
 use std::hash::RandomState;
 
-/// Rows in memory. They lie as they were given until they are wanted by their keys, at the first commit at the latest, and then in a map.
+/// Rows in memory. They lie as they were given until they are wanted by their keys, at the first commit at the latest, and then in a set.
 pub struct SureKeeper {
     given: Vec<Row>,
     rows: RowMap,
@@ -52,7 +52,7 @@ impl SureKeeper {
         let tells = is_told(rows.as_slice(), &meta);
         SureKeeper {
             given: rows,
-            rows: IndexMap::with_hasher(alloc, keys),
+            rows: IndexSet::with_hasher(alloc, keys),
             meta,
             tells,
             place: None,

@@ -2,7 +2,7 @@ use Rattle.std.proofs.Common.{◌≡◌, ◌≤◌, length, true}
 use Rattle.std.specs.FinMap.{is_sorted}
 use Rattle.hx_object.specs.Texts.{bytes_cmp}
 use Rattle.hx_ports.specs.Rows.{entries_of, rows_in, rows_over}
-use Rattle.indexmap.specs.IndexMap.{spare}
+use Rattle.indexmap.specs.IndexSet.{spare}
 use Rattle.hx_ports.proofs.given_rows.lay_rows.Given as goal
 
 abbrev pub invariant-loop-held : goal.invariant-loop-held
