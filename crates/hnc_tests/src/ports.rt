@@ -3,8 +3,8 @@ ghost use Rattle.std.specs.Prelude.{◌≤◌, IfOk};
 ghost use Rattle.hx_ports.specs.Keeping.{IsPut};
 
 use crate::bodies::read;
-use hx_object::{List, NoMemory, Shared, Text};
-use hx_ports::{Batch, Keeper, MemKeeper, Meta, PutRow, Row, Sink, Source, StdSink, StdSource};
+use hx_object::{Id, Kind, List, NoMemory, Shared, Text};
+use hx_ports::{Batch, Keeper, MemKeeper, Meta, Row, Sink, Source, StdSink, StdSource};
 use std::alloc::{AllocError, Global};
 use std::hash::RandomState;
 use std::io;
@@ -101,37 +101,42 @@ fn row(alloc: Global, key: &str) -> Result<Row, AllocError> {
     })
 }
 
-// The row of an object that a body says.
-fn put(alloc: Global, key: &str) -> Result<PutRow, NoMemory>
+// The object that a body says, a ConfigMap whose key is `08/a/x`.
+fn put(alloc: Global) -> Result<Shared, NoMemory>
     ensures { IfOk result IsPut }
 {
-    let key = Text::of(alloc, key)?;
     let Ok(said) = read(alloc) else {
         return Err(NoMemory);
     };
     if said.object.version > 5 {
         return Err(NoMemory);
     }
-    Ok(PutRow {
-        key: key.into_bytes(alloc)?,
-        object: Shared::new(alloc, said.object)?,
+    Shared::new(alloc, said.object)
+}
+
+// The identity of a ConfigMap in the namespace `a`.
+fn id(alloc: Global, name: &str) -> Result<Id, NoMemory> {
+    Ok(Id {
+        kind: Kind::ConfigMap,
+        ns: Text::of(alloc, "a")?,
+        name: Text::of(alloc, name)?,
     })
 }
 
-// A keeper of the rows b and d, of version 4, with e put and b cut.
+// A keeper of the rows of b and d, of version 4, with x put and b cut.
 fn changed(alloc: Global, keys: RandomState) -> Result<MemKeeper, Fail> {
     let meta = Meta {
         schema: 1,
         version: 4,
         rows: 2,
     };
-    let rows = Vec::from_array(alloc, [row(alloc, "b")?, row(alloc, "d")?])?;
+    let rows = Vec::from_array(alloc, [row(alloc, "08/a/b")?, row(alloc, "08/a/d")?])?;
     let mut keeper = MemKeeper::new(rows, meta, Vec::new(alloc), Vec::new(alloc), keys);
     keeper.attach("")?;
     let batch = Batch {
         version: 5,
-        puts: List::of(Vec::from_array(alloc, [put(alloc, "e")?])?),
-        cuts: List::of(Vec::from_array(alloc, [text(alloc, "b")?])?),
+        puts: List::of(Vec::from_array(alloc, [put(alloc)?])?),
+        cuts: List::of(Vec::from_array(alloc, [id(alloc, "b")?])?),
     };
     keeper.commit(batch)?;
     Ok(keeper)
@@ -142,7 +147,12 @@ fn keeps_rows(rt: HostRuntime) -> Result<(), Fail> {
     let mut keeper = changed(rt.alloc(), RandomState::new(&rt)?)?;
     let meta = keeper.meta()?;
     assert!(rt; meta.version == 5 && meta.rows == 2);
-    for (after, wanted) in [("", "d"), ("c", "d"), ("d", "e"), ("e", "")] {
+    for (after, wanted) in [
+        ("", "08/a/d"),
+        ("08/a/c", "08/a/d"),
+        ("08/a/d", "08/a/x"),
+        ("08/a/x", ""),
+    ] {
         let found = keeper.load(after.as_bytes())?;
         let key = found
             .as_ref()

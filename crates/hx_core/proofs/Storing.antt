@@ -3,7 +3,7 @@
 --     may_follow      it may be put to a keeper of the state
 --     landed_held     what is held after it
 -- A batch puts rows first and then cuts, whatever the order of the writes: no identity is written twice.
-use Rattle.std.proofs.Common.{◌≡◌, ◌≢◌, ◌≤◌, ◌<◌, ◌+◌, ℕ, Bool, true, false, List, [], ◌∷◌, ◌++◌, map, None, Some, IfSome, refl, sym, ap, subst, ◌∙◌, cond, Option, arith, true≢false}
+use Rattle.std.proofs.Common.{◌≡◌, ◌≢◌, ◌≤◌, ◌<◌, ◌+◌, ℕ, Bool, true, false, List, [], ◌∷◌, map, None, Some, IfSome, refl, sym, ap, subst, ◌∙◌, cond, Option, arith, true≢false}
 use Rattle.std.specs.Prelude.{option_map}
 use Rattle.std.specs.List.{AllByRecursion, IsDistinct}
 use Rattle.std.specs.List.Sorted.{IsPermutation}
@@ -32,7 +32,7 @@ use Rattle.hx_model.proofs.Storing.{All-found, All-put, All-cut, HasNoSlash, IsK
 use Rattle.hx_model.proofs.Writes.{key_apart}
 use Rattle.hx_core.specs.Committing.{IsPrepared}
 use Rattle.hx_core.specs.Refinement.{kept_of}
-use Rattle.hx_core.specs.Rows.{rows_put, keys_cut, batch_of, HasTextKey, HasTextKeys}
+use Rattle.hx_core.specs.Rows.{objects_put, ids_cut, batch_of}
 
 -- ---- legal objects
 
@@ -62,14 +62,14 @@ keys_written ws = map (λ w. key_text (id_written w)) ws
 
 -- the keys of the batch, the puts first
 abbrev keys_in : List Write → List (List ℕ)
-keys_in ws = keys_of (rows_put ws) ++ keys_cut ws
+keys_in ws = keys_of (batch_of ws 0)
 
 same_keys : (ws : List Write) → IsPermutation (keys_written ws) (keys_in ws)
 same_keys [] = IsPermutation-refl []
 same_keys (Put x ∷ ws) = IsPermutation-cons (key_text x.id) (keys_written ws) (keys_in ws) (same_keys ws)
 same_keys (Cut id ∷ ws) =
     IsPermutation-trans (key_text id ∷ keys_written ws) (key_text id ∷ keys_in ws) (keys_in (Cut id ∷ ws)) (IsPermutation-cons (key_text id) (keys_written ws) (keys_in ws) (same_keys ws))
-    (IsPermutation-sym (keys_in (Cut id ∷ ws)) (key_text id ∷ keys_in ws) (IsPermutation-middle (keys_of (rows_put ws)) (key_text id) (keys_cut ws)))
+    (IsPermutation-sym (keys_in (Cut id ∷ ws)) (key_text id ∷ keys_in ws) (IsPermutation-middle (map (λ (x : Object). key_text x.id) (objects_put ws)) (key_text id) (map key_text (ids_cut ws))))
 
 -- a key apart from those of the writes
 keys_apart : (w : Write) (ws : List Write) → IsKeyedWrite w → AllByRecursion IsKeyedWrite ws → AllByRecursion (λ b. same_id (id_written w) b ≡ false) (map id_written ws) → AllByRecursion (λ k. eq_by_cmp bytes_cmp (key_text (id_written w)) k ≡ false) (keys_written ws)
@@ -87,12 +87,12 @@ batch_distinct ws keyed distinct =
 
 -- ---- batches
 
--- the rows have keys of text, and legal objects of the next version
-rows_right : (s : State) (ws : List Write) → s.last + 1 ≤ greatest_version → AllByRecursion (MayWrite s) ws → AllByRecursion HasTextKey (rows_put ws) → AllByRecursion IsPut (rows_put ws)
-rows_right s [] fits may keys = tt
-rows_right s (Put x ∷ ws) fits may keys =
-    (record { key = keys.0; legal = may.0.served.legal; version = subst (λ v. v ≤ greatest_version) (sym may.0.next) fits }, rows_right s ws fits may.1 keys.1)
-rows_right s (Cut id ∷ ws) fits may keys = rows_right s ws fits may.1 keys
+-- the objects are legal, and of the next version
+objects_right : (s : State) (ws : List Write) → s.last + 1 ≤ greatest_version → AllByRecursion (MayWrite s) ws → AllByRecursion IsPut (objects_put ws)
+objects_right s [] fits may = tt
+objects_right s (Put x ∷ ws) fits may =
+    (record { legal = may.0.served.legal; version = subst (λ v. v ≤ greatest_version) (sym may.0.next) fits }, objects_right s ws fits may.1)
+objects_right s (Cut id ∷ ws) fits may = objects_right s ws fits may.1
 
 -- the version of the writes fits
 pub next_fits : (s : State) (ws : List Write) → MayWriteAll s ws → ws ≢ [] → s.last + 1 ≤ greatest_version
@@ -100,17 +100,15 @@ next_fits s ws may some = let less : s.last < greatest_version = may.fits some i
 
 pub is_batch : (s : State) (ws : List Write) (batch : Batch) → IsValid s → IsPrepared s ws batch → IsBatch batch
 is_batch s ws batch valid ready =
-    let keys = subst HasTextKeys ready.is ready.keys in
     let fits = next_fits s ws ready.may ready.some in
     let right : IsBatch (batch_of ws (s.last + 1)) = record {
       distinct = batch_distinct ws (writes_keyed s ws valid ready.may.each) ready.may.distinct;
       version = fits;
-      puts = rows_right s ws fits ready.may.each keys.puts;
-      cuts = keys.cuts;
+      puts = objects_right s ws fits ready.may.each;
     } in
     subst IsBatch (sym ready.is) right
 
-cuts_there : (s : State) (ws : List Write) → AllByRecursion (MayWrite s) ws → AllByRecursion (λ key. finite.contains_key (rows_of_objects s.objects) key ≡ true) (keys_cut ws)
+cuts_there : (s : State) (ws : List Write) → AllByRecursion (MayWrite s) ws → AllByRecursion (λ id. finite.contains_key (rows_of_objects s.objects) (key_text id) ≡ true) (ids_cut ws)
 cuts_there s [] may = tt
 cuts_there s (Put x ∷ ws) may = cuts_there s ws may.1
 cuts_there s (Cut id ∷ ws) may = (stored_contains id may.0.there.0 s.objects may.0.there.1, cuts_there s ws may.1)
@@ -141,23 +139,23 @@ cut_then_put k j v rows apart = same_map nat_list_cmp_total same_bytes _ _ (λ q
     ∙ swapped (eq_by_cmp bytes_cmp q k) (eq_by_cmp bytes_cmp q j) v (finite.get rows q) (not_both q k j apart)
     ∙ sym (get-insert nat_list_cmp_total (finite.remove rows k) j v q ∙ ap (cond (eq_by_cmp bytes_cmp q j) (Some v)) (get-remove nat_list_cmp_total rows k q)))
 
-cut_then_puts : (k : List ℕ) (ws : List Write) (rows : Rows) → AllByRecursion (λ j. eq_by_cmp bytes_cmp k j ≡ false) (keys_written ws) → finite.remove (with_puts (rows_put ws) rows) k ≡ with_puts (rows_put ws) (finite.remove rows k)
+cut_then_puts : (k : List ℕ) (ws : List Write) (rows : Rows) → AllByRecursion (λ j. eq_by_cmp bytes_cmp k j ≡ false) (keys_written ws) → finite.remove (with_puts (objects_put ws) rows) k ≡ with_puts (objects_put ws) (finite.remove rows k)
 cut_then_puts k [] rows apart = refl
 cut_then_puts k (Put x ∷ ws) rows apart =
     cut_then_puts k ws (finite.insert rows (key_text x.id) (x.version, object_text x)) apart.1
-    ∙ ap (with_puts (rows_put ws)) (cut_then_put k (key_text x.id) (x.version, object_text x) rows apart.0)
+    ∙ ap (with_puts (objects_put ws)) (cut_then_put k (key_text x.id) (x.version, object_text x) rows apart.0)
 cut_then_puts k (Cut id ∷ ws) rows apart = cut_then_puts k ws rows apart.1
 
 -- puts and then cuts make the rows of the objects after the writes
 rows_after : (ws : List Write) (objects : Objects) → AllByRecursion IsKeyedWrite ws → AllByRecursion IsKeyed objects → IsDistinct (eq_by_cmp bytes_cmp) (keys_written ws)
-    → with_cuts (keys_cut ws) (with_puts (rows_put ws) (rows_of_objects objects)) ≡ rows_of_objects (after_writes ws objects)
+    → with_cuts (ids_cut ws) (with_puts (objects_put ws) (rows_of_objects objects)) ≡ rows_of_objects (after_writes ws objects)
 unfolding IsDistinct
 rows_after [] objects keyed all distinct = refl
 rows_after (Put x ∷ ws) objects keyed all distinct =
-    ap (λ rows. with_cuts (keys_cut ws) (with_puts (rows_put ws) rows)) (sym (rows_of_objects-put x objects keyed.0 all))
+    ap (λ rows. with_cuts (ids_cut ws) (with_puts (objects_put ws) rows)) (sym (rows_of_objects-put x objects keyed.0 all))
     ∙ rows_after ws (put x objects) keyed.1 (All-put IsKeyed x objects keyed.0 all) distinct.1
 rows_after (Cut id ∷ ws) objects keyed all distinct =
-    ap (with_cuts (keys_cut ws)) (cut_then_puts (key_text id) ws (rows_of_objects objects) distinct.0 ∙ ap (with_puts (rows_put ws)) (sym (rows_of_objects-cut id objects keyed.0 all)))
+    ap (with_cuts (ids_cut ws)) (cut_then_puts (key_text id) ws (rows_of_objects objects) distinct.0 ∙ ap (with_puts (objects_put ws)) (sym (rows_of_objects-cut id objects keyed.0 all)))
     ∙ rows_after ws (cut id objects) keyed.1 (All-cut IsKeyed id objects all) distinct.1
 
 after_some : (s : State) (ws : List Write) → ws ≢ [] → ◌≡◌ {A = State} (record s { objects = after_writes ws s.objects; last = s.last + 1 }) (state_after s ws)

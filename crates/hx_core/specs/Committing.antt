@@ -25,7 +25,7 @@ use Rattle.hx_model.specs.declared.key.Key.{Key}
 use Rattle.hx_model.specs.declared.key.Write.{Write}
 use Rattle.hx_model.specs.declared.key.Write.TheVariants.{Put, Cut}
 use Rattle.hx_core.specs.Refinement.{kept_of}
-use Rattle.hx_core.specs.Rows.{batch_of, HasTextKeys}
+use Rattle.hx_core.specs.Rows.{batch_of}
 use Rattle.hx_queue.specs.Workers.{WorkersView}
 
 -- what the keeper shows once it holds the state, where it tells what it holds
@@ -56,7 +56,6 @@ pub record IsPrepared (s : State) (writes : List Write) (batch : Batch) : Type 0
   pub may : MayWriteAll s writes
   pub some : writes ≢ []
   pub is : batch ≡ batch_of writes (s.last + 1)
-  pub keys : HasTextKeys batch
 
 -- an object of this identity is there already, where its namespace is on its way out
 abbrev pub IsOutOrThere : State → Id → Type 0

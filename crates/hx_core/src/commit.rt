@@ -22,7 +22,7 @@ use hx_store::Change;
 /// All that a commit takes stands here, made once before the keeper is asked: what is put to the keeper, and whatever else is told of a write.
 #[derive(Drop)]
 pub struct Prepared {
-    /// The rows of the objects that are put, and the keys of those that are cut.
+    /// The objects that are put, and the identities of those that are cut.
     pub batch: Batch,
 }
 

@@ -7,8 +7,9 @@ ghost use Rattle.std.specs.List.{AllByRecursion};
 ghost use Rattle.hx_ports.specs.Keeping.{IsPut};
 
 use crate::fault::{Refusal, SqlFault};
-use hx_object::{List, Text};
-use hx_ports::{Batch, Meta, PutRow, Row};
+use hx_json::write_object;
+use hx_object::{Id, List, Shared, Text};
+use hx_ports::{Batch, Meta, Row, row_key};
 use sqlite::types::ValueRef;
 use sqlite::{Alter, Connection, Error, Statement, Transaction};
 use std::alloc::Global;
@@ -392,7 +393,7 @@ fn write_batch<S: Alter>(
     ensures { transaction.new.conn.ghost_name ≡ transaction.old.conn.ghost_name }
 {
     put_rows(transaction, writes, alloc, batch.puts.as_slice())?;
-    cut_rows(transaction, writes, batch.cuts.as_slice())?;
+    cut_rows(transaction, writes, alloc, batch.cuts.as_slice())?;
     end(transaction, writes, batch.version)
 }
 
@@ -400,14 +401,16 @@ fn put_rows<S: Alter>(
     transaction: &mut Transaction<'_, S>,
     writes: &Writes,
     alloc: Global,
-    puts: &[PutRow],
+    puts: &[Shared],
 ) -> Result<(), Refusal>
     requires { AllByRecursion IsPut puts.now }
     ensures { transaction.new.conn.ghost_name ≡ transaction.old.conn.ghost_name }
 {
-    for put in puts {
-        let body = put.body(alloc)?;
-        put_row(transaction, writes, put, &body)?;
+    for object in puts {
+        let object = object.object();
+        let key = row_key(alloc, &object.id)?;
+        let body = write_object(alloc, object)?;
+        put_row(transaction, writes, &key, object.version, &body)?;
     }
     Ok(())
 }
@@ -416,14 +419,15 @@ fn put_rows<S: Alter>(
 fn put_row<'a, S: Alter>(
     transaction: &mut Transaction<'_, S>,
     writes: &Writes,
-    put: &'a PutRow,
+    key: &'a List<u8>,
+    version: u64,
     body: &'a Text,
 ) -> Result<(), Refusal>
     ensures { transaction.new.conn.ghost_name ≡ transaction.old.conn.ghost_name }
 {
     let values = [
-        ValueRef::Text(put.key.as_slice()),
-        ValueRef::Int(put.object.object().version.cast_signed()),
+        ValueRef::Text(key.as_slice()),
+        ValueRef::Int(version.cast_signed()),
         ValueRef::Text(body.as_bytes()),
     ];
     if transaction.execute_prepared(&writes.puts.replace, &values)? == 1 {
@@ -435,12 +439,14 @@ fn put_row<'a, S: Alter>(
 fn cut_rows<S: Alter>(
     transaction: &mut Transaction<'_, S>,
     writes: &Writes,
-    keys: &[List<u8>],
+    alloc: Global,
+    ids: &[Id],
 ) -> Result<(), Refusal>
     ensures { transaction.new.conn.ghost_name ≡ transaction.old.conn.ghost_name }
 {
-    for key in keys {
-        cut_row(transaction, writes, key)?;
+    for id in ids {
+        let key = row_key(alloc, id)?;
+        cut_row(transaction, writes, &key)?;
     }
     Ok(())
 }
