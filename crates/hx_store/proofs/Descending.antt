@@ -1,6 +1,6 @@
 -- Places whose names descend: the last one has the least name.
-use Rattle.std.proofs.Common.{◌≡◌, ℕ, ◌+◌, ◌-◌, zero, suc, Bool, false, Option, Some, None, List, [], ◌∷◌, ◌++◌, reverse, length, take, get_or, refl, sym, ap, subst, ◌∙◌, arith, true≢false}
-use Rattle.std.specs.Prelude.{is_some, IfSome, slice_get, swap_remove, position}
+use Rattle.std.proofs.Common.{◌≡◌, ℕ, ◌+◌, ◌-◌, zero, suc, false, Option, Some, None, List, [], ◌∷◌, ◌++◌, reverse, length, take, get_or, refl, sym, ap, subst, ◌∙◌, arith, true≢false}
+use Rattle.std.specs.Prelude.{is_some, IfSome, slice_get}
 use Rattle.std.specs.Ordering.{is_lt}
 use Rattle.std.specs.List.{AllByRecursion, IsDistinct}
 use Rattle.std.specs.List.Sorted.{IsPermutation, IsSorted}
@@ -9,8 +9,7 @@ use Rattle.std.specs.Str.{bytes_eq}
 use Rattle.std.proofs.lemmas.Cmp.{nat_list_eq_equiv}
 use Rattle.std.proofs.lemmas.List.{reverse-append}
 use Rattle.std.proofs.lemmas.Map.Entries.{lookup_from_place}
-use Rattle.indexmap.proofs.MapLemmas.{lookup_permutation, swap_remove_entry-found, swap_remove_last}
-use Rattle.indexmap.specs.IndexMap.{swap_remove_entry}
+use Rattle.indexmap.proofs.MapLemmas.{lookup_permutation, sorted_keys}
 use Rattle.hx_object.specs.Texts.{bytes_cmp}
 use Rattle.hx_object.specs.declared.object.Object.{Object}
 use Rattle.hx_store.specs.Least.{Descends, IsLeast, is_less}
@@ -58,6 +57,9 @@ descends_reversed [] up = tt
 descends_reversed (e ∷ es) up =
     subst (λ fs. Descends (keys_of fs)) (sym (reverse-append (e ∷ []) es)) (descends_push (reverse es) e (descends_reversed es up.1) (all_reversed (λ other. is_less other e.0 ≡ false) es up.0))
 
+pub sorted_names : (es : List Entry) → IsSorted (λ (a b : Entry). bytes_cmp a.0 b.0) es → IsSorted bytes_cmp (keys_of es)
+sorted_names es = sorted_keys is_less es
+
 -- sorted by their names, and then turned round
 pub sorted_backwards : (old new : List Entry) → IsSorted bytes_cmp (keys_of old) → new ≡ reverse old → Descends (keys_of new)
 sorted_backwards old new up is = subst (λ es. Descends (keys_of es)) (sym is) (descends_reversed old (ascends_from (keys_of old) up))
@@ -74,15 +76,10 @@ all_take P zero es all = tt
 all_take P (suc n) [] all = tt
 all_take P (suc n) (e ∷ es) all = (all.0, all_take P n es all.1)
 
-descends_take : (n : ℕ) (es : List Entry) → Descends (keys_of es) → Descends (keys_of (take n es))
+pub descends_take : (n : ℕ) (es : List Entry) → Descends (keys_of es) → Descends (keys_of (take n es))
 descends_take zero es down = tt
 descends_take (suc n) [] down = tt
 descends_take (suc n) (e ∷ es) down = (all_take (λ other. is_less e.0 other ≡ false) n es down.0, descends_take n es down.1)
-
--- names that descend still do without the last place
-pub without_last : (test : List ℕ → Bool) (old new : List Entry) (i : ℕ) (d : Entry) → new ≡ swap_remove_entry test old → position test (keys_of old) ≡ Some i → i ≡ length old - 1 → Descends (keys_of old) → Descends (keys_of new)
-without_last test old new i d is at last down =
-    subst (λ es. Descends (keys_of es)) (sym (is ∙ swap_remove_entry-found test old i d at ∙ ap (λ n. swap_remove old n d) last ∙ swap_remove_last old d)) (descends_take (length old - 1) old down)
 
 at_place : (P : List ℕ → Type 0) (es : List Entry) (i : ℕ) (e : Entry) → AllByRecursion P (keys_of es) → slice_get es i ≡ Some e → P e.0
 at_place P [] i e all at = absurd (true≢false (ap is_some (sym at)))

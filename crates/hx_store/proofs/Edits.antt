@@ -8,7 +8,7 @@ use Rattle.std.specs.Str.{bytes_eq}
 use Rattle.std.proofs.lemmas.Map.Keys.{IsDistinct-cons}
 use Rattle.std.proofs.lemmas.Slice.Eq.{bytes_eq-Decides}
 use Rattle.hx_object.specs.declared.object.Object.{Object}
-use Rattle.hx_store.specs.Places.{entries_of, Place, EditsBoard, EditsShelves, IsShelf, IsBoard, IsFull, IsNewBoard, AreShelves, AreShelvesBut, made, filled, unchanged, place_in, place_of, board_in}
+use Rattle.hx_store.specs.Places.{entries_of, entries_on, Place, EditsBoard, EditsShelves, IsShelf, IsBoard, IsFull, IsNewBoard, AreShelves, AreShelvesBut, made, filled, unchanged, place_in, place_of, board_in}
 use Rattle.hx_store.specs.declared.board.Board.{Board}
 use Rattle.hx_store.specs.declared.board.Board.TheVariants.{Empty, Held, One}
 use Rattle.hx_store.specs.declared.shelf.Shelf.{Shelf}
@@ -70,7 +70,7 @@ same_shelves old new same =
 
 -- ---- shelves of no place
 
-pub empty_shelf : (shelf : Shelf) → shelf.places.entries ≡ [] → shelf.descends ≡ false → IsShelf shelf
+pub empty_shelf : (shelf : Shelf) → entries_on shelf ≡ [] → shelf.descends ≡ false → IsShelf shelf
 unfolding IsDistinct
 empty_shelf shelf none not = (subst (λ es. IsDistinct bytes_eq (keys_of es)) (sym none) tt, λ is. absurd (true≢false (sym is ∙ not)))
 

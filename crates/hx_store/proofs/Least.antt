@@ -15,10 +15,8 @@ use Rattle.hx_object.specs.Texts.{bytes_cmp}
 use Rattle.hx_object.specs.declared.object.Object.{Object}
 use Rattle.hx_store.specs.Least.{IsLeast, Named, is_less, least_entry}
 use Rattle.hx_store.specs.Places.{found, place_alone}
+pub use Rattle.hx_store.specs.Slots.{Entry}
 use Rattle.hx_store.proofs.Finding.{none_among, text_itself}
-
-abbrev pub Entry : Type 0
-Entry = List ℕ × Option Object
 
 -- the place of a name among entries
 abbrev pub place_among : List Entry → List ℕ → Option (Option Object)

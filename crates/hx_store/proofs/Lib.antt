@@ -10,5 +10,6 @@ pub mod Indexing
 pub mod Least
 pub mod Listing
 pub mod Named
+pub mod Shown
 pub mod Waiting
 pub mod Writing

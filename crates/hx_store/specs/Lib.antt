@@ -3,4 +3,5 @@ pub mod Changes
 pub mod Kept
 pub mod Least
 pub mod Places
+pub mod Slots
 pub mod Sources

@@ -1,6 +1,6 @@
 -- Where a store keeps its objects: by kind, then by namespace, then by name. A place holds an object, or is empty.
 --     entries_of board           the places of one kind and namespace, with their names: none, one, those of a rack, or those of a shelf
---     place_in board name        the place of a name, among those;  place_along rack name, along a rack;  place_on shelf name, on a shelf
+--     place_in board name        the place of a name, among those;  place_along rack name, along a rack;  place_on shelf name, on a shelf;  entries_on shelf, all on a shelf
 --     HasNoOther at name         where places are found so, there is none of another name
 --     place_of shelves ns name   the place of a namespace and a name, among the objects of one kind
 --     place_at places id         the place of an identity
@@ -10,7 +10,7 @@
 --     objects_in, objects_of     the objects of one kind and namespace;  of one kind
 --     objects_at places          all objects, in the order of their identities
 --     IsReady places staged      what a store keeps true: each object is in its place, each staged write has its place, and no place is empty but those
-use Rattle.std.specs.Prelude.{◌≡◌, ◌≢◌, ℕ, ◌-◌, Bool, true, false, ◌&&◌, cond, List, [], ◌∷◌, Option, Some, None, IsSome, not, option_and_then, length}
+use Rattle.std.specs.Prelude.{◌≡◌, ◌≢◌, ℕ, ◌-◌, Bool, true, false, ◌&&◌, cond, List, [], ◌∷◌, Option, Some, None, IsSome, not, option_and_then, length, take}
 use Rattle.std.specs.List.{IsDistinct, flat_map, list_any, slice_get}
 use Rattle.std.specs.Map.{keys_of, lookup, values_of}
 use Rattle.std.specs.HashMap.{get}
@@ -25,6 +25,7 @@ use Rattle.hx_model.specs.declared.key.Write.{Write}
 use Rattle.hx_model.specs.declared.key.Write.TheVariants.{Put, Cut}
 use Rattle.hx_store.specs.Changes.{id_of}
 use Rattle.hx_store.specs.Least.{Descends}
+use Rattle.hx_store.specs.Slots.{as_shown}
 use Rattle.hx_store.specs.declared.board.Board.{Board}
 use Rattle.hx_store.specs.declared.board.Board.TheVariants.{Empty, Held, One, Few, Many}
 use Rattle.hx_store.specs.declared.rack.Rack.{Rack}
@@ -40,9 +41,13 @@ Place = Option (Option Object)
 abbrev pub found : Place → Option Object
 found place = option_and_then (λ o. o) place
 
+-- the places of a shelf, with their names
+abbrev pub entries_on : Shelf → List (List ℕ × Option Object)
+entries_on shelf = as_shown shelf.shown shelf.places.keys
+
 -- the place of a name on a shelf
 abbrev pub place_on : Shelf → List ℕ → Place
-place_on shelf name = get bytes_eq shelf.places name
+place_on shelf name = lookup (bytes_eq name) (entries_on shelf)
 
 -- the place of a name along a rack
 abbrev pub place_along : Rack → List ℕ → Place
@@ -54,7 +59,7 @@ entries_of Empty = []
 entries_of (Held name) = (name, None) ∷ []
 entries_of (One name object) = (name, Some object) ∷ []
 entries_of (Few rack) = rack.places.items
-entries_of (Many shelf) = shelf.value.places.entries
+entries_of (Many shelf) = entries_on shelf.value
 
 -- the place of a name on a board
 abbrev pub place_in : Board → List ℕ → Place
@@ -133,9 +138,9 @@ EditsPlaces g old new id = (q : Id) → place_at new q ≡ cond (same_id id q) (
 
 -- ---- what is kept true
 
--- the names descend, if the shelf says so: on a shelf, and on a board
+-- the names of the slots that are shown descend, if the shelf says so: on a shelf, and on a board
 abbrev pub IsInOrder : Shelf → Type 0
-IsInOrder shelf = shelf.descends ≡ true → Descends (keys_of shelf.places.entries)
+IsInOrder shelf = shelf.descends ≡ true → Descends (keys_of (take shelf.shown shelf.places.keys))
 
 abbrev pub AreInOrder : Board → Type 0
 AreInOrder Empty = Unit {0}
@@ -154,7 +159,7 @@ IsRack rack = IsDistinct bytes_eq (keys_of rack.places.items)
 
 -- so it is, and the names descend if that is said: on a shelf, and on a board
 abbrev pub IsShelf : Shelf → Type 0
-IsShelf shelf = IsDistinct bytes_eq (keys_of shelf.places.entries) × IsInOrder shelf
+IsShelf shelf = IsDistinct bytes_eq (keys_of (entries_on shelf)) × IsInOrder shelf
 
 abbrev pub IsBoard : Board → Type 0
 IsBoard board = AreDistinct board × AreInOrder board
@@ -239,7 +244,7 @@ abbrev pub objects_along : Rack → List Object
 objects_along rack = flat_map of_place (values_of rack.places.items)
 
 abbrev pub objects_on : Shelf → List Object
-objects_on shelf = flat_map of_place (values_of shelf.places.entries)
+objects_on shelf = flat_map of_place (values_of (entries_on shelf))
 
 abbrev pub objects_in : Board → List Object
 objects_in board = flat_map of_place (values_of (entries_of board))

@@ -1,5 +1,5 @@
 // The objects of one kind in one namespace: one by itself, a few in a rack, or more on a shelf.
-ghost use Rattle.std.specs.Prelude.{◌≡◌, ◌++◌, ◌∷◌, ◌↔◌, ℕ, List, false, cond, IfOk, OnOk, IsTrue, [], MatchResult, length, option_copied, slice_get};
+ghost use Rattle.std.specs.Prelude.{◌≡◌, ◌++◌, ◌∷◌, ◌↔◌, ℕ, List, false, cond, IfOk, IfSome, OnOk, IsTrue, [], MatchResult, length, option_copied, slice_get};
 ghost use Rattle.std.specs.Option.{option_map};
 ghost use Rattle.std.specs.Str.{bytes_eq};
 ghost use Rattle.hx_store.specs.Least.{IsLeast};
@@ -115,6 +115,7 @@ impl Board {
 
     /// Puts an object, or none, in the place of a name, where there is one.
     pub(crate) fn fill(&mut self, alloc: Global, name: &str, object: Option<Shared>)
+        requires { IfSome object (λ x. x.id.name ≡ name.now) }
         ensures board { IsBoard self.old → IsBoard self.new }
         ensures places { EditsBoard (filled object) self.old self.new name.now }
     {

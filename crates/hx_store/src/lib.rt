@@ -12,6 +12,7 @@ mod places;
 mod rack;
 mod shelf;
 mod shelves;
+mod slot;
 mod store;
 mod writes;
 

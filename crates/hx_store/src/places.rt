@@ -1,5 +1,5 @@
 // The places of the objects of all kinds.
-ghost use Rattle.std.specs.Prelude.{◌≡◌, ◌++◌, ◌-◌, ◌<◌, ℕ, List, [], true, Option, Some, OnOk, MatchResult, is_some, length, option_copied, slice_get};
+ghost use Rattle.std.specs.Prelude.{◌≡◌, ◌++◌, ◌-◌, ◌<◌, ℕ, List, [], true, Option, Some, IfSome, OnOk, MatchResult, is_some, length, option_copied, slice_get};
 ghost use Rattle.hx_object.specs.Kinds.{number_of};
 ghost use Rattle.hx_model.specs.State.{least_in};
 ghost use Rattle.hx_store.specs.Places.{AreShelves, ArePlaces, IsSound, objects_at, place_at, found, EditsPlaces, made, filled, swept, unchanged, objects_listed};
@@ -85,6 +85,7 @@ impl Places {
 
     /// Puts an object, or none, in the place of an identity, where there is one.
     pub(crate) fn fill(&mut self, id: &Id, object: Option<Shared>)
+        requires { IfSome object (λ x. x.id.name ≡ id.now.name) }
         ensures places { ArePlaces self.old → ArePlaces self.new }
         ensures filled { EditsPlaces (filled object) self.old self.new id.now }
     {

@@ -177,7 +177,7 @@ impl Rack {
         ensures { OnOk result (listed.new.items ≡ listed.old.items ++ objects_along self.now) }
     {
         for (_, place) in self.places.iter() {
-            list_place(place, listed)?;
+            list_place(place.as_ref(), listed)?;
         }
         Ok(())
     }
@@ -198,7 +198,7 @@ impl Rack {
     {
         let mut least = None;
         for (name, place) in self.places.iter() {
-            least = lesser(least, name, place);
+            least = lesser(least, name, place.as_ref());
         }
         least
     }

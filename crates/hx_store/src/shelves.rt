@@ -1,5 +1,5 @@
 // The objects of one kind.
-ghost use Rattle.std.specs.Prelude.{◌≡◌, ◌++◌, ℕ, List, false, true, Option, [], None, OnOk, MatchResult, option_copied};
+ghost use Rattle.std.specs.Prelude.{◌≡◌, ◌++◌, ℕ, List, false, true, Option, [], None, IfSome, OnOk, MatchResult, option_copied};
 ghost use Rattle.std.specs.Option.{option_map_or};
 ghost use Rattle.hx_store.specs.Least.{IsLeast};
 ghost use Rattle.hx_store.specs.Places.{AreShelves, board_in, place_of, found, EditsShelves, made, filled, swept, unchanged, objects_in, objects_of, objects_under, HasNoOther};
@@ -86,6 +86,7 @@ impl Shelves {
 
     /// Puts an object, or none, in its place, where there is one.
     pub(crate) fn fill(&mut self, ns: &str, name: &str, object: Option<Shared>)
+        requires { IfSome object (λ x. x.id.name ≡ name.now) }
         ensures shelves { AreShelves self.old → AreShelves self.new }
         ensures places { EditsShelves (filled object) self.old self.new ns.now name.now }
     {

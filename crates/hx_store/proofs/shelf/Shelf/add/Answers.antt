@@ -1,13 +1,24 @@
-use Rattle.std.proofs.Common.{◌≡◌, List, ℕ, Some, None, false, cond, sym, ap, ◌∙◌}
-use Rattle.std.specs.Str.{bytes_eq}
+use Rattle.std.proofs.Common.{sym, ap, ◌∙◌, refl, true≢false}
+use Rattle.std.specs.List.{position_or_len}
+use Rattle.indexmap.specs.IndexSet.{insert_key}
 use Rattle.hx_store.specs.Places.{place_on, added}
-use Rattle.hx_store.proofs.Edits.{none_from, set_edits}
+use Rattle.hx_store.specs.Slots.{Entry, same_name}
+use Rattle.hx_store.proofs.Edits.{stay_edits}
+use Rattle.hx_store.proofs.Shown.{added_there, distinct_shown, pushed_edits, there_shown}
 use Rattle.hx_store.proofs.shelf.Shelf.add.Goals as goal
+
+pub returns-then-contains-clause-places : goal.returns-then-contains-clause-places
+returns-then-contains-clause-places c =
+    let shelf = c.args.self.now in
+    let there = there_shown shelf.shown shelf.places.keys c.args.name.now ∙ sym c.contains.ensures ∙ c.if-contains.true in
+    stay_edits (added c.args.place) (place_on shelf) (place_on shelf) c.args.name.now (λ q. refl) (added_there c.args.place (place_on shelf c.args.name.now) there)
+
+pub returns-clause-shelf : goal.returns-clause-shelf
+returns-clause-shelf c = λ _. c.show.ensures.shelf (distinct_shown c.args.self.now.shown c.insert_full.new.self.keys c.insert_full.ensures.unique, λ t. absurd (true≢false (sym t)))
 
 pub returns-clause-places : goal.returns-clause-places
 returns-clause-places c =
-    let old = c.args.self.now in
-    let absent : place_on old c.args.name.now ≡ None = none_from (place_on old c.args.name.now) (sym c.contains_key.ensures ∙ c.if-contains_key.false) in
-    let at : (q : List ℕ) → place_on (record { places = c.insert.new.self; descends = false }) q ≡ cond (bytes_eq c.args.name.now q) (Some c.args.place) (place_on old q)
-    = λ q. c.in_ok-_none.ensures.updates.0 q ∙ ap (λ n. cond (bytes_eq n q) (Some c.args.place) (place_on old q)) c.in_ok-key.ensures in
-    set_edits (added c.args.place) (place_on old) (place_on (record { places = c.insert.new.self; descends = false })) c.args.name.now (Some c.args.place) at (ap (added c.args.place) (sym absent))
+    let shelf = c.args.self.now in
+    let es = shelf.places.keys in
+    pushed_edits shelf.shown es c.insert_full.new.self.keys (c.args.name.now, c.args.place) c.in_ok-index.index (place_on c.show.new.self) (sym c.contains.ensures ∙ c.if-contains.false)
+    (c.in_ok-index.ensures.keys ∙ ap (insert_key same_name es) c.in_ok-slot.ensures) (c.in_ok-index.ensures.index ∙ ap (λ (e : Entry). position_or_len (same_name e) es) c.in_ok-slot.ensures) c.show.ensures.places
