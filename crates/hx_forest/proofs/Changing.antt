@@ -1,9 +1,11 @@
 -- The children of names after a change of the nodes.
---     children_has      who is a child of a name
---     names_there       a list has the children
---     index_changed     the lists are those of the changed nodes, once a child has left its old parent and joined its new one
-use Rattle.std.specs.Prelude.{is_some, option_and_then, unwrap_or}
-use Rattle.std.proofs.Common.{◌≡◌, ℕ, Bool, true, false, cond, not, ◌&&◌, ◌||◌, List, [], ◌∷◌, Option, Some, None, option_map, refl, sym, ap, subst, ◌∙◌, true≢false}
+--     children_has                    who is a child of a name
+--     parent_added, parent_set        what the node at an index names as its parent then
+--     index_parted, index_removed     the lists are those of the nodes where a child has no parent, or is gone, once it has left its parent
+--     index_terminated                and those of nodes one of which is on its way out
+--     index_changed                   they are those of the changed nodes, once a child has joined its new parent
+use Rattle.std.specs.Prelude.{is_some, option_and_then}
+use Rattle.std.proofs.Common.{◌≡◌, ℕ, Bool, true, false, cond, not, ◌&&◌, ◌||◌, List, Option, Some, None, option_map, refl, sym, ap, subst, ◌∙◌, true≢false}
 use Rattle.std.specs.Option.{option_map_or}
 use Rattle.std.specs.Str.{bytes_eq}
 use Rattle.std.proofs.lemmas.List.Kept.{IsStrictlySortedBy-filter}
@@ -17,11 +19,14 @@ use Rattle.hx_model.proofs.Walking.{names_have, no_parent, same_flips}
 use Rattle.hx_model.proofs.Moving.{changed_node}
 use Rattle.hx_forest.specs.declared.change.Change.{Change}
 use Rattle.hx_forest.specs.declared.change.Change.TheVariants.{Add, SetParent, SetTerminating, Remove}
-use Rattle.hx_forest.specs.Names.{IsAscending, NamesView}
-use Rattle.hx_forest.specs.Children.{Lists, list_of, names_at, unless_empty, IsIndex, HasList}
+use Rattle.hx_forest.specs.Names.{IsAscending}
+use Rattle.hx_forest.specs.Children.{Lists, names_in, HasList}
 use Rattle.hx_forest.specs.Kept.{changed_by, MayChange}
-use Rattle.hx_forest.specs.Staged.{left_by, joined_by, IsLeft, IsJoined}
+use Rattle.hx_forest.specs.declared.places.Nodes.{Nodes}
+use Rattle.hx_forest.specs.Ways.{forest_of, index_at, parent_in}
+use Rattle.hx_forest.specs.Staged.{parted_by, joined_by, IsLeft, IsJoined}
 use Rattle.hx_forest.proofs.Nodes.{ascends, ascends-with_node, ascends-without_node, ascends-with_changed, node_of-with_node, node_of-without_node}
+use Rattle.hx_forest.proofs.Ways.{parent_at_name}
 use Rattle.hx_forest.proofs.Listing.{names_sorted, same_names}
 
 -- ---- who is a child
@@ -42,29 +47,23 @@ children_ascend f p up = IsStrictlySortedBy-filter bytes_cmp (is_child f p) (nam
 pub same_children : (f g : Forest) (p : List ℕ) → ascends f ≡ true → ascends g ≡ true → ((m : List ℕ) → is_child g p m ≡ is_child f p m) → children_of g p ≡ children_of f p
 same_children f g p hf hg alike = same_names (children_of g p) (children_of f p) (children_ascend g p hg) (children_ascend f p hf) (λ m. children_has g p m ∙ alike m ∙ sym (children_has f p m))
 
--- a list has the children
-pub names_there : (lists : Lists) (f : Forest) (p : List ℕ) → IsIndex lists f → names_at lists p ≡ children_of f p
-names_there lists f p index = by (list_of lists p) (children_of f p) (index p)
-  where
-    by : (o : Option NamesView) (xs : List (List ℕ)) → option_map (λ n. n.names) o ≡ unless_empty xs → option_map_or (λ n. n.names) o [] ≡ xs
-    by None [] e = refl
-    by None (x ∷ xs) e = absurd (true≢false (sym (ap is_some e)))
-    by (Some n) [] e = absurd (true≢false (ap is_some e))
-    by (Some n) (x ∷ xs) e = ap (λ o. unwrap_or o []) e
-
 -- ---- after one list has changed
 
-index_after : (old new : Lists) (f g : Forest) (p : List ℕ) (t : List ℕ → Bool) → IsIndex old f → ascends f ≡ true → ascends g ≡ true → HasList old new p t
-    → ((m : List ℕ) → t m ≡ is_child g p m) → ((q : List ℕ) → bytes_eq p q ≡ false → (m : List ℕ) → is_child g q m ≡ is_child f q m) → IsIndex new g
-index_after old new f g p t index hf hg h here others q =
-    elim (bytes_eq p q) as (λ b. bytes_eq p q ≡ b → option_map (λ (n : NamesView). n.names) (list_of new q) ≡ unless_empty (children_of g q)) [
-      | true ↦ λ e. subst (λ (r : List ℕ). option_map (λ (n : NamesView). n.names) (list_of new r) ≡ unless_empty (children_of g r)) (is_same p q e)
-          (h.is ∙ ap unless_empty (same_names h.names (children_of g p) h.order (children_ascend g p hg) (λ m. h.members m ∙ here m ∙ sym (children_has g p m))))
-      | false ↦ λ e. ap (λ (o : Option NamesView). option_map (λ n. n.names) o) (h.others q e) ∙ index q ∙ ap unless_empty (sym (same_children f g q hf hg (others q e)))
+-- each name has the list of its children
+abbrev Each : Lists → Forest → Type 0
+Each lists f = (p : List ℕ) → names_in (lists p) ≡ children_of f p
+
+index_after : (old new : Lists) (f g : Forest) (p : List ℕ) (t : List ℕ → Bool) → Each old f → ascends f ≡ true → ascends g ≡ true → HasList old new p t
+    → ((m : List ℕ) → t m ≡ is_child g p m) → ((q : List ℕ) → bytes_eq p q ≡ false → (m : List ℕ) → is_child g q m ≡ is_child f q m) → Each new g
+index_after old new f g p t each hf hg h here others q =
+    elim (bytes_eq p q) as (λ b. bytes_eq p q ≡ b → names_in (new q) ≡ children_of g q) [
+      | true ↦ λ e. subst (λ (r : List ℕ). names_in (new r) ≡ children_of g r) (is_same p q e)
+          (same_names (names_in (new p)) (children_of g p) h.order (children_ascend g p hg) (λ m. h.members m ∙ here m ∙ sym (children_has g p m)))
+      | false ↦ λ e. ap names_in (h.others q e) ∙ each q ∙ sym (same_children f g q hf hg (others q e))
     ] refl
 
-index_same : (lists : Lists) (f g : Forest) → IsIndex lists f → ascends f ≡ true → ascends g ≡ true → ((m : List ℕ) → parent_of g m ≡ parent_of f m) → IsIndex lists g
-index_same lists f g index hf hg same q = index q ∙ ap unless_empty (sym (same_children f g q hf hg (λ m. ap (λ (o : Option (List ℕ)). option_map_or (bytes_eq q) o false) (same m))))
+index_same : (lists : Lists) (f g : Forest) → Each lists f → ascends f ≡ true → ascends g ≡ true → ((m : List ℕ) → parent_of g m ≡ parent_of f m) → Each lists g
+index_same lists f g each hf hg same q = each q ∙ sym (same_children f g q hf hg (λ m. ap (λ (o : Option (List ℕ)). option_map_or (bytes_eq q) o false) (same m)))
 
 -- a name without a parent that gets none
 none_stays : (f g : Forest) (n : List ℕ) → parent_of f n ≡ None → ((m : List ℕ) → parent_of g m ≡ cond (bytes_eq m n) None (parent_of f m)) → (m : List ℕ) → parent_of g m ≡ parent_of f m
@@ -75,12 +74,12 @@ none_stays f g n none is m = is m ∙ by (bytes_eq m n) (λ e. ap (parent_of f) 
     by false h = refl
 
 -- a child has left
-index_left : (old new : Lists) (f g : Forest) (n : List ℕ) (o : Option (List ℕ)) → IsIndex old f → ascends f ≡ true → ascends g ≡ true → parent_of f n ≡ o
-    → ((m : List ℕ) → parent_of g m ≡ cond (bytes_eq m n) None (parent_of f m)) → IsLeft (option_map (λ p. (p, n)) o) old new → IsIndex new g
-index_left old new f g n None index hf hg at is left = subst (λ (l : Lists). IsIndex l g) (sym left) (index_same old f g index hf hg (none_stays f g n at is))
-index_left old new f g n (Some p) index hf hg at is left =
-    index_after old new f g p (λ q. not (bytes_eq q n) && is_in q (names_at old p)) index hf hg left
-    (λ m. ap (λ (xs : List (List ℕ)). not (bytes_eq m n) && is_in m xs) (names_there old f p index) ∙ ap (λ b. not (bytes_eq m n) && b) (children_has f p m)
+index_left : (old new : Lists) (f g : Forest) (n : List ℕ) (o : Option (List ℕ)) → Each old f → ascends f ≡ true → ascends g ≡ true → parent_of f n ≡ o
+    → ((m : List ℕ) → parent_of g m ≡ cond (bytes_eq m n) None (parent_of f m)) → IsLeft (option_map (λ p. (p, n)) o) old new → Each new g
+index_left old new f g n None each hf hg at is left = λ q. ap names_in (left q) ∙ index_same old f g each hf hg (none_stays f g n at is) q
+index_left old new f g n (Some p) each hf hg at is left =
+    index_after old new f g p (λ q. not (bytes_eq q n) && is_in q (names_in (old p))) each hf hg left
+    (λ m. ap (λ (xs : List (List ℕ)). not (bytes_eq m n) && is_in m xs) (each p) ∙ ap (λ b. not (bytes_eq m n) && b) (children_has f p m)
     ∙ here (bytes_eq m n) (parent_of f m) ∙ sym (ap (λ (o : Option (List ℕ)). option_map_or (bytes_eq p) o false) (is m)))
     (λ q out m. ap (λ (o : Option (List ℕ)). option_map_or (bytes_eq q) o false) (is m) ∙ there q (bytes_eq m n) (parent_of f m) (λ e. ap (λ (o : Option (List ℕ)). option_map_or (bytes_eq q) o false) (ap (parent_of f) (is_same m n e) ∙ at) ∙ swap_same p q out))
   where
@@ -93,12 +92,12 @@ index_left old new f g n (Some p) index hf hg at is left =
     there q false o h = refl
 
 -- a child without a parent has joined the children of one
-index_joined : (old new : Lists) (f g : Forest) (n : List ℕ) (o : Option (List ℕ)) → IsIndex old f → ascends f ≡ true → ascends g ≡ true → parent_of f n ≡ None
-    → ((m : List ℕ) → parent_of g m ≡ cond (bytes_eq m n) o (parent_of f m)) → IsJoined (option_map (λ p. (p, n)) o) old new → IsIndex new g
-index_joined old new f g n None index hf hg at is joined = subst (λ (l : Lists). IsIndex l g) (sym joined) (index_same old f g index hf hg (none_stays f g n at is))
-index_joined old new f g n (Some p) index hf hg at is joined =
-    index_after old new f g p (λ q. bytes_eq q n || is_in q (names_at old p)) index hf hg joined
-    (λ m. ap (λ (xs : List (List ℕ)). bytes_eq m n || is_in m xs) (names_there old f p index) ∙ ap (λ b. bytes_eq m n || b) (children_has f p m)
+index_joined : (old new : Lists) (f g : Forest) (n : List ℕ) (o : Option (List ℕ)) → Each old f → ascends f ≡ true → ascends g ≡ true → parent_of f n ≡ None
+    → ((m : List ℕ) → parent_of g m ≡ cond (bytes_eq m n) o (parent_of f m)) → IsJoined (option_map (λ p. (p, n)) o) old new → Each new g
+index_joined old new f g n None each hf hg at is joined = λ q. ap names_in (joined q) ∙ index_same old f g each hf hg (none_stays f g n at is) q
+index_joined old new f g n (Some p) each hf hg at is joined =
+    index_after old new f g p (λ q. bytes_eq q n || is_in q (names_in (old p))) each hf hg joined
+    (λ m. ap (λ (xs : List (List ℕ)). bytes_eq m n || is_in m xs) (each p) ∙ ap (λ b. bytes_eq m n || b) (children_has f p m)
     ∙ here (bytes_eq m n) (parent_of f m) ∙ sym (ap (λ (o : Option (List ℕ)). option_map_or (bytes_eq p) o false) (is m)))
     (λ q out m. ap (λ (o : Option (List ℕ)). option_map_or (bytes_eq q) o false) (is m) ∙ there q (swap_same p q out) (bytes_eq m n) (parent_of f m) (λ e. ap (parent_of f) (is_same m n e) ∙ at))
   where
@@ -146,6 +145,13 @@ parent-with_terminating n f m =
     by true (Some node) = refl
     by false o = refl
 
+-- what the node at an index names then
+pub parent_added : (nodes : Nodes) (f : Forest) (n : List ℕ) (node : Node) (i : ℕ) → forest_of nodes ≡ with_node n node f → index_at nodes (Some n) ≡ Some i → parent_in nodes (Some i) ≡ node.parent
+parent_added nodes f n node i is at = sym (parent_at_name nodes n i at) ∙ ap (λ (g : Forest). parent_of g n) is ∙ parent-with_node n node f n ∙ ap (λ b. cond b node.parent (parent_of f n)) (same_itself n)
+
+pub parent_set : (nodes : Nodes) (f : Forest) (n : List ℕ) (p : Option (List ℕ)) (i : ℕ) → is_there f n ≡ true → forest_of nodes ≡ with_parent n p f → index_at nodes (Some n) ≡ Some i → parent_in nodes (Some i) ≡ p
+parent_set nodes f n p i there is at = sym (parent_at_name nodes n i at) ∙ ap (λ (g : Forest). parent_of g n) is ∙ parent-with_parent n p f there n ∙ ap (λ b. cond b p (parent_of f n)) (same_itself n)
+
 -- ---- a change
 
 twice : (n : List ℕ) (p : Option (List ℕ)) (f : Forest) → is_there f n ≡ true → (m : List ℕ) → parent_of (with_parent n p f) m ≡ cond (bytes_eq m n) p (parent_of (with_parent n None f) m)
@@ -155,18 +161,27 @@ twice n p f there m = parent-with_parent n p f there m ∙ by (bytes_eq m n) ∙
     by true = refl
     by false = refl
 
--- the lists are those of the changed nodes
-pub index_changed : (c : Change) (f : Forest) (old mid new : Lists) → ascends f ≡ true → MayChange c f → IsIndex old f → IsLeft (left_by c f) old mid → IsJoined (joined_by c) mid new → IsIndex new (changed_by c f)
-index_changed (Add n node) f old mid new up may index left joined =
-    index_joined mid new f (with_node n node f) n node.parent (subst (λ (l : Lists). IsIndex l f) (sym left) index) up (ascends-with_node n node f up) (no_parent f n may) (parent-with_node n node f) joined
-index_changed (SetParent n p) f old mid new up may index left joined =
+-- a child has left its parent, which it names no more
+pub index_parted : (old new : Lists) (f : Forest) (n : List ℕ) → ascends f ≡ true → is_there f n ≡ true → Each old f → IsLeft (option_map (λ p. (p, n)) (parent_of f n)) old new → Each new (with_parent n None f)
+index_parted old new f n up there each left =
+    index_left old new f (with_parent n None f) n (parent_of f n) each up (ascends-with_changed n (λ node. record node { parent = None }) f ∙ up) refl (parent-with_parent n None f there) left
+
+-- or is gone
+pub index_removed : (old new : Lists) (f : Forest) (n : List ℕ) → ascends f ≡ true → Each old f → IsLeft (option_map (λ p. (p, n)) (parent_of f n)) old new → Each new (without_node n f)
+index_removed old new f n up each left = index_left old new f (without_node n f) n (parent_of f n) each up (ascends-without_node n f up) refl (parent-without_node n f) left
+
+-- who is on its way out keeps its parent
+pub index_terminated : (lists : Lists) (f : Forest) (n : List ℕ) → ascends f ≡ true → Each lists f → Each lists (with_terminating n f)
+index_terminated lists f n up each = index_same lists f (with_terminating n f) each up (ascends-with_changed n (λ node. record node { terminating = true }) f ∙ up) (parent-with_terminating n f)
+
+-- a child has joined its new parent
+pub index_changed : (c : Change) (f : Forest) (mid new : Lists) → ascends f ≡ true → MayChange c f → Each mid (parted_by c f) → IsJoined (joined_by c) mid new → Each new (changed_by c f)
+index_changed (Add n node) f mid new up may each joined =
+    index_joined mid new f (with_node n node f) n node.parent each up (ascends-with_node n node f up) (no_parent f n may) (parent-with_node n node f) joined
+index_changed (SetParent n p) f mid new up may each joined =
     let here : ascends (with_parent n None f) ≡ true = ascends-with_changed n (λ node. record node { parent = None }) f ∙ up in
     let after : ascends (with_parent n p f) ≡ true = ascends-with_changed n (λ node. record node { parent = p }) f ∙ up in
-    index_joined mid new (with_parent n None f) (with_parent n p f) n p
-    (index_left old mid f (with_parent n None f) n (parent_of f n) index up here refl (parent-with_parent n None f may) left)
-    here after (parent-with_parent n None f may n ∙ ap (λ b. cond b None (parent_of f n)) (same_itself n)) (twice n p f may) joined
-index_changed (SetTerminating n) f old mid new up may index left joined =
-    index_same new f (with_terminating n f) (subst (λ (l : Lists). IsIndex l f) (sym (joined ∙ left)) index) up (ascends-with_changed n (λ node. record node { terminating = true }) f ∙ up) (parent-with_terminating n f)
-index_changed (Remove n) f old mid new up may index left joined =
-    subst (λ (l : Lists). IsIndex l (without_node n f)) (sym joined)
-    (index_left old mid f (without_node n f) n (parent_of f n) index up (ascends-without_node n f up) refl (parent-without_node n f) left)
+    index_joined mid new (with_parent n None f) (with_parent n p f) n p each here after
+    (parent-with_parent n None f may n ∙ ap (λ b. cond b None (parent_of f n)) (same_itself n)) (twice n p f may) joined
+index_changed (SetTerminating n) f mid new up may each joined = λ q. ap names_in (joined q) ∙ each q
+index_changed (Remove n) f mid new up may each joined = λ q. ap names_in (joined q) ∙ each q

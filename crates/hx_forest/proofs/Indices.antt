@@ -4,6 +4,7 @@
 --     to_index, to_found        after how many steps a name is come to: one more, and none where it lies there
 --     to_begin, to_nowhere, to_none      the first step, a name that isn't there, and where there is no next one
 --     names_index, names_begin      the names that are passed
+--     named_place               the place at an index is that of the name there
 use Rattle.std.specs.Prelude.{option_and_then, slice_get}
 use Rattle.std.proofs.Common.{◌≡◌, ℕ, zero, suc, ◌+◌, ◌-◌, ◌<◌, Bool, true, false, cond, Option, Some, None, option_map, List, [], ◌∷◌, is_some, refl, sym, ap, ◌∙◌, true≢false}
 use Rattle.std.specs.List.{IsDistinct}
@@ -119,3 +120,16 @@ names_index left nodes (Some i) above n pos distinct here is = by (slice_get nod
         ap (walk_names left (forest_of nodes)) here
         ∙ names_on left nodes n m.1 pos place
         ∙ ap (λ xs. n ∷ xs) (sym (names_begin (left - 1) nodes m.1.node.parent) ∙ ap (λ o. walk_names (left - 1) (forest_of nodes) (name_in nodes o)) (sym up))
+
+-- ---- what lies at an index
+
+-- the place at an index is that of the name there
+pub named_place : (nodes : Nodes) (at : Option ℕ) (n : List ℕ) → IsDistinct bytes_eq (keys_of nodes.places.entries) → name_in nodes at ≡ Some n → place_in nodes at ≡ place_of nodes n
+named_place nodes None n distinct here = absurd (none-some n here)
+named_place nodes (Some i) n distinct here = by (slice_get nodes.places.entries i) refl
+  where
+    by : (o : Option (List ℕ × Place)) → slice_get nodes.places.entries i ≡ o → place_in nodes (Some i) ≡ place_of nodes n
+    by None none = absurd (none-some n (sym (ap (option_map (λ (e : List ℕ × Place). e.0)) none) ∙ here))
+    by (Some m) there =
+        let name : m.0 ≡ n = same_Some m.0 n (sym (ap (option_map (λ (e : List ℕ × Place). e.0)) there) ∙ here) in
+        ap (option_map (λ (e : List ℕ × Place). e.1)) there ∙ sym (ap (place_of nodes) (sym name) ∙ place_there nodes i m.0 m.1 distinct there)

@@ -1,11 +1,13 @@
 pub mod Nodes
 pub mod Placing
+pub mod Slots
 pub mod Restless
 pub mod Ways
 pub mod Notes
 pub mod Listing
 pub mod Ascending
 pub mod Indexing
+pub mod Entering
 pub mod Changing
 pub mod Readiness
 pub mod Stepping

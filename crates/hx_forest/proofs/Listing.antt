@@ -1,6 +1,7 @@
 -- Names in ascending order.
 --     names_sorted        the names of a forest
 --     same_names          two such lists with the same names are the same
+--     has_first           a list has its first name
 --     ascending           a sort of distinct names
 use Rattle.std.proofs.Common.{◌≡◌, ℕ, ◌+◌, true, false, ◌||◌, List, [], ◌∷◌, get_or, Less, Equal, Greater, is_eq, is_lt, refl, sym, ap, subst, ◌∙◌, arith, true≢false}
 use Rattle.std.specs.Ordering.{ordering_reverse}
@@ -38,7 +39,7 @@ pub all_below : (x y : List ℕ) (ys : List (List ℕ)) → bytes_cmp x y ≡ Le
 all_below x y [] e h = tt
 all_below x y (z ∷ ys) e h = (name_total.trans x y z e h.0, all_below x y ys e h.1)
 
-has_first : (y : List ℕ) (ys : List (List ℕ)) → is_in y (y ∷ ys) ≡ true
+pub has_first : (y : List ℕ) (ys : List (List ℕ)) → is_in y (y ∷ ys) ≡ true
 has_first y ys = ap (λ b. b || is_in y ys) (same_itself y)
 
 pub same_names : (xs ys : List (List ℕ)) → IsStrictlySortedBy bytes_cmp xs → IsStrictlySortedBy bytes_cmp ys → ((q : List ℕ) → is_in q xs ≡ is_in q ys) → xs ≡ ys

@@ -5,8 +5,8 @@
 --     name_at_index, own_index     the name there, and where the name lies that lies at an index
 --     places_push, standing_push, look_added      one more at the end
 --     item_at                what is read of a list at an index
---     look_nodes, none_nodes, none_places       what a name has of nodes alone
---     look_none, look_cut, rung_placed, standing_out        one out, with the last one in its place
+--     none_places            what a name has of nodes alone
+--     look_cut, places_out, rung_placed, no_place, standing_out        one out, with the last one in its place
 --     rung_set, rung_none, both_set, node_none, rung_there, standing_rung, standing_both     one is changed
 --     set_keys, look_changed, changed_twice        the names then, and what is found
 use Rattle.std.specs.Prelude.{◌<◌, slice_get, position, swap_remove, slice_set, slice_index_or, take, nat_lt, not}
@@ -17,9 +17,9 @@ use Rattle.std.specs.Str.{bytes_eq}
 use Rattle.std.proofs.lemmas.Bool.{lt-ltb, le-ltb, ltb-true, ltb-false}
 use Rattle.std.proofs.lemmas.Cmp.{nat_list_eq_equiv}
 use Rattle.std.proofs.lemmas.Map.Keys.{IsDistinct-head, IsDistinct-tail}
-use Rattle.std.proofs.lemmas.Option.{none-some, same_Some, get_or_from_slice_get, slice_get_past, slice_get_read}
-use Rattle.indexmap.specs.IndexMap.{set_value_at, swap_remove_entry}
-use Rattle.indexmap.proofs.MapLemmas.{swap_remove_entry-found}
+use Rattle.std.proofs.lemmas.Option.{none-some, same_Some, get_or_from_slice_get, slice_get_within, slice_get_past, slice_get_read}
+use Rattle.indexmap.specs.IndexMap.{set_value_at}
+use Rattle.indexmap.proofs.MapLemmas.{swap_remove-default}
 use Rattle.indexmap.proofs.RemoveLemmas.{swap_out}
 use Rattle.hx_model.proofs.Climbing.{is_same, same_itself}
 use Rattle.hx_model.proofs.Objects.{same_test, swap_tests}
@@ -100,7 +100,7 @@ item_at now xs i None item = sym (slice_get_past xs i item.3)
 item_at now xs i (Some x) item = sym (slice_get_read xs (length xs) i (now x) refl item.3.0 (item.3.1 (now x)))
 
 -- the node of a name
-pub look_nodes : (es : Nodes) (rs : Rungs) (n : List ℕ) → AreStanding es rs → lookup (bytes_eq n) es ≡ option_map (λ p. p.node) (lookup (bytes_eq n) (places_from es rs))
+look_nodes : (es : Nodes) (rs : Rungs) (n : List ℕ) → AreStanding es rs → lookup (bytes_eq n) es ≡ option_map (λ p. p.node) (lookup (bytes_eq n) (places_from es rs))
 look_nodes [] rs n is = refl
 look_nodes (e ∷ es) [] n is = absurd is
 look_nodes (e ∷ es) (r ∷ rs) n is = ap (cond (bytes_eq n e.0) (Some e.1)) (look_nodes es rs n is.1) ∙ by (bytes_eq n e.0)
@@ -108,13 +108,6 @@ look_nodes (e ∷ es) (r ∷ rs) n is = ap (cond (bytes_eq n e.0) (Some e.1)) (l
     by : (b : Bool) → cond b (Some e.1) (option_map (λ (p : Place). p.node) (lookup (bytes_eq n) (places_from es rs))) ≡ option_map (λ p. p.node) (cond b (Some (place_with r.0 e.1)) (lookup (bytes_eq n) (places_from es rs)))
     by true = refl
     by false = refl
-
-none_of : (o : Option Place) → option_map (λ p. p.node) o ≡ None → o ≡ None
-none_of None none = refl
-none_of (Some p) none = absurd (none-some p.node (sym none))
-
-pub none_nodes : (es : Nodes) (rs : Rungs) (n : List ℕ) → AreStanding es rs → lookup (bytes_eq n) es ≡ None → lookup (bytes_eq n) (places_from es rs) ≡ None
-none_nodes es rs n is none = none_of (lookup (bytes_eq n) (places_from es rs)) (sym (look_nodes es rs n is) ∙ none)
 
 pub none_places : (es : Nodes) (rs : Rungs) (n : List ℕ) → AreStanding es rs → lookup (bytes_eq n) (places_from es rs) ≡ None → lookup (bytes_eq n) es ≡ None
 none_places es rs n is none = look_nodes es rs n is ∙ ap (option_map (λ (p : Place). p.node)) none
@@ -366,55 +359,42 @@ standing_cut es rs i e r same is =
     (take_standing last (slice_set es i (slice_index_or es last e)) (slice_set rs i (slice_index_or rs last r))
     (set_standing es rs i (slice_index_or es last e) (slice_index_or rs last r) (index_standing es rs last e r same is) is))
 
-both_at : (es : Nodes) (rs : Rungs) (n : List ℕ) (i : ℕ) → AreStanding es rs → position (bytes_eq n) (keys_of es) ≡ Some i → index_in (places_from es rs) n ≡ Some i
-both_at es rs n i is at = sym (index_position (places_from es rs) n) ∙ ap (position (bytes_eq n)) (keys_from es rs is) ∙ at
+pub rung_placed : (es : Nodes) (rs : Rungs) (i : ℕ) (e : List ℕ × Node) → AreStanding es rs → slice_get es i ≡ Some e → i < length rs
+rung_placed es rs i e is at = let less = slice_get_within es i e at in omega (arith, less, as_many es rs is)
 
-pub rung_placed : (es : Nodes) (rs : Rungs) (n : List ℕ) (i : ℕ) → AreStanding es rs → position (bytes_eq n) (keys_of es) ≡ Some i → i < length rs
-rung_placed es rs n i is at = by (slice_get (places_from es rs) i) refl
-  where
-    by : (o : Option (List ℕ × Place)) → slice_get (places_from es rs) i ≡ o → i < length rs
-    by None none = absurd (none-some n (sym (ap (option_map (λ (e : List ℕ × Place). e.0)) none) ∙ name_at_index (places_from es rs) n i (both_at es rs n i is at)))
-    by (Some p) there = within rs i (step_of p.1, standing_of p.1.node) (rungs_from es rs i is ∙ ap (option_map (λ (e : List ℕ × Place). (step_of e.1, standing_of e.1.node))) there)
-      where
-        within : (xs : Rungs) (k : ℕ) (x : Step × Standing) → slice_get xs k ≡ Some x → k < length xs
-        within [] k x at = absurd (none-some x at)
-        within (y ∷ xs) zero x at = omega arith
-        within (y ∷ xs) (suc k) x at = let more = within xs k x at in omega (arith, more)
+-- no name lies where no node does
+pub no_place : (es : Nodes) (rs : Rungs) (i : ℕ) (n : List ℕ) → AreStanding es rs → slice_get es i ≡ None → index_in (places_from es rs) n ≡ Some i → ⊥
+no_place es rs i n is none here = none-some n (sym (ap (option_map (λ (e : List ℕ × Node). e.0)) none) ∙ names_from es rs i is ∙ name_at_index (places_from es rs) n i here)
 
-module _ (es : Nodes) (rs : Rungs) (n : List ℕ) (i : ℕ) (rung : Step × Standing) (standing : AreStanding es rs) (at : position (bytes_eq n) (keys_of es) ≡ Some i) (is : rung ≡ slice_index_or rs i rung) where
+module _ (es : Nodes) (rs : Rungs) (i : ℕ) (e : List ℕ × Node) (rung : Step × Standing) (standing : AreStanding es rs) (at : slice_get es i ≡ Some e) (is : rung ≡ slice_index_or rs i rung) where
   entry : {P : Type 0} → ((p : List ℕ × Place) → slice_get (places_from es rs) i ≡ Some p → rung ≡ (step_of p.1, standing_of p.1.node) → P) → P
   entry {P} then = by (slice_get (places_from es rs) i) refl
     where
       by : (o : Option (List ℕ × Place)) → slice_get (places_from es rs) i ≡ o → P
-      by None none = absurd (none-some n (sym (ap (option_map (λ (e : List ℕ × Place). e.0)) none) ∙ name_at_index (places_from es rs) n i (both_at es rs n i standing at)))
+      by None none = absurd (none-some e.0 (sym (names_from es rs i standing ∙ ap (option_map (λ (p : List ℕ × Place). p.0)) none) ∙ ap (option_map (λ (d : List ℕ × Node). d.0)) at))
       by (Some p) there =
           let lies : slice_get rs i ≡ Some (step_of p.1, standing_of p.1.node) = rungs_from es rs i standing ∙ ap (option_map (λ (e : List ℕ × Place). (step_of e.1, standing_of e.1.node))) there in
           then p there (is ∙ get_or_from_slice_get rs i (step_of p.1, standing_of p.1.node) rung lies)
 
-  module _ (fs : Nodes) (ss : Rungs) (nodes : fs ≡ swap_remove_entry (bytes_eq n) es) (rungs : ss ≡ swap_remove rs i rung) where
-    cut : (e : List ℕ × Node) → fs ≡ swap_remove es i e
-    cut e = nodes ∙ swap_remove_entry-found (bytes_eq n) es i e at
+  module _ (fs : Nodes) (ss : Rungs) (nodes : fs ≡ swap_remove es i e) (rungs : ss ≡ swap_remove rs i rung) where
+    cut : (d : List ℕ × Node) → fs ≡ swap_remove es i d
+    cut d = nodes ∙ swap_remove-default es i e d (let less = slice_get_within es i e at in omega (arith, less))
 
     pub standing_out : AreStanding fs ss
     standing_out = entry (λ p there same.
-        let e : List ℕ × Node = (p.0, p.1.node) in
-        let whole : AreStanding (swap_remove es i e) (swap_remove rs i rung) = standing_cut es rs i e rung (ap (λ (r : Step × Standing). r.1) same) standing in
-        subst (λ (xs : Nodes). AreStanding xs ss) (sym (cut e)) (subst (λ (xs : Rungs). AreStanding (swap_remove es i e) xs) (sym rungs) whole))
+        let d : List ℕ × Node = (p.0, p.1.node) in
+        let whole : AreStanding (swap_remove es i d) (swap_remove rs i rung) = standing_cut es rs i d rung (ap (λ (r : Step × Standing). r.1) same) standing in
+        subst (λ (xs : Nodes). AreStanding xs ss) (sym (cut d)) (subst (λ (xs : Rungs). AreStanding (swap_remove es i d) xs) (sym rungs) whole))
 
-    pub look_cut : IsDistinct bytes_eq (keys_of es) → (q : List ℕ) → lookup (bytes_eq q) (places_from fs ss) ≡ cond (bytes_eq n q) None (lookup (bytes_eq q) (places_from es rs))
-    look_cut distinct q = entry (λ p there same.
-        let e : List ℕ × Node = (p.0, p.1.node) in
-        let out : places_from fs ss ≡ swap_remove (places_from es rs) i p =
-        (λ j. places_from (cut e j) (rungs j))
-        ∙ places_cut es rs i e rung standing
-        ∙ ap (λ (r : Step × Standing). swap_remove (places_from es rs) i (p.0, place_with r.0 p.1.node)) same in
-        (swap_out bytes_eq nat_list_eq_equiv (bytes_eq n) (nat_list_eq_equiv.congr n) (places_from es rs) i p (ap (position (bytes_eq n)) (keys_from es rs standing) ∙ at) there
+    pub places_out : {P : Type 0} → ((p : List ℕ × Place) → slice_get (places_from es rs) i ≡ Some p → places_from fs ss ≡ swap_remove (places_from es rs) i p → P) → P
+    places_out then = entry (λ p there same.
+        let d : List ℕ × Node = (p.0, p.1.node) in
+        then p there
+        ((λ j. places_from (cut d j) (rungs j))
+        ∙ places_cut es rs i d rung standing
+        ∙ ap (λ (r : Step × Standing). swap_remove (places_from es rs) i (p.0, place_with r.0 p.1.node)) same))
+
+    pub look_cut : IsDistinct bytes_eq (keys_of es) → (n : List ℕ) → index_in (places_from es rs) n ≡ Some i → (q : List ℕ) → lookup (bytes_eq q) (places_from fs ss) ≡ cond (bytes_eq n q) None (lookup (bytes_eq q) (places_from es rs))
+    look_cut distinct n here q = places_out (λ p there out.
+        (swap_out bytes_eq nat_list_eq_equiv (bytes_eq n) (nat_list_eq_equiv.congr n) (places_from es rs) i p (index_position (places_from es rs) n ∙ here) there
         (distinct_from es rs standing distinct) (places_from fs ss) out).updated.0 q)
-
--- none out where a name has no place
-pub look_none : (es : Rows) (n : List ℕ) → lookup (bytes_eq n) es ≡ None → (q : List ℕ) → lookup (bytes_eq q) es ≡ cond (bytes_eq n q) None (lookup (bytes_eq q) es)
-look_none es n none q = by (bytes_eq n q) refl
-  where
-    by : (b : Bool) → bytes_eq n q ≡ b → lookup (bytes_eq q) es ≡ cond b None (lookup (bytes_eq q) es)
-    by true same = ap (λ (m : List ℕ). lookup (bytes_eq m) es) (sym (is_same n q same)) ∙ none
-    by false _ = refl

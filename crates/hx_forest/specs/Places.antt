@@ -6,7 +6,8 @@
 --     places_from, AreStanding    the places of nodes and of rungs in the same order, where each rung says how its node stands
 --     index_in, entry_in          where a name lies, and what lies there
 --     changed_at                  a place is another one
-use Rattle.std.specs.Prelude.{◌≡◌, ℕ, zero, suc, ◌+◌, Bool, true, false, not, ◌&&◌, cond, List, [], ◌∷◌, Option, Some, None, option_map, option_and_then, is_some, slice_get, refl}
+--     moved, IsCut                where something lies once one is gone and the last one has filled the gap;  so it is with places
+use Rattle.std.specs.Prelude.{◌≡◌, ℕ, zero, suc, ◌+◌, ◌==◌, Bool, true, false, not, ◌&&◌, cond, List, [], ◌∷◌, Option, Some, None, option_map, option_and_then, is_some, slice_get, length, if◌then◌else◌, refl}
 use Rattle.std.specs.Coded.{Coded, code_by, coded×, coded_list, coded_ℕ}
 use Rattle.std.specs.Str.{bytes_eq}
 use Rattle.hx_model.specs.contracts.node.Node as node
@@ -105,3 +106,12 @@ terminating p = record p { node = record (p.node) { terminating = true } }
 -- with another parent
 abbrev pub below : Option (List ℕ) → Place → Place
 below parent p = record p { node = record (p.node) { parent = parent } }
+
+-- where something lies once what lay at an index is gone, and the last one has filled the gap
+abbrev pub moved : ℕ → ℕ → ℕ → ℕ
+moved at last i = if i == last then at else i
+
+-- the place of a name at an index is gone so
+pub record IsCut (old new : List (List ℕ × Place)) (n : List ℕ) (at : ℕ) : Type 0 where
+  pub fewer : length new + 1 ≡ length old
+  pub places : (q : List ℕ) → index_in new q ≡ cond (bytes_eq n q) None (option_map (moved at (length new)) (index_in old q))

@@ -102,7 +102,7 @@ impl Forest {
         ensures names { result.now ≡ children_of self.now.nodes name.now }
         ensures order { IsAscending result.now }
     {
-        self.children.of(name)
+        self.children.of(self.nodes.index_of(name), name)
     }
 
     /// How many namespaces there are.
@@ -135,5 +135,17 @@ impl Forest {
             Some(node) => node.parent.as_ref(),
             None => None,
         }
+    }
+
+    /// Where a namespace lies. It may be a hint to what adds and takes away namespaces in the same order, and tells nothing else.
+    pub fn place_of(&self, name: &Text) -> Option<usize> {
+        self.nodes.index_of(name)
+    }
+
+    /// The same as [`node`](Forest::node). Where the hint is right, nothing is hashed.
+    pub fn node_near(&self, hint: Option<usize>, name: &Text) -> Option<&Node>
+        ensures { option_copied result ≡ node_of self.now.nodes name.now }
+    {
+        self.nodes.node_near(hint, name)
     }
 }

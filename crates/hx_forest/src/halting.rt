@@ -1,5 +1,6 @@
 // Why namespaces are halted.
 ghost use Rattle.std.specs.Prelude.{◌≡◌, ℕ, List, true, ◌+◌, ◌≤◌, false, Some, [], ◌∷◌, not, ◌&&◌, is_some, length, option_copied, IfSome};
+ghost use Rattle.std.specs.Map.{keys_of};
 ghost use Rattle.hx_model.specs.Cases.{is_leaving};
 ghost use Rattle.hx_model.specs.First.{so, first};
 ghost use Rattle.hx_model.specs.Forest.{own_halt_of, halt_of, is_live, parent_of};
@@ -83,6 +84,7 @@ impl Nodes {
         requires ways { AllLeadUp self.old }
         requires notes { AreNoted self.old }
         ensures nodes { forest_of self.new ≡ forest_of self.old }
+        ensures names { keys_of self.new.places.entries ≡ keys_of self.old.places.entries }
         ensures ways { AllLeadUp self.new }
         ensures notes { AreNoted self.new }
         ensures room { self.old.places.spare ≤ self.new.places.spare }

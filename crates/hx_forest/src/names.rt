@@ -37,6 +37,15 @@ impl Model for Names {
 }
 
 impl Names {
+    /// No names. It takes no memory.
+    pub(crate) fn new(alloc: Global) -> Names
+        ensures { result.names ≡ [] }
+    {
+        Names {
+            names: SmallVec::new(alloc),
+        }
+    }
+
     /// No names, with room for some.
     pub(crate) fn with_room(alloc: Global, room: usize) -> Result<Names, NoMemory>
         ensures names { IfOk result (λ n. n.names ≡ []) }

@@ -1,13 +1,13 @@
 // Nodes by the names of their namespaces.
-ghost use Rattle.std.specs.Prelude.{◌≡◌, ◌+◌, ◌<◌, ◌≤◌, ◌^◌, ℕ, List, true, false, is_some, Some, None, [], length, OnOk, IfSome, option_copied, option_map};
+ghost use Rattle.std.specs.Prelude.{◌≡◌, ◌+◌, ◌++◌, ◌<◌, ◌≤◌, ◌^◌, ℕ, List, true, false, is_some, Some, None, [], ◌∷◌, length, OnOk, IfSome, option_copied, option_map};
 ghost use Rattle.std.specs.List.{IsDistinct};
 ghost use Rattle.std.specs.Map.{keys_of};
 ghost use Rattle.std.specs.Option.{option_map_or};
 ghost use Rattle.std.specs.Str.{bytes_eq};
 ghost use Rattle.hx_model.specs.Forest.{halt_of, is_there, node_of, parent_of, with_parent};
 ghost use Rattle.hx_model.specs.ForestChanges.{with_node, with_terminating, without_node};
-ghost use Rattle.hx_forest.specs.Places.{Place, is_restless, standing_of};
-ghost use Rattle.hx_forest.specs.Ways.{forest_of, node_in, number_at, index_at, name_in, place_in, parent_in, IsAt, AllLeadUp};
+ghost use Rattle.hx_forest.specs.Places.{Place, IsCut, is_restless, standing_of};
+ghost use Rattle.hx_forest.specs.Ways.{forest_of, node_in, number_at, index_at, name_in, place_in, place_of, parent_in, IsAt, AllLeadUp};
 ghost use Rattle.hx_forest.specs.Notes.{AreNoted};
 
 use crate::steps::{Places, Standing, Step, Way};
@@ -69,6 +69,7 @@ impl Nodes {
     /// Makes room for `more`. Where no memory is left, the room stays.
     pub(crate) fn reserve(&mut self, more: usize) -> Result<(), NoMemory>
         ensures nodes { forest_of self.new ≡ forest_of self.old }
+        ensures names { keys_of self.new.places.entries ≡ keys_of self.old.places.entries }
         ensures ways { AllLeadUp self.old → AllLeadUp self.new }
         ensures notes { AreNoted self.old → AreNoted self.new }
         ensures room { OnOk result (more ≤ self.new.places.spare) }
@@ -81,6 +82,26 @@ impl Nodes {
         ensures { option_copied result ≡ node_of (forest_of self.now) name.now }
     {
         self.node_in(self.index_of(name))
+    }
+
+    /// The node of a namespace, which may lie at the index that is given.
+    pub(crate) fn node_near(&self, at: Option<usize>, name: &Text) -> Option<&Node>
+        ensures { option_copied result ≡ node_of (forest_of self.now) name.now }
+    {
+        if self.lies_at(at, name) {
+            return self.node_in(at);
+        }
+        self.node(name)
+    }
+
+    /// Whether a namespace lies at an index.
+    fn lies_at(&self, at: Option<usize>, name: &Text) -> bool
+        ensures { result ≡ true → place_in self.now at ≡ place_of self.now name.now }
+    {
+        match self.name_in(at) {
+            Some(found) => found.as_str() == name.as_str(),
+            None => false,
+        }
     }
 
     /// What a namespace names as its parent.
@@ -212,6 +233,7 @@ impl Nodes {
     /// Looks up the ways of namespaces anew: their parent has come, or has moved to another index. It takes no memory.
     pub(crate) fn find_ways(&mut self, names: &[Text])
         ensures nodes { forest_of self.new ≡ forest_of self.old }
+        ensures names { keys_of self.new.places.entries ≡ keys_of self.old.places.entries }
         ensures ways { AllLeadUp self.old → AllLeadUp self.new }
         ensures notes { AreNoted self.old → AreNoted self.new }
         ensures room { self.old.places.spare ≤ self.new.places.spare }
@@ -224,6 +246,7 @@ impl Nodes {
     /// Looks up the way of a namespace anew.
     fn find_way(&mut self, name: &Text)
         ensures nodes { forest_of self.new ≡ forest_of self.old }
+        ensures names { keys_of self.new.places.entries ≡ keys_of self.old.places.entries }
         ensures ways { AllLeadUp self.old → AllLeadUp self.new }
         ensures notes { AreNoted self.old → AreNoted self.new }
         ensures room { self.old.places.spare ≤ self.new.places.spare }
@@ -252,34 +275,37 @@ impl Nodes {
         }
     }
 
-    /// Adds a namespace. It takes no memory.
-    pub(crate) fn add(&mut self, name: Text, node: Node)
+    /// Adds a namespace, and gives back the index where it lies. It takes no memory.
+    pub(crate) fn add(&mut self, name: Text, node: Node) -> usize
         requires absent { is_there (forest_of self.old) name ≡ false }
         requires room { 1 ≤ self.old.places.spare }
         ensures nodes { forest_of self.new ≡ with_node name node (forest_of self.old) }
+        ensures names { keys_of self.new.places.entries ≡ keys_of self.old.places.entries ++ name ∷ [] }
+        ensures at { index_at self.new (Some name) ≡ Some result }
         ensures ways { AllLeadUp self.old → AllLeadUp self.new }
         ensures notes { AreNoted self.old → AreNoted self.new }
         ensures room { self.old.places.spare ≤ self.new.places.spare + 1 }
     {
+        let at = self.places.len();
         let up = self.way_to(node.parent.as_ref());
         let number = self.draw();
         self.stamp = stamp_after(self.stamp);
         let noted = 0;
         self.places.add(name, Step { number, up, noted }, node);
+        at
     }
 
-    /// Gives a namespace another parent, or none, and gives back the one that it had.
-    pub(crate) fn set_parent(&mut self, name: &Text, parent: Option<Text>) -> Option<Text>
-        requires { is_there (forest_of self.old) name.now ≡ true }
-        ensures nodes { forest_of self.new ≡ with_parent name.now parent (forest_of self.old) }
-        ensures old { result ≡ parent_of (forest_of self.old) name.now }
-        ensures ways { AllLeadUp self.old → AllLeadUp self.new }
-        ensures notes { AreNoted self.old → AreNoted self.new }
+    /// Gives the namespace at an index another parent, or none, and gives back the one that it had.
+    pub(crate) fn set_parent(&mut self, at: usize, parent: Option<Text>) -> Option<Text>
+        ensures nodes { (n : List ℕ) → index_at self.old (Some n) ≡ Some at → forest_of self.new ≡ with_parent n parent (forest_of self.old) }
+        ensures names { keys_of self.new.places.entries ≡ keys_of self.old.places.entries }
+        ensures old { result ≡ parent_in self.old (Some at) }
+        ensures ways { (n : List ℕ) → index_at self.old (Some n) ≡ Some at → AllLeadUp self.old → AllLeadUp self.new }
+        ensures notes { (n : List ℕ) → index_at self.old (Some n) ≡ Some at → AreNoted self.old → AreNoted self.new }
         ensures room { self.old.places.spare ≤ self.new.places.spare }
     {
         let up = self.way_to(parent.as_ref());
         self.stamp = stamp_after(self.stamp);
-        let at = self.index_of(name)?;
         let old = self.places.set_parent(at, parent);
         self.places.set_up(at, up);
         old
@@ -289,6 +315,7 @@ impl Nodes {
     pub(crate) fn set_terminating(&mut self, name: &Text)
         requires { is_there (forest_of self.old) name.now ≡ true }
         ensures nodes { forest_of self.new ≡ with_terminating name.now (forest_of self.old) }
+        ensures names { keys_of self.new.places.entries ≡ keys_of self.old.places.entries }
         ensures ways { AllLeadUp self.old → AllLeadUp self.new }
         ensures notes { AreNoted self.old → AreNoted self.new }
         ensures room { self.old.places.spare ≤ self.new.places.spare }
@@ -299,16 +326,17 @@ impl Nodes {
         }
     }
 
-    /// Takes a namespace out, and gives back the parent that it had.
-    pub(crate) fn remove(&mut self, name: &Text) -> Option<Text>
-        ensures nodes { forest_of self.new ≡ without_node name.now (forest_of self.old) }
-        ensures old { result ≡ parent_of (forest_of self.old) name.now }
-        ensures ways { AllLeadUp self.old → AllLeadUp self.new }
-        ensures notes { AreNoted self.old → AreNoted self.new }
+    /// Takes the namespace at an index out, and gives back the parent that it had.
+    pub(crate) fn remove(&mut self, at: usize) -> Option<Text>
+        ensures nodes { (n : List ℕ) → index_at self.old (Some n) ≡ Some at → forest_of self.new ≡ without_node n (forest_of self.old) }
+        ensures cut { (n : List ℕ) → index_at self.old (Some n) ≡ Some at → IsCut self.old.places.entries self.new.places.entries n at }
+        ensures old { result ≡ parent_in self.old (Some at) }
+        ensures ways { (n : List ℕ) → index_at self.old (Some n) ≡ Some at → AllLeadUp self.old → AllLeadUp self.new }
+        ensures notes { (n : List ℕ) → index_at self.old (Some n) ≡ Some at → AreNoted self.old → AreNoted self.new }
         ensures room { self.old.places.spare ≤ self.new.places.spare }
     {
         self.stamp = stamp_after(self.stamp);
-        self.places.remove(name)?.parent
+        self.places.remove(at)?.parent
     }
 
     /// Whether the namespace at an index is noted not to be halted.
@@ -325,6 +353,7 @@ impl Nodes {
     pub(crate) fn set_noted(&mut self, at: usize)
         requires { (n : List ℕ) × (index_at self.old (Some n) ≡ Some at) × (halt_of (forest_of self.old) n ≡ None) }
         ensures nodes { forest_of self.new ≡ forest_of self.old }
+        ensures names { keys_of self.new.places.entries ≡ keys_of self.old.places.entries }
         ensures ways { AllLeadUp self.old → AllLeadUp self.new }
         ensures notes { AreNoted self.old → AreNoted self.new }
         ensures room { self.old.places.spare ≤ self.new.places.spare }

@@ -3,7 +3,7 @@ ghost use Rattle.std.specs.Prelude.{◌≡◌, false, ◌+◌, ◌<◌, ◌≤�
 ghost use Rattle.std.specs.List.{IsDistinct};
 ghost use Rattle.std.specs.Map.{keys_of, lookup};
 ghost use Rattle.std.specs.Str.{bytes_eq};
-ghost use Rattle.hx_forest.specs.Places.{Place, place_with, step_of, standing_of, is_restless, one_if, index_in, entry_in, changed_at, with_up, with_noted, terminating, below};
+ghost use Rattle.hx_forest.specs.Places.{Place, place_with, step_of, standing_of, is_restless, one_if, index_in, entry_in, changed_at, IsCut, with_up, with_noted, terminating, below};
 
 use crate::children::{NameMap, map_by_name};
 use hx_model::Node;
@@ -167,13 +167,14 @@ impl Places {
         self.restless = one_more(self.restless, &standing);
     }
 
-    /// Takes a place out, and puts the last one where it lay. The node comes back.
-    pub(crate) fn remove(&mut self, name: &Text) -> Option<Node>
-        ensures node { result ≡ option_map (λ p. p.node) (lookup (bytes_eq name.now) self.old.entries) }
-        ensures entries { (q : List ℕ) → lookup (bytes_eq q) self.new.entries ≡ cond (bytes_eq name.now q) None (lookup (bytes_eq q) self.old.entries) }
+    /// Takes the place at an index out, and puts the last one where it lay. The node comes back.
+    pub(crate) fn remove(&mut self, at: usize) -> Option<Node>
+        ensures node { result ≡ option_map (λ e. e.1.node) (entry_in self.old.entries (Some at)) }
+        ensures entries { (n : List ℕ) → index_in self.old.entries n ≡ Some at → (q : List ℕ) → lookup (bytes_eq q) self.new.entries ≡ cond (bytes_eq n q) None (lookup (bytes_eq q) self.old.entries) }
+        ensures cut { (n : List ℕ) → index_in self.old.entries n ≡ Some at → IsCut self.old.entries self.new.entries n at }
         ensures room { self.old.spare ≤ self.new.spare }
     {
-        let (at, _, node) = self.nodes.swap_remove_full(name)?;
+        let (_, node) = self.nodes.swap_remove_index(at)?;
         let rung = self.rungs.swap_remove(at);
         self.restless = one_less(self.restless, &rung.1);
         Some(node)

@@ -1,7 +1,6 @@
-use Rattle.std.proofs.Common.{subst, ◌+◌, Option}
-use Rattle.hx_forest.specs.declared.children.Link.{Link}
-use Rattle.hx_forest.specs.Staged.{StartsEmpty}
+use Rattle.hx_forest.specs.Ways.{parent_in}
+use Rattle.hx_forest.proofs.Indexing.{within_lists}
 use Rattle.hx_forest.proofs.prepared.join.Goals as goal
 
-pub returns-in-Some-clause-fits : goal.returns-in-Some-clause-fits
-returns-in-Some-clause-fits c = λ k q starts fits. c.link.ensures.fits k q (subst (λ (o : Option Link). StartsEmpty (k + 1) o) c.in-Some.is starts).1 fits
+pub link-requires-clause-there : goal.link-requires-clause-there
+link-requires-clause-there c = within_lists c.args.nodes.now c.args.children.now (parent_in c.args.nodes.now c.args.at) c.above.result c.requires.tied c.above.ensures

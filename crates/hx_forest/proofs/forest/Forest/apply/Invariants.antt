@@ -1,6 +1,5 @@
 use Rattle.std.proofs.Common.{◌≡◌, []}
 use Rattle.std.specs.Vec.Iter.{into_iter_items}
-use Rattle.indexmap.specs.IndexMap.{spare}
 use Rattle.hx_forest.specs.Kept.{changed_by_all}
 use Rattle.hx_forest.specs.Ways.{forest_of, AllLeadUp}
 use Rattle.hx_forest.specs.Notes.{AreNoted}
@@ -13,7 +12,7 @@ abbrev pub invariant-loop-prepared : goal.invariant-loop-prepared
 invariant-loop-prepared l = record {
   nodes : changed_by_all (changes_of (into_iter_items l.prepared-iterator)) (forest_of l.self-inside.nodes) ≡ changed_by_all l.fn.self.staged l.fn.self.nodes;
   none : l.self-inside.staged.items ≡ [];
-  ready : IsReady (forest_of l.self-inside.nodes) l.self-inside.children.lists.entries l.self-inside.nodes.places.spare (spare l.self-inside.children.lists) (into_iter_items l.prepared-iterator);
+  ready : IsReady l.self-inside.nodes l.self-inside.children (into_iter_items l.prepared-iterator);
   ways : AllLeadUp l.self-inside.nodes;
   notes : AreNoted l.self-inside.nodes;
 }

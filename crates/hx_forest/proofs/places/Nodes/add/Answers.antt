@@ -1,10 +1,12 @@
-use Rattle.std.proofs.Common.{◌≡◌, ◌∙◌, Some, ap, subst, ℕ, ◌<◌, ◌≤◌, arith}
-use Rattle.std.specs.Map.{lookup}
+use Rattle.std.proofs.Common.{◌≡◌, ◌∙◌, ◌++◌, ◌∷◌, [], cond, length, Some, ap, sym, subst, ℕ, ◌<◌, ◌≤◌, arith}
+use Rattle.std.specs.Map.{keys_of, lookup}
 use Rattle.std.specs.Str.{bytes_eq}
 use Rattle.std.proofs.lemmas.Option.{same_Some}
-use Rattle.hx_forest.specs.Places.{Place}
+use Rattle.hx_forest.specs.Places.{Place, index_in}
 use Rattle.hx_forest.specs.Ways.{place_of, number_at}
 use Rattle.hx_forest.proofs.Placing.{look_added}
+use Rattle.hx_model.proofs.Climbing.{same_itself}
+use Rattle.hx_forest.proofs.Slots.{keys_push, index_push, index_none}
 use Rattle.hx_forest.proofs.Ways.{absent_place, put_nodes, ways_add, up_by_number}
 use Rattle.hx_forest.proofs.Notes.{notes_later}
 use Rattle.hx_forest.proofs.places.Nodes.add.Goals as goal
@@ -40,3 +42,11 @@ returns-clause-notes c =
     notes_later old (record { places = c.add.new.self; drawn = c.draw-number.new.self.drawn; stamp = c.stamp_after-self.result }) name (Some place) found
     (subst (λ (s : ℕ). 0 < c.stamp_after-self.result → (0 < s) × (s < c.stamp_after-self.result)) c.draw-number.ensures.stamp c.stamp_after-self.ensures)
     (λ p same pos. subst (λ (x : Place). x.noted ≤ old.stamp) (same_Some place p same) (omega arith))
+
+pub returns-clause-at : goal.returns-clause-at
+returns-clause-at c =
+    let old = c.args.self.now.places.entries in
+    let name = c.args.name in
+    let names : keys_of c.add.new.self.entries ≡ keys_of old ++ name ∷ [] = ap keys_of c.add.ensures.entries ∙ keys_push c.draw-number.new.self.places.entries name _ ∙ ap (λ m. keys_of m.entries ++ name ∷ []) c.draw-number.ensures.places in
+    index_push old c.add.new.self.entries name name names (index_none old name (absent_place c.args.self.now name c.requires.absent))
+    ∙ ap (λ b. cond b (Some (length old)) (index_in old name)) (same_itself name) ∙ ap Some (sym c.len-at.ensures.len)

@@ -2,6 +2,8 @@ use Rattle.std.proofs.Common.{◌≡◌, ◌∙◌, Option, Some, ap, sym, refl}
 use Rattle.std.specs.Prelude.{option_and_then}
 use Rattle.hx_forest.specs.Places.{Place, with_up}
 use Rattle.hx_forest.specs.Ways.{place_of, number_at, index_at, place_in, parent_in}
+use Rattle.std.specs.Map.{keys_of}
+use Rattle.hx_forest.proofs.Slots.{keys_changed}
 use Rattle.hx_forest.proofs.Ways.{place_at_name, up_by_number, ways_changed, nodes_same}
 use Rattle.hx_forest.proofs.Notes.{kept_changed}
 use Rattle.hx_forest.proofs.places.Nodes.find_way.Goals as goal
@@ -31,3 +33,6 @@ returns-clause-notes c = λ notes.
     let name = c.args.name.now in
     let at : index_at old (Some name) ≡ Some c.in-Some.at = sym c.index_of.ensures ∙ c.in-Some.is in
     kept_changed old (record old { places = c.set_up.new.self }) name c.in-Some.at (with_up c.way_to-up.result) at c.set_up.ensures.entries refl (returns-clause-nodes c) (notes.each name) notes
+
+pub returns-clause-names : goal.returns-clause-names
+returns-clause-names c = ap keys_of c.set_up.ensures.entries ∙ keys_changed (with_up c.way_to-up.result) c.in-Some.at c.args.self.now.places.entries

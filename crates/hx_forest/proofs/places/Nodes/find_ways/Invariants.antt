@@ -1,4 +1,5 @@
 use Rattle.std.proofs.Common.{◌≡◌, ◌≤◌}
+use Rattle.std.specs.Map.{keys_of}
 use Rattle.hx_forest.specs.Ways.{forest_of, AllLeadUp}
 use Rattle.hx_forest.specs.Notes.{AreNoted}
 use Rattle.hx_forest.proofs.places.Nodes.find_ways.Given as goal
@@ -7,6 +8,7 @@ use Rattle.hx_forest.proofs.places.Nodes.find_ways.Given as goal
 abbrev pub invariant-loop-name : goal.invariant-loop-name
 invariant-loop-name l = record {
   nodes : forest_of l.self ≡ forest_of l.initial.self;
+  names : keys_of l.self.places.entries ≡ keys_of l.initial.self.places.entries;
   ways : AllLeadUp l.initial.self → AllLeadUp l.self;
   notes : AreNoted l.initial.self → AreNoted l.self;
   room : l.initial.self.places.spare ≤ l.self.places.spare;

@@ -1,5 +1,7 @@
-use Rattle.std.proofs.Common.{refl, arith}
+use Rattle.std.proofs.Common.{◌∙◌, refl, ap, arith}
 use Rattle.hx_forest.specs.Places.{with_noted}
+use Rattle.std.specs.Map.{keys_of}
+use Rattle.hx_forest.proofs.Slots.{keys_changed}
 use Rattle.hx_forest.proofs.Ways.{ways_changed, nodes_same}
 use Rattle.hx_forest.proofs.Notes.{kept_changed}
 use Rattle.hx_forest.proofs.places.Nodes.set_noted.Goals as goal
@@ -20,3 +22,6 @@ returns-clause-notes c = λ notes.
     let old = c.args.self.now in
     kept_changed old (record old { places = c.set_noted.new.self }) c.requires.0 c.args.at (with_noted old.stamp) c.requires.1 c.set_noted.ensures.entries refl (returns-clause-nodes c)
     (λ p there pos. (omega arith, λ _. c.requires.2)) notes
+
+pub returns-clause-names : goal.returns-clause-names
+returns-clause-names c = ap keys_of c.set_noted.ensures.entries ∙ keys_changed (with_noted c.args.self.now.stamp) c.args.at c.args.self.now.places.entries

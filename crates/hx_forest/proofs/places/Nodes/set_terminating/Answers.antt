@@ -1,7 +1,9 @@
-use Rattle.std.proofs.Common.{◌≡◌, ◌∙◌, true, Some, sym, refl}
+use Rattle.std.proofs.Common.{◌≡◌, ◌∙◌, true, Some, sym, ap, refl}
 use Rattle.hx_model.specs.declared.node.Node.{Node}
 use Rattle.hx_forest.specs.Places.{terminating}
 use Rattle.hx_forest.specs.Ways.{index_at}
+use Rattle.std.specs.Map.{keys_of}
+use Rattle.hx_forest.proofs.Slots.{keys_changed}
 use Rattle.hx_forest.proofs.Ways.{among_indices, ways_changed, nodes_changed}
 use Rattle.hx_forest.proofs.Notes.{later_changed}
 use Rattle.hx_forest.proofs.places.Nodes.set_terminating.Goals as goal
@@ -33,3 +35,6 @@ returns-in_default-clause-nodes c = absurd (among_indices c.args.self.now c.args
 
 pub returns-in_default-clause-notes : goal.returns-in_default-clause-notes
 returns-in_default-clause-notes c = absurd (among_indices c.args.self.now c.args.name.now c.requires (sym c.index_of.ensures ∙ c.in_default.is))
+
+pub returns-in-Some-clause-names : goal.returns-in-Some-clause-names
+returns-in-Some-clause-names c = ap keys_of c.set_terminating.ensures.entries ∙ keys_changed terminating c.in-Some.at c.args.self.now.places.entries

@@ -1,40 +1,38 @@
-use Rattle.std.proofs.Common.{◌≡◌, ◌∙◌, Some, None, cond, position, option_map, length, ap, sym, arith}
-use Rattle.std.specs.Prelude.{vec_len}
-use Rattle.std.specs.Map.{keys_of, lookup}
+use Rattle.std.proofs.Common.{◌≡◌, ◌∙◌, ℕ, List, Some, None, cond, option_map, length, ap, sym, subst, arith}
+use Rattle.std.specs.Prelude.{slice_get, vec_len}
+use Rattle.std.specs.Map.{lookup}
 use Rattle.std.specs.Str.{bytes_eq}
 use Rattle.std.proofs.lemmas.Option.{slice_get-get_or}
-use Rattle.hx_forest.specs.Places.{Place, PlacesView, places_from}
-use Rattle.hx_forest.proofs.Placing.{look_nodes, none_nodes, look_none, look_cut, rung_placed, standing_out}
+use Rattle.hx_model.specs.declared.node.Node.{Node}
+use Rattle.hx_forest.specs.Places.{Place, PlacesView, places_from, index_in, IsCut}
+use Rattle.hx_forest.proofs.Placing.{distinct_from, nodes_from, look_cut, places_out, rung_placed, no_place, standing_out}
+use Rattle.hx_forest.proofs.Slots.{cut_out}
 use Rattle.hx_forest.proofs.Restless.{count_cut}
 use Rattle.hx_forest.proofs.steps.Places.remove.Goals as goal
 
-pub returns-in_err-at-clause-node : goal.returns-in_err-at-clause-node
-returns-in_err-at-clause-node c =
+pub returns-in_err-node-clause-node : goal.returns-in_err-node-clause-node
+returns-in_err-node-clause-node c =
     let es = c.self.inside.nodes.entries in
-    let rs = c.self.inside.rungs.items in
-    let n = c.args.name.now in
-    let none : lookup (bytes_eq n) es ≡ None = sym c.swap_remove_full.ensures.value ∙ ap (option_map (λ p. p.2)) c.in_err-at.was in
     c.from_residual.ensures
-    ∙ sym (ap (λ (v : PlacesView). option_map (λ (p : Place). p.node) (lookup (bytes_eq n) v.entries)) (sym c.self.view_is) ∙ ap (option_map (λ (p : Place). p.node)) (none_nodes es rs n c.self.invariant.0 none))
+    ∙ ap (option_map (λ (e : List ℕ × Node). e.1)) (sym c.in_err-node.was ∙ c.swap_remove_index.ensures.entry)
+    ∙ nodes_from es c.self.inside.rungs.items c.args.at c.self.invariant.0
+    ∙ ap (λ (v : PlacesView). option_map (λ (e : List ℕ × Place). e.1.node) (slice_get v.entries c.args.at)) c.self.view_is
 
-pub returns-in_err-at-clause-entries : goal.returns-in_err-at-clause-entries
-returns-in_err-at-clause-entries c = λ q.
-    let es = c.self.inside.nodes.entries in
-    let rs = c.self.inside.rungs.items in
-    let n = c.args.name.now in
-    let none : lookup (bytes_eq n) es ≡ None = sym c.swap_remove_full.ensures.value ∙ ap (option_map (λ p. p.2)) c.in_err-at.was in
-    let same : c.swap_remove_full.new.self.entries ≡ es = c.in_err-at.ensures.unchanged in
-    ap (λ xs. lookup (bytes_eq q) (places_from xs rs)) same
-    ∙ look_none (places_from es rs) n (none_nodes es rs n c.self.invariant.0 none) q
-    ∙ ap (λ (v : PlacesView). cond (bytes_eq n q) None (lookup (bytes_eq q) v.entries)) c.self.view_is
+pub returns-in_err-node-clause-entries : goal.returns-in_err-node-clause-entries
+returns-in_err-node-clause-entries c = λ n here.
+    let none : slice_get c.self.inside.nodes.entries c.args.at ≡ None = sym c.swap_remove_index.ensures.entry ∙ c.in_err-node.was in
+    absurd (no_place c.self.inside.nodes.entries c.self.inside.rungs.items c.args.at n c.self.invariant.0 none (ap (λ (v : PlacesView). index_in v.entries n) c.self.view_is ∙ here))
+
+pub returns-in_err-node-clause-cut : goal.returns-in_err-node-clause-cut
+returns-in_err-node-clause-cut c = λ n here.
+    let none : slice_get c.self.inside.nodes.entries c.args.at ≡ None = sym c.swap_remove_index.ensures.entry ∙ c.in_err-node.was in
+    absurd (no_place c.self.inside.nodes.entries c.self.inside.rungs.items c.args.at n c.self.invariant.0 none (ap (λ (v : PlacesView). index_in v.entries n) c.self.view_is ∙ here))
 
 pub swap_remove-rung-requires : goal.swap_remove-rung-requires
 swap_remove-rung-requires c =
     let es = c.self.inside.nodes.entries in
     let rs = c.self.inside.rungs.items in
-    let n = c.args.name.now in
-    let at : position (bytes_eq n) (keys_of es) ≡ Some c.in_ok-at.at = sym c.swap_remove_full.ensures.index ∙ ap (option_map (λ p. p.0)) c.in_ok-at.was in
-    let within = rung_placed es rs n c.in_ok-at.at c.self.invariant.0 at in
+    let within = rung_placed es rs c.args.at (c.in_ok-node.field-0-0, c.in_ok-node.node) c.self.invariant.0 (sym c.swap_remove_index.ensures.entry ∙ c.in_ok-node.was) in
     let long : vec_len c.self.inside.rungs ≡ length rs = c.self.inside.rungs.ok.0 in
     omega (arith, within, long)
 
@@ -42,28 +40,41 @@ pub invariant_of-self-2 : goal.invariant_of-self-2
 invariant_of-self-2 c =
     let es = c.self.inside.nodes.entries in
     let rs = c.self.inside.rungs.items in
-    let n = c.args.name.now in
-    let at : position (bytes_eq n) (keys_of es) ≡ Some c.in_ok-at.at = sym c.swap_remove_full.ensures.index ∙ ap (option_map (λ p. p.0)) c.in_ok-at.was in (
-      standing_out es rs n c.in_ok-at.at c.swap_remove-rung.result c.self.invariant.0 at c.swap_remove-rung.ensures.value c.swap_remove_full.new.self.entries c.swap_remove-rung.new.self.items c.swap_remove_full.ensures.entries c.swap_remove-rung.ensures.items,
-      c.swap_remove_full.ensures.unique,
-      count_cut rs c.swap_remove-rung.new.self.items c.in_ok-at.at c.swap_remove-rung.result c.self.inside.restless c.one_less-self-inside.result
-          (slice_get-get_or rs c.in_ok-at.at c.swap_remove-rung.result (rung_placed es rs n c.in_ok-at.at c.self.invariant.0 at) ∙ ap Some (sym c.swap_remove-rung.ensures.value)) c.swap_remove-rung.ensures.items c.self.invariant.2 c.one_less-self-inside.ensures,
+    let e : List ℕ × Node = (c.in_ok-node.field-0-0, c.in_ok-node.node) in
+    let at : slice_get es c.args.at ≡ Some e = sym c.swap_remove_index.ensures.entry ∙ c.in_ok-node.was in (
+      standing_out es rs c.args.at e c.swap_remove-rung.result c.self.invariant.0 at c.swap_remove-rung.ensures.value c.swap_remove_index.new.self.entries c.swap_remove-rung.new.self.items c.in_ok-node.ensures.entries c.swap_remove-rung.ensures.items,
+      c.swap_remove_index.ensures.unique,
+      count_cut rs c.swap_remove-rung.new.self.items c.args.at c.swap_remove-rung.result c.self.inside.restless c.one_less-self-inside.result
+          (slice_get-get_or rs c.args.at c.swap_remove-rung.result (rung_placed es rs c.args.at e c.self.invariant.0 at) ∙ ap Some (sym c.swap_remove-rung.ensures.value)) c.swap_remove-rung.ensures.items c.self.invariant.2 c.one_less-self-inside.ensures,
     )
 
 pub returns-clause-node : goal.returns-clause-node
 returns-clause-node c =
     let es = c.self.inside.nodes.entries in
-    let rs = c.self.inside.rungs.items in
-    let n = c.args.name.now in
-    let found : lookup (bytes_eq n) es ≡ Some c.in_ok-at.node = sym c.swap_remove_full.ensures.value ∙ ap (option_map (λ p. p.2)) c.in_ok-at.was in
-    sym found ∙ look_nodes es rs n c.self.invariant.0
-    ∙ ap (λ (v : PlacesView). option_map (λ (p : Place). p.node) (lookup (bytes_eq n) v.entries)) c.self.view_is
+    ap (option_map (λ (e : List ℕ × Node). e.1)) (sym c.in_ok-node.was ∙ c.swap_remove_index.ensures.entry)
+    ∙ nodes_from es c.self.inside.rungs.items c.args.at c.self.invariant.0
+    ∙ ap (λ (v : PlacesView). option_map (λ (e : List ℕ × Place). e.1.node) (slice_get v.entries c.args.at)) c.self.view_is
 
 pub returns-clause-entries : goal.returns-clause-entries
-returns-clause-entries c = λ q.
+returns-clause-entries c = λ n here q.
     let es = c.self.inside.nodes.entries in
     let rs = c.self.inside.rungs.items in
-    let n = c.args.name.now in
-    let at : position (bytes_eq n) (keys_of es) ≡ Some c.in_ok-at.at = sym c.swap_remove_full.ensures.index ∙ ap (option_map (λ p. p.0)) c.in_ok-at.was in
-    look_cut es rs n c.in_ok-at.at c.swap_remove-rung.result c.self.invariant.0 at c.swap_remove-rung.ensures.value c.swap_remove_full.new.self.entries c.swap_remove-rung.new.self.items c.swap_remove_full.ensures.entries c.swap_remove-rung.ensures.items c.self.invariant.1 q
+    let e : List ℕ × Node = (c.in_ok-node.field-0-0, c.in_ok-node.node) in
+    look_cut es rs c.args.at e c.swap_remove-rung.result c.self.invariant.0 (sym c.swap_remove_index.ensures.entry ∙ c.in_ok-node.was) c.swap_remove-rung.ensures.value c.swap_remove_index.new.self.entries c.swap_remove-rung.new.self.items
+    c.in_ok-node.ensures.entries c.swap_remove-rung.ensures.items c.self.invariant.1 n (ap (λ (v : PlacesView). index_in v.entries n) c.self.view_is ∙ here) q
     ∙ ap (λ (v : PlacesView). cond (bytes_eq n q) None (lookup (bytes_eq q) v.entries)) c.self.view_is
+
+pub returns-clause-cut : goal.returns-clause-cut
+returns-clause-cut c = λ n.
+    let es = c.self.inside.nodes.entries in
+    let rs = c.self.inside.rungs.items in
+    let fs = c.swap_remove_index.new.self.entries in
+    let ss = c.swap_remove-rung.new.self.items in
+    let e : List ℕ × Node = (c.in_ok-node.field-0-0, c.in_ok-node.node) in
+    let rung = c.swap_remove-rung.result in
+    let at : slice_get es c.args.at ≡ Some e = sym c.swap_remove_index.ensures.entry ∙ c.in_ok-node.was in
+    let standing = standing_out es rs c.args.at e rung c.self.invariant.0 at c.swap_remove-rung.ensures.value fs ss c.in_ok-node.ensures.entries c.swap_remove-rung.ensures.items in
+    subst (λ (v : PlacesView). index_in v.entries n ≡ Some c.args.at → IsCut v.entries (places_from fs ss) n c.args.at) c.self.view_is (λ here.
+    places_out es rs c.args.at e rung c.self.invariant.0 at c.swap_remove-rung.ensures.value fs ss c.in_ok-node.ensures.entries c.swap_remove-rung.ensures.items (λ p there out.
+    cut_out (places_from es rs) (places_from fs ss) n c.args.at p (distinct_from fs ss standing c.swap_remove_index.ensures.unique) here out
+    (look_cut es rs c.args.at e rung c.self.invariant.0 at c.swap_remove-rung.ensures.value fs ss c.in_ok-node.ensures.entries c.swap_remove-rung.ensures.items c.self.invariant.1 n here)))
