@@ -175,7 +175,7 @@ impl IndexedState {
         self.store.apply(version);
         self.forest.apply();
         self.owners.apply();
-        self.usage.apply();
+        self.usage.apply(&self.forest);
         self.counts = self.next;
     }
 

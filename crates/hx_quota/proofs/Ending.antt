@@ -1,12 +1,11 @@
 -- Walks up the parents that end at a namespace without one.
---     ends_on, ends_out, ends_top      a step of a walk: on, before a name that isn't there, past the last one
 --     free, chain_on         a walk that ends doesn't come round:  a chain is its namespace and the chain of the parent
 --     more, shorter          a walk that ends does so in more steps, and from those above
 --     there_by, parent_by    who is on it is there
 --     closed_all             where all walks end, all parents are there
 --     all_from               all walks end where all of those from places do
 use Rattle.std.specs.Prelude.{is_some, option_and_then}
-use Rattle.std.proofs.Common.{◌≡◌, ℕ, zero, suc, ◌-◌, ◌<◌, Bool, true, false, cond, ◌&&◌, Option, Some, None, List, [], ◌∷◌, length, refl, sym, ap, ◌∙◌, subst, arith, true≢false}
+use Rattle.std.proofs.Common.{◌≡◌, ℕ, zero, suc, Bool, true, false, cond, Option, Some, None, List, [], ◌∷◌, length, refl, sym, ap, ◌∙◌, subst, true≢false}
 use Rattle.std.specs.List.{list_all, IsDistinct}
 use Rattle.std.specs.Str.{bytes_eq}
 use Rattle.std.proofs.lemmas.Bool.{and_parts, and_from, false_from_ne_true}
@@ -24,24 +23,6 @@ use Rattle.hx_quota.specs.Anew.{all_ended}
 use Rattle.hx_quota.proofs.Moved.{behind}
 use Rattle.hx_quota.proofs.Placed.{entry_in, entry_at}
 use Rattle.hx_quota.proofs.UsedSums.{in_tree}
-
--- ---- steps
-
-pub ends_on : (left : ℕ) (f : Forest) (next : Option (List ℕ)) (n : List ℕ) (node : Node) → 0 < left → next ≡ Some n → node_of f n ≡ Some node → ends_by left f next ≡ ends_by (left - 1) f node.parent
-ends_on zero f next n node pos is found = let no : ⊥ = omega (arith, pos) in absurd no
-ends_on (suc left) f next n node pos is found = ap (λ o. ends_by (suc left) f o) is
-    ∙ (λ i. is_some (found i) && ends_by left f (option_and_then (λ node. node.parent) (found i)))
-    ∙ ap (λ k. ends_by k f node.parent) (one_less left)
-  where
-    one_less : (k : ℕ) → k ≡ suc k - 1
-    one_less k = omega arith
-
-pub ends_out : (left : ℕ) (f : Forest) (next : Option (List ℕ)) (n : List ℕ) → next ≡ Some n → is_there f n ≡ false → ends_by left f next ≡ false
-ends_out zero f next n is out = ap (λ o. ends_by 0 f o) is
-ends_out (suc left) f next n is out = ap (λ o. ends_by (suc left) f o) is ∙ ap (λ b. b && ends_by left f (parent_of f n)) out
-
-pub ends_top : (left : ℕ) (f : Forest) (next : Option (List ℕ)) → next ≡ None → ends_by left f next ≡ true
-ends_top left f next is = ap (λ o. ends_by left f o) is
 
 -- ---- a walk that ends doesn't come round
 

@@ -3,13 +3,13 @@
 --     IsUnderway                       the sums along a chain are adjusted, but for those of names that are left
 --     begun, more_of, ended            it is so at first, after a step, and at the end
 --     shorter_left, may_step           less is left after a step;  the next sums may be adjusted
---     parent_index, index_chain, index_walks, all_named, name_found, named_place, own_is   what is found by an index
+--     parent_index, all_named, named_place, own_is   what is found by an index
 --     ends_next                        whether walks from a place and from those behind it end
 --     sum_on, sum_on_le                what the first of some entries add, and one more
 --     may_add, added, passed_by        what a namespace has may be added, and then one more of the first places is in the sums, as it is where its walk has no end
 --     cleared_none                     where no place has sums
 --     all_added                        where all are in the sums, these are those of subtrees
-use Rattle.std.specs.Prelude.{is_some, option_and_then, slice_get, slice_index, sum_by, take, drop, get_or, position, IfSome}
+use Rattle.std.specs.Prelude.{is_some, option_and_then, slice_get, slice_index, sum_by, take, drop, get_or, IfSome}
 use Rattle.std.proofs.Common.{◌≡◌, ℕ, zero, suc, ◌+◌, ◌-◌, ◌<◌, ◌≤◌, ◌^◌, Bool, true, false, cond, not, ◌&&◌, Option, Some, None, option_map, List, [], ◌∷◌, length, replicate, refl, sym, ap, ◌∙◌, subst, arith, true≢false}
 use Rattle.std.specs.List.{IsDistinct, list_all}
 use Rattle.std.specs.Map.{keys_of}
@@ -23,26 +23,24 @@ use Rattle.std.proofs.lemmas.Map.Entries.{lookup_from_place}
 use Rattle.std.proofs.lemmas.Option.{none-some, same_Some, slice_get_within, slice_get-get_or, get_or_from_slice_get}
 use Rattle.hx_model.specs.Forest.{Forest, is_in, is_there, parent_of, chain_of, in_chain, tail_of}
 use Rattle.hx_model.specs.Moves.{chain_from}
-use Rattle.hx_model.specs.Walks.{walk_has}
 use Rattle.hx_model.specs.declared.node.Node.{Node}
 use Rattle.hx_model.specs.declared.resource.Resource.{Resource}
-use Rattle.hx_model.proofs.Climbing.{chain_above, is_same, same_itself}
+use Rattle.hx_model.proofs.Climbing.{chain_above, same_itself}
 use Rattle.hx_model.proofs.Opening.{chain_first}
-use Rattle.hx_model.proofs.Walking.{chain_missing}
 use Rattle.hx_quota.specs.Counters.{Entry}
 use Rattle.hx_quota.specs.PlaceRows.{Place, IsFoundAt}
 use Rattle.hx_quota.specs.Counters.{node_for, new_entry, tree_of, own_of, part_of, place_of, AllFit}
 use Rattle.hx_quota.specs.Inside.{Places, entries_from, entries_in, ordered, place_at, adjusted, MayAdjust, IsAdjusted, HasUsage, ends_by, ends_up}
-use Rattle.hx_quota.specs.Anew.{name_at, chain_at, chain_behind, walk_from, with_sums, cleared, HasFirst}
+use Rattle.hx_quota.specs.Anew.{name_at, chain_at, chain_behind, with_sums, cleared, HasFirst}
 use Rattle.hx_quota.proofs.Adjusting.{is_done, here_left, next_distinct, next_inside, may_now, adjusted_one, may_by, was_there}
 use Rattle.hx_quota.proofs.Deltas.{in_place}
 use Rattle.hx_quota.proofs.Ended.{ends_below, ends_chain}
 use Rattle.hx_quota.proofs.Ending.{chain_on, distinct_from, in_places, shorter}
 use Rattle.hx_quota.proofs.Fitting.{has_nothing, used_within}
-use Rattle.hx_quota.proofs.Indexed.{entry_index, found_index, entries_with, place_with, index_found, cleared_entries, cleared_first}
+use Rattle.hx_quota.proofs.Indexed.{entry_index, found_index, entries_with, place_with, cleared_entries, cleared_first}
 use Rattle.hx_quota.proofs.Placed.{entry_in, entry_at, same_count}
 use Rattle.hx_quota.proofs.Sums.{Pair, sum-entries}
-use Rattle.hx_quota.proofs.Trees.{node_of-tree, has_ended, has_out}
+use Rattle.hx_quota.proofs.Trees.{node_of-tree}
 
 abbrev Rows : Type 0
 Rows = List Pair
@@ -50,30 +48,25 @@ Rows = List Pair
 -- ---- the first name
 
 -- the name at the index of a place
-pub name_of : (es : Rows) (places : Places) → entries_in places ≡ es → (at : ℕ) (m : List ℕ) (p : Place) → slice_get places at ≡ Some (m, p) → name_at es at ≡ Some m
+name_of : (es : Rows) (places : Places) → entries_in places ≡ es → (at : ℕ) (m : List ℕ) (p : Place) → slice_get places at ≡ Some (m, p) → name_at es at ≡ Some m
 name_of es places same at m p is =
     ap (λ (xs : Rows). name_at xs at) (sym same) ∙ ap (λ (o : Option Pair). option_map (λ e. e.0) o) (entry_index places at ∙ ap (λ (o : Option (List ℕ × Place)). option_map (λ x. (x.0, x.1.entry)) o) is)
-
-pub no_name : (es : Rows) (places : Places) → entries_in places ≡ es → (at : ℕ) → slice_get places at ≡ None → chain_at es (Some at) ≡ []
-no_name es places same at none =
-    ap (λ (o : Option (List ℕ)). chain_from (tree_of (entries_from es)) o)
-    (ap (λ (xs : Rows). name_at xs at) (sym same) ∙ ap (λ (o : Option Pair). option_map (λ e. e.0) o) (entry_index places at ∙ ap (λ (o : Option (List ℕ × Place)). option_map (λ x. (x.0, x.1.entry)) o) none))
 
 module _ (es : Rows) (places : Places) (same : entries_in places ≡ es) (distinct : IsDistinct bytes_eq (keys_of es))
     (at : ℕ) (m : List ℕ) (p : Place) (is : slice_get places at ≡ Some (m, p)) where
   pub here : place_at places m ≡ Some p
   here = found_index places at m p (subst (λ (xs : Rows). IsDistinct bytes_eq (keys_of xs)) (sym same) distinct) is
 
-  pub here_there : is_there (tree_of (entries_from es)) m ≡ true
+  here_there : is_there (tree_of (entries_from es)) m ≡ true
   here_there = ap (λ (xs : Rows). is_there (tree_of (entries_from xs)) m) (sym same) ∙ in_places places m ∙ ap is_some here
 
   -- its chain begins with it
-  pub first_left : is_in m (chain_at es (Some at)) ≡ true
+  first_left : is_in m (chain_at es (Some at)) ≡ true
   first_left =
       let f = tree_of (entries_from es) in
       ap (λ (o : Option (List ℕ)). is_in m (chain_from f o)) (name_of es places same at m p is) ∙ ap (is_in m) (chain_first f m here_there) ∙ or_left (bytes_eq m m) (is_in m (tail_of (chain_of f m))) (same_itself m)
 
-  pub step_left : ends_up (tree_of (entries_from es)) m ≡ true → chain_at es (Some at) ≡ m ∷ chain_behind es at
+  step_left : ends_up (tree_of (entries_from es)) m ≡ true → chain_at es (Some at) ≡ m ∷ chain_behind es at
   step_left ends =
       let f = tree_of (entries_from es) in
       let name = name_of es places same at m p is in
@@ -117,7 +110,7 @@ module _ (take give : List ℕ) (was now : Places) (names : List (List ℕ)) whe
       whole false = refl
 
 -- the place whose sums are found at an index
-pub by_sums : (o : Option (List ℕ × Place)) (sums : List ℕ) → Some sums ≡ option_map (λ (e : List ℕ × Place). e.1.sums) o → (m : List ℕ) × (p : Place) × (o ≡ Some (m, p)) × (p.sums ≡ sums)
+by_sums : (o : Option (List ℕ × Place)) (sums : List ℕ) → Some sums ≡ option_map (λ (e : List ℕ × Place). e.1.sums) o → (m : List ℕ) × (p : Place) × (o ≡ Some (m, p)) × (p.sums ≡ sums)
 by_sums None sums is = absurd (none-some sums (sym is))
 by_sums (Some e) sums is = (e.0, e.1, refl, sym (same_Some sums e.1.sums is))
 
@@ -192,30 +185,6 @@ parent_index places at distinct = by (slice_get places at) refl
     by None is = no_parent places at is
     by (Some e) is = parent_is places at e.0 e.1 is (lookup_from_place nat_list_eq_equiv places at e.0 e.1 distinct is)
 
-key_index : (places : Places) (i : ℕ) → name_at (entries_in places) i ≡ slice_get (keys_of places) i
-key_index [] i = refl
-key_index (e ∷ places) zero = refl
-key_index (e ∷ places) (suc i) = key_index places i
-
-key_count : (xs : Places) → length (keys_of xs) ≡ length xs
-key_count [] = refl
-key_count (x ∷ xs) = ap (λ k. suc k) (key_count xs)
-
-index_name : (places : Places) (n : List ℕ) (i : ℕ) → Some i ≡ position (bytes_eq n) (keys_of places) → i < length places → name_at (entries_in places) i ≡ Some n
-index_name places n i is within = key_index places i ∙ index_found n (keys_of places) i (sym is) (let long = key_count places in omega (arith, within, long))
-
-pub index_chain : (places : Places) (n : List ℕ) (o : Option ℕ) → o ≡ position (bytes_eq n) (keys_of places) → is_some o ≡ is_some (place_at places n) → IfSome o (λ i. i < length places)
-    → chain_at (entries_in places) o ≡ chain_of (tree_of (ordered places)) n
-index_chain places n None is found within = sym (chain_missing (tree_of (ordered places)) n (in_places places n ∙ sym found))
-index_chain places n (Some i) is found within =
-    ap (λ (x : Option (List ℕ)). chain_from (tree_of (ordered places)) x) (index_name places n i is within)
-
-pub index_walks : (places : Places) (n : List ℕ) (o : Option ℕ) → o ≡ position (bytes_eq n) (keys_of places) → is_some o ≡ is_some (place_at places n) → IfSome o (λ i. i < length places)
-    → (left : ℕ) (a : List ℕ) → walk_from left places o a ≡ walk_has left (tree_of (ordered places)) (Some n) a
-index_walks places n None is found within left a =
-    has_ended left (tree_of (ordered places)) None a refl ∙ sym (has_out left (tree_of (ordered places)) (Some n) n a refl (in_places places n ∙ sym found))
-index_walks places n (Some i) is found within left a = ap (λ (x : Option (List ℕ)). walk_has left (tree_of (ordered places)) x a) (index_name places n i is within)
-
 -- what has a name at an index is there
 named_there : (places : Places) (at : ℕ) (m : List ℕ) → name_at (entries_in places) at ≡ Some m → is_some (place_at places m) ≡ true
 named_there [] at m is = absurd (none-some m is)
@@ -232,12 +201,7 @@ all_named places at = by (name_at (entries_in places) at) refl
     by None is = tt
     by (Some m) is = in_places places m ∙ named_there places at m is
 
--- the name is that of an index
-pub name_found : (o : Option (List ℕ)) (n : List ℕ) → option_map_or (λ m. bytes_eq m n) o false ≡ true → o ≡ Some n
-name_found None n h = absurd (true≢false (sym h))
-name_found (Some m) n h = ap Some (is_same m n h)
-
--- and its place lies there
+-- the place of a name lies where the name does
 pub named_place : (places : Places) (at : ℕ) (n : List ℕ) → IsDistinct bytes_eq (keys_of places) → name_at (entries_in places) at ≡ Some n → IsFoundAt places n (Some at)
 named_place places at n distinct named = by (slice_get places at) refl (sym (ap (λ (o : Option Pair). option_map (λ e. e.0) o) (entry_index places at)) ∙ named)
   where

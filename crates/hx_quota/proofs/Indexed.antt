@@ -2,6 +2,7 @@
 --     entry_index, found_index      the entry at an index is that of the place, which is found under its name
 --     entries_with, place_changed, place_with      entries and places where one is changed, and where it has other sums
 --     same_index                    a name lies at one index
+--     keys_changed, name_changed    names stay where a place is changed
 --     kept_sums                     sums that stay
 --     place_added                   a place that is added
 --     index_found                   the index of a name has that name
@@ -21,7 +22,7 @@ use Rattle.hx_model.proofs.Objects.{same_test, swap_tests}
 use Rattle.hx_quota.specs.PlaceRows.{Place}
 use Rattle.hx_quota.specs.Counters.{place_of}
 use Rattle.hx_quota.specs.Inside.{Places, place_at, entries_in, SameSums}
-use Rattle.hx_quota.specs.Anew.{changed_at, with_sums, cleared, HasFirst}
+use Rattle.hx_quota.specs.Anew.{changed_at, name_at, with_sums, cleared, HasFirst}
 use Rattle.hx_quota.proofs.Fitting.{has_nothing}
 use Rattle.hx_quota.proofs.Placed.{same_keys}
 
@@ -75,6 +76,19 @@ place_changed (suc at) change (e ∷ places) m p distinct is q =
 pub place_with : (at : ℕ) (sums : List ℕ) (places : Places) (m : List ℕ) (p : Place) → IsDistinct bytes_eq (keys_of (entries_in places)) → slice_get places at ≡ Some (m, p)
     → (q : List ℕ) → place_at (with_sums at sums places) q ≡ cond (bytes_eq m q) (Some (record p { sums = sums })) (place_at places q)
 place_with at sums places m p distinct is q = place_changed at (λ (x : Place). record x { sums = sums }) places m p (subst (λ (ks : List (List ℕ)). IsDistinct bytes_eq ks) (same_keys places) distinct) is q
+
+-- names stay
+pub keys_changed : (at : ℕ) (change : Place → Place) (places : Places) → keys_of (changed_at at change places) ≡ keys_of places
+keys_changed at change [] = refl
+keys_changed zero change (e ∷ places) = refl
+keys_changed (suc at) change (e ∷ places) = ap (λ ks. e.0 ∷ ks) (keys_changed at change places)
+
+pub name_changed : (at : ℕ) (change : Place → Place) (places : Places) (i : ℕ) → name_at (entries_in (changed_at at change places)) i ≡ name_at (entries_in places) i
+name_changed at change [] i = refl
+name_changed zero change (e ∷ places) zero = refl
+name_changed zero change (e ∷ places) (suc i) = refl
+name_changed (suc at) change (e ∷ places) zero = refl
+name_changed (suc at) change (e ∷ places) (suc i) = name_changed at change places i
 
 -- sums that stay where one place is changed
 pub kept_sums : (old new : Places) (n : List ℕ) (p w : Place) → place_at old n ≡ Some p → w.sums ≡ p.sums → ((q : List ℕ) → place_at new q ≡ cond (bytes_eq n q) (Some w) (place_at old q))

@@ -1,19 +1,19 @@
 -- Places whose parts lie in three lists.
 --     keys_joined, length_joined              names and length are those of the links
---     sums_joined, name_joined, parent_joined, own_entry, own_found, own_such      what is found at an index lies there in its list
+--     sums_joined, name_joined, up_joined, parent_joined, own_entry, own_found, own_such      what is found at an index lies there in its list
 --     item_found                              what is read at an index of a slice
---     found_joined, found_at                  what is found under a name
+--     found_keys, found_at                    what is found under a name
 --     joined_link, joined_own, joined_sums    a change at an index in one list is one of the place there
---     no_link, set_row, no_row                such changes of one list
+--     set_row, no_row                         such changes of one list
 --     table_linked, table_shifted             the lists stay equally long
 --     has_adjusted, none_adjusted             the sums at an index are adjusted
---     no_lookup, table_pushed, joined_push    a place that comes
---     place_out, links_out, place_absent, table_out      one that goes
+--     table_pushed, joined_push               a place that comes
+--     link_parent, place_out, links_out, distinct_out, place_absent, table_out      one that goes
 use Rattle.std.specs.Prelude.{is_some, option_and_then, position, slice_get, slice_set, swap_remove, take, get_or, IfSome}
-use Rattle.std.proofs.Common.{◌≡◌, ℕ, zero, suc, ◌+◌, ◌-◌, ◌<◌, ◌≤◌, true, false, cond, Option, Some, None, option_copied, option_map, List, [], ◌∷◌, ◌++◌, length, refl, sym, ap, subst, ◌∙◌, arith, true≢false}
+use Rattle.std.proofs.Common.{◌≡◌, ℕ, zero, suc, ◌+◌, ◌-◌, ◌<◌, ◌≤◌, ◌||◌, true, false, cond, Option, Some, None, option_copied, option_map, List, [], ◌∷◌, ◌++◌, length, refl, sym, ap, subst, ◌∙◌, arith, true≢false}
 use Rattle.std.specs.Borrow.{Bor}
-use Rattle.std.specs.List.{IsDistinct}
-use Rattle.std.specs.Map.{keys_of, values_of, lookup}
+use Rattle.std.specs.List.{IsDistinct, list_any}
+use Rattle.std.specs.Map.{keys_of, lookup}
 use Rattle.std.specs.Slice.{IsItemAt}
 use Rattle.std.specs.Str.{bytes_eq}
 use Rattle.std.proofs.lemmas.Cmp.{nat_list_eq_equiv}
@@ -25,7 +25,7 @@ use Rattle.indexmap.proofs.RemoveLemmas.{swap_out, none_out}
 use Rattle.hx_quota.specs.PlaceRows.{Place, Places, Link, Links, Rows, first_row, behind, place_of_parts, joined, changed_row, IsTable, place_at, new_place, IsFoundAt}
 use Rattle.hx_quota.specs.Counters.{Entry}
 use Rattle.hx_quota.specs.Inside.{entries_in}
-use Rattle.hx_quota.specs.Anew.{changed_at, name_at, with_sums, with_parent_at, HasAdjusted}
+use Rattle.hx_quota.specs.Anew.{changed_at, name_at, name_from, with_sums, with_parent_at, HasAdjusted}
 use Rattle.hx_quota.specs.SumRows.{AdjustsRow}
 use Rattle.hx_quota.proofs.Indexed.{index_found}
 
@@ -42,7 +42,7 @@ length_joined (e ∷ links) owns sums = ap (λ k. suc k) (length_joined links (b
 abbrev pub Row : Type 0
 Row = List ℕ × Place
 
-abbrev pub link_of : Place → Link
+abbrev link_of : Place → Link
 link_of p = p.entry.parent
 
 own_joined : (links : Links) (owns sums : Rows) → length owns ≡ length links → (at : ℕ) → option_map (λ (e : Row). e.1.entry.own) (slice_get (joined links owns sums) at) ≡ slice_get owns at
@@ -63,6 +63,12 @@ pub name_joined : (links : Links) (owns sums : Rows) (at : ℕ) → name_at (ent
 name_joined [] owns sums at = refl
 name_joined (e ∷ links) owns sums zero = refl
 name_joined (e ∷ links) owns sums (suc at) = name_joined links (behind owns) (behind sums) at
+
+-- the name at an index that may be none
+pub up_joined : (links : Links) (owns sums : Rows) (names : List (List ℕ)) → ((at : ℕ) → option_map (λ (e : List ℕ × Link). e.0) (slice_get links at) ≡ slice_get names at) → (up : Option ℕ)
+    → name_from (entries_in (joined links owns sums)) up ≡ option_and_then (slice_get names) up
+up_joined links owns sums names each None = refl
+up_joined links owns sums names each (Some at) = name_joined links owns sums at ∙ each at
 
 pub parent_joined : (links : Links) (owns sums : Rows) (at : ℕ) → option_and_then (λ (e : Row). e.1.entry.parent) (slice_get (joined links owns sums) at) ≡ option_and_then (λ (e : List ℕ × Link). e.1) (slice_get links at)
 parent_joined [] owns sums at = refl
@@ -95,20 +101,23 @@ own_such P links owns sums same at each own is = by (slice_get (joined links own
 
 -- ---- what is found under a name
 
-pub lookup_joined : (links : Links) (owns sums : Rows) (q : List ℕ) → option_map (λ (p : Place). link_of p) (place_at (joined links owns sums) q) ≡ lookup (bytes_eq q) links
+lookup_joined : (links : Links) (owns sums : Rows) (q : List ℕ) → option_map (λ (p : Place). link_of p) (place_at (joined links owns sums) q) ≡ lookup (bytes_eq q) links
 lookup_joined [] owns sums q = refl
 lookup_joined (e ∷ links) owns sums q = elim (bytes_eq q e.0) as (λ b. option_map (λ (p : Place). link_of p) (cond b (Some (place_of_parts e.1 (first_row owns) (first_row sums))) (place_at (joined links (behind owns) (behind sums)) q)) ≡ cond b (Some e.1) (lookup (bytes_eq q) links)) [
   | true ↦ refl
   | false ↦ lookup_joined links (behind owns) (behind sums) q
 ]
 
--- as many are found there
-pub found_joined : (links : Links) (owns sums : Rows) (q : List ℕ) → is_some (place_at (joined links owns sums) q) ≡ is_some (lookup (bytes_eq q) links)
-found_joined links owns sums q = sym (kept (place_at (joined links owns sums) q)) ∙ ap is_some (lookup_joined links owns sums q)
+-- as many are found there as there are such names
+pub found_keys : (links : Links) (owns sums : Rows) (names : List (List ℕ)) → keys_of links ≡ names → (q : List ℕ) → is_some (place_at (joined links owns sums) q) ≡ list_any (bytes_eq q) names
+found_keys links owns sums names same q = found_in (joined links owns sums) ∙ ap (list_any (bytes_eq q)) (keys_joined links owns sums ∙ same)
   where
-    kept : (o : Option Place) → is_some (option_map (λ (p : Place). link_of p) o) ≡ is_some o
-    kept None = refl
-    kept (Some p) = refl
+    found_in : (places : Places) → is_some (place_at places q) ≡ list_any (bytes_eq q) (keys_of places)
+    found_in [] = refl
+    found_in (e ∷ places) = elim (bytes_eq q e.0) as (λ b. is_some (cond b (Some e.1) (place_at places q)) ≡ (b || list_any (bytes_eq q) (keys_of places))) [
+      | true ↦ refl
+      | false ↦ found_in places
+    ]
 
 pub found_at : (places : Places) (n : List ℕ) (o : Option ℕ) → IsDistinct bytes_eq (keys_of places) → o ≡ position (bytes_eq n) (keys_of places) → is_some o ≡ is_some (place_at places n) → IfSome o (λ i. i < length places) → IsFoundAt places n o
 found_at places n None distinct is found within = nothing (place_at places n) (sym found)
@@ -166,11 +175,6 @@ length_linked [] at link = refl
 length_linked (e ∷ links) zero link = refl
 length_linked (e ∷ links) (suc at) link = ap (λ k. suc k) (length_linked links at link)
 
-pub no_link : (links : Links) (at : ℕ) (link : Link) → slice_get (values_of links) at ≡ None → links ≡ set_value_at links at link
-no_link [] at link none = refl
-no_link (e ∷ links) zero link none = absurd (none-some e.1 (sym none))
-no_link (e ∷ links) (suc at) link none = ap (λ xs. e ∷ xs) (no_link links at link none)
-
 pub table_linked : (links : Links) (owns sums : Rows) (at : ℕ) (link : Link) → IsTable links owns sums → IsTable (set_value_at links at link) owns sums
 table_linked links owns sums at link is = record {
   distinct = subst (λ (ks : List (List ℕ)). IsDistinct bytes_eq ks) (sym (keys_linked links at link)) is.distinct;
@@ -214,10 +218,6 @@ none_adjusted links owns sums at same none = nothing (slice_get (joined links ow
     nothing (Some e) h = absurd (none-some e.1.sums (sym h))
 
 -- ---- places that come and go
-
--- a name that no place has is that of no link
-pub no_lookup : (links : Links) (owns sums : Rows) (n : List ℕ) → place_at (joined links owns sums) n ≡ None → lookup (bytes_eq n) links ≡ None
-no_lookup links owns sums n none = sym (lookup_joined links owns sums n) ∙ ap (λ (o : Option Place). option_map (λ p. link_of p) o) none
 
 pub table_pushed : (links new : Links) (owns sums : Rows) (n : List ℕ) (link : Link) (own whole : List ℕ) → IsTable links owns sums → new ≡ links ++ (n, link) ∷ [] → IsDistinct bytes_eq (keys_of new) → IsTable new (owns ++ own ∷ []) (sums ++ whole ∷ [])
 table_pushed links new owns sums n link own whole is same distinct =
@@ -275,6 +275,14 @@ length_swap xs at x within =
     let same = length-set xs at last in
     omega (arith, within, cut, same)
 
+-- what is said of the parents of places holds of links
+pub link_parent : (links : Links) (owns sums : Rows) (n m : List ℕ) → ((p : Place) → place_at (joined links owns sums) m ≡ Some p → p.entry.parent ≡ Some n → ⊥) → (o : Link) → lookup (bytes_eq m) links ≡ Some o → o ≡ Some n → ⊥
+link_parent links owns sums n m none o found is = by (place_at (joined links owns sums) m) refl (lookup_joined links owns sums m ∙ found)
+  where
+    by : (w : Option Place) → place_at (joined links owns sums) m ≡ w → option_map (λ (p : Place). link_of p) w ≡ Some o → ⊥
+    by None there h = none-some o h
+    by (Some p) there h = none p there (same_Some (link_of p) o h ∙ is)
+
 module _ (links : Links) (owns sums : Rows) (is : IsTable links owns sums) (n : List ℕ) where
   joined_swap : (at : ℕ) → at < length links → (e : List ℕ × Link) (own whole : List ℕ) (row : Row) → joined (swap_remove links at e) (swap_remove owns at own) (swap_remove sums at whole) ≡ swap_remove (joined links owns sums) at row
   joined_swap at within e own whole row =
@@ -305,6 +313,10 @@ module _ (links : Links) (owns sums : Rows) (is : IsTable links owns sums) (n : 
   -- and the links
   pub links_out : (at : ℕ) → Some at ≡ position (bytes_eq n) (keys_of links) → (e : List ℕ × Link) → slice_get links at ≡ Some e → (q : List ℕ) → lookup (bytes_eq q) (swap_remove links at e) ≡ cond (bytes_eq n q) None (lookup (bytes_eq q) links)
   links_out at index e there q = (swap_out bytes_eq nat_list_eq_equiv (bytes_eq n) (nat_list_eq_equiv.congr n) links at e (sym index) there is.distinct (swap_remove links at e) refl).updated.0 q
+
+  -- no name of which is there twice
+  pub distinct_out : (at : ℕ) → Some at ≡ position (bytes_eq n) (keys_of links) → (e : List ℕ × Link) → slice_get links at ≡ Some e → IsDistinct bytes_eq (keys_of (swap_remove links at e))
+  distinct_out at index e there = (swap_out bytes_eq nat_list_eq_equiv (bytes_eq n) (nat_list_eq_equiv.congr n) links at e (sym index) there is.distinct (swap_remove links at e) refl).unique
 
   -- one that isn't there
   pub place_absent : None ≡ position (bytes_eq n) (keys_of links) → (q : List ℕ) → place_at (joined links owns sums) q ≡ cond (bytes_eq n q) None (place_at (joined links owns sums) q)

@@ -1,5 +1,5 @@
 -- The sums of places are those of subtrees after a change.
---     no_child, no_other_child                        whose parent one isn't
+--     no_other_child                                  whose parent one isn't
 --     summed_added, summed_removed, summed_moved      after one comes, goes or moves
 --     usage_set, usage_taken                          after one gets a parent from which no walk up ends
 --     closed_by_shift, closed_by_move                 all parents are there after one gets other sums, or another parent
@@ -28,7 +28,7 @@ use Rattle.hx_quota.proofs.Lasting.{ends_moved}
 use Rattle.hx_quota.proofs.Moved.{tree_moved, usage_kept, closed_moved}
 use Rattle.hx_quota.proofs.Placed.{entry_in, entry_at}
 use Rattle.hx_quota.proofs.Trees.{node_of-tree}
-use Rattle.hx_quota.proofs.UsedSums.{in_tree, out_of_tree, alone_apart, among_names, same_tree, used_absent, added_new, used_added, removed_new, used_removed}
+use Rattle.hx_quota.proofs.UsedSums.{in_tree, alone_apart, among_names, same_tree, used_absent, added_new, used_added, removed_new, used_removed}
 
 in_forest : (es : Entries) (o : Option (List ℕ)) → IfSome o (λ p. is_some (entry_of es p) ≡ true) → IfSome o (λ p. is_there (tree_of es) p ≡ true)
 in_forest es None h = tt
@@ -40,10 +40,6 @@ there_by_place places q p found = in_places places q ∙ ap is_some found
 
 parent_in : (places : Places) (m : List ℕ) (p : Place) → place_at places m ≡ Some p → parent_of (tree_of (ordered places)) m ≡ p.entry.parent
 parent_in places m p found = ap (λ (o : Option Node). option_and_then (λ node. node.parent) o) (node_of-tree (ordered places) m ∙ ap (λ (o : Option Entry). option_map node_for o) (entry_at places m ∙ ap entry_in found))
-
--- who isn't there is no parent
-pub no_child : (places : Places) (n : List ℕ) → AreClosed (ordered places) → entry_of (ordered places) n ≡ None → (m : List ℕ) (p : Place) → place_at places m ≡ Some p → p.entry.parent ≡ Some n → ⊥
-no_child places n closed absent m p found is = true≢false (sym (closed m n (parent_in places m p found ∙ is)) ∙ out_of_tree (ordered places) n absent)
 
 -- who has none below it is no other one's
 pub no_other_child : (places : Places) (n : List ℕ) → subtree_of (tree_of (ordered places)) n ≡ n ∷ [] → is_some (entry_of (ordered places) n) ≡ true → (m : List ℕ) (p : Place) → bytes_eq n m ≡ false → place_at places m ≡ Some p → p.entry.parent ≡ Some n → ⊥

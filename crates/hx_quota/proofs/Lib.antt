@@ -20,7 +20,7 @@ pub mod Joined
 pub mod Formed
 pub mod Reached
 pub mod Stepping
-pub mod Tied
+pub mod Linked
 pub mod Rounds
 pub mod Lasting
 pub mod Totals

@@ -1,5 +1,6 @@
 -- Entries of places, and what becomes of them.
 --     entry_at           the entry of a name is that of its place
+--     same_keys, same_count, same_length      there are as many, with the same names
 --     put_places, cut_places, changed_places      the entries in order, after a change of places
 --     same_places        the same entries
 --     adjusted_entries   sums that are adjusted leave them
@@ -33,6 +34,10 @@ same_keys (e ∷ places) = ap (λ ks. e.0 ∷ ks) (same_keys places)
 pub same_count : (places : Places) → length (entries_in places) ≡ length places
 same_count [] = refl
 same_count (e ∷ places) = ap (λ k. suc k) (same_count places)
+
+-- as many, where the entries are the same
+pub same_length : (new old : Places) → entries_in new ≡ entries_in old → length new ≡ length old
+same_length new old same = sym (same_count new) ∙ ap length same ∙ same_count old
 
 module _ (new old : Places) (n : List ℕ) where
   look : (w : Option Place) → ((q : List ℕ) → place_at new q ≡ cond (bytes_eq n q) w (place_at old q))

@@ -1,38 +1,30 @@
 -- Steps up by indices.
---     up_next                  the name at the index of a parent, or none, is where a walk goes on
---     up_chain, up_walks       the chain and the walks from it are those from the parent
---     target_here, target_other, target_out      whether an index is that of a name
-use Rattle.std.specs.Prelude.{is_some, option_and_then, slice_get}
-use Rattle.std.proofs.Common.{◌≡◌, ℕ, zero, suc, Bool, true, false, ◌&&◌, ◌||◌, Option, Some, None, option_map, List, refl, sym, ap, ◌∙◌, subst, true≢false}
+--     up_name, up_chain, up_walks      the name at the index of a parent, and the chain and the walks from it, are those of the parent
+--     ends_step, ends_there            whether a walk ends, step by step
+--     walk_above                       whether it passes a name
+--     target_here, target_other      whether an index is that of a name
+use Rattle.std.specs.Prelude.{is_some, option_and_then, slice_get, IfSome}
+use Rattle.std.proofs.Common.{◌≡◌, ℕ, zero, suc, ◌-◌, ◌<◌, true, false, not, ◌&&◌, Option, Some, None, option_map, List, length, refl, ap, ◌∙◌, arith}
 use Rattle.std.specs.List.{IsDistinct}
 use Rattle.std.specs.Map.{keys_of}
 use Rattle.std.specs.Option.{option_map_or}
 use Rattle.std.specs.Str.{bytes_eq}
 use Rattle.std.proofs.lemmas.Bool.{false_from_ne_true}
-use Rattle.hx_model.specs.Forest.{Forest, is_there, parent_of}
+use Rattle.hx_model.specs.Forest.{Forest, is_there, parent_of, in_chain}
 use Rattle.hx_model.specs.Moves.{chain_from}
 use Rattle.hx_model.specs.Walks.{walk_has}
 use Rattle.hx_model.proofs.Climbing.{is_same, same_itself}
-use Rattle.hx_model.proofs.Walking.{chain_missing}
-use Rattle.hx_quota.specs.PlaceRows.{Place, IsFoundAt, IsUp}
+use Rattle.hx_model.proofs.Walking.{walk_has_chain}
+use Rattle.hx_quota.specs.PlaceRows.{Place, IsFoundAt}
 use Rattle.hx_quota.specs.Counters.{Entry, tree_of}
-use Rattle.hx_quota.specs.Inside.{Places, entries_in, ordered, place_at}
-use Rattle.hx_quota.specs.Anew.{name_at, chain_at, chain_behind, walk_from, walk_behind}
-use Rattle.hx_quota.proofs.Ending.{in_places}
-use Rattle.hx_quota.proofs.Formed.{parent_index}
+use Rattle.hx_quota.specs.Inside.{Places, entries_in, ordered, ends_by}
+use Rattle.hx_quota.specs.Anew.{name_at, name_from, chain_at, chain_behind, walk_from, walk_behind}
+use Rattle.hx_quota.proofs.Formed.{parent_index, all_named}
 use Rattle.hx_quota.proofs.Indexed.{entry_index, same_index}
-use Rattle.hx_quota.proofs.Trees.{has_ended, has_out}
+use Rattle.hx_quota.proofs.Trees.{has_ended}
 
 abbrev Row : Type 0
 Row = List ℕ × Place
-
--- ---- the parent
-
--- a name at an index, and a step from there that comes to one that is there, or to none
-abbrev IsNext : Places → Option (List ℕ) → Option ℕ → Type 0
-IsNext places None up = up ≡ None
-IsNext places (Some q) None = place_at places q ≡ None
-IsNext places (Some q) (Some i) = name_at (entries_in places) i ≡ Some q
 
 name_row : (places : Places) (i : ℕ) → name_at (entries_in places) i ≡ option_map (λ (e : Row). e.0) (slice_get places i)
 name_row places i = ap (λ (o : Option (List ℕ × Entry)). option_map (λ e. e.0) o) (entry_index places i) ∙ either (slice_get places i)
@@ -41,56 +33,46 @@ name_row places i = ap (λ (o : Option (List ℕ × Entry)). option_map (λ e. e
     either None = refl
     either (Some e) = refl
 
-is_next : (places : Places) (o : Option (List ℕ)) (up : Option ℕ) → IsUp places o up → IsNext places o up
-is_next places None up is = is
-is_next places (Some q) None is = is
-is_next places (Some q) (Some i) is = name_row places i ∙ is
-
-chain_next : (places : Places) (o : Option (List ℕ)) (up : Option ℕ) → IsNext places o up → chain_at (entries_in places) up ≡ chain_from (tree_of (ordered places)) o
-chain_next places None up is = ap (chain_at (entries_in places)) is
-chain_next places (Some q) None is = sym (chain_missing (tree_of (ordered places)) q (in_places places q ∙ ap is_some is))
-chain_next places (Some q) (Some i) is = ap (chain_from (tree_of (ordered places))) is
-
-walks_next : (places : Places) (o : Option (List ℕ)) (up : Option ℕ) → IsNext places o up → (left : ℕ) (above : List ℕ) → walk_from left places up above ≡ walk_has left (tree_of (ordered places)) o above
-walks_next places None up is left above = ap (λ (u : Option ℕ). walk_from left places u above) is
-walks_next places (Some q) None is left above =
-    let f = tree_of (ordered places) in
-    has_ended left f None above refl ∙ sym (has_out left f (Some q) q above refl (in_places places q ∙ ap is_some is))
-walks_next places (Some q) (Some i) is left above = ap (λ (o : Option (List ℕ)). walk_has left (tree_of (ordered places)) o above) is
+-- ---- the parent
 
 module _ (places : Places) (at : ℕ) (up : Option ℕ) (distinct : IsDistinct bytes_eq (keys_of places))
-    (is : (n : List ℕ) (p : Place) → slice_get places at ≡ Some (n, p) → IsUp places p.entry.parent up) (absent : slice_get places at ≡ None → up ≡ None) where
-  abbrev parent : Option (List ℕ)
-  parent = option_and_then (parent_of (tree_of (ordered places))) (name_at (entries_in places) at)
-
-  next : IsNext places parent up
-  next = by (slice_get places at) refl
-    where
-      by : (o : Option Row) → slice_get places at ≡ o → IsNext places parent up
-      by None out = subst (λ (o : Option (List ℕ)). IsNext places o up) (ap (λ (o : Option Row). option_and_then (λ (e : Row). e.1.entry.parent) o) (sym out) ∙ parent_index places at distinct) (absent out)
-      by (Some e) here = subst (λ (o : Option (List ℕ)). IsNext places o up) (ap (λ (o : Option Row). option_and_then (λ (e : Row). e.1.entry.parent) o) (sym here) ∙ parent_index places at distinct) (is_next places e.1.entry.parent up (is e.0 e.1 here))
+    (is : name_from (entries_in places) up ≡ option_and_then (λ (e : Row). e.1.entry.parent) (slice_get places at)) where
+  pub up_name : name_from (entries_in places) up ≡ option_and_then (parent_of (tree_of (ordered places))) (name_at (entries_in places) at)
+  up_name = is ∙ parent_index places at distinct
 
   pub up_chain : chain_at (entries_in places) up ≡ chain_behind (entries_in places) at
-  up_chain = chain_next places parent up next
+  up_chain = ap (chain_from (tree_of (ordered places))) up_name
 
   pub up_walks : (left : ℕ) (above : List ℕ) → walk_from left places up above ≡ walk_behind left places at above
-  up_walks left above = walks_next places parent up next left above
+  up_walks left above = ap (λ (o : Option (List ℕ)). walk_has left (tree_of (ordered places)) o above) up_name
+
+-- a walk from an index goes on from that of the parent
+pub ends_step : (places : Places) (at : ℕ) (left : ℕ) → 0 < left
+    → ends_by left (tree_of (ordered places)) (name_at (entries_in places) at) ≡ ends_by (left - 1) (tree_of (ordered places)) (option_and_then (parent_of (tree_of (ordered places))) (name_at (entries_in places) at))
+ends_step places at left some_left = by left some_left (name_at (entries_in places) at) (all_named places at)
+  where
+    f : Forest
+    f = tree_of (ordered places)
+
+    by : (k : ℕ) → 0 < k → (o : Option (List ℕ)) → IfSome o (λ m. is_there f m ≡ true) → ends_by k f o ≡ ends_by (k - 1) f (option_and_then (parent_of f) o)
+    by k more None there = refl
+    by zero more (Some m) there = let no : ⊥ = omega (arith, more) in absurd no
+    by (suc k) more (Some m) there = ap (λ b. b && ends_by k f (parent_of f m)) there ∙ ap (λ j. ends_by j f (parent_of f m)) (one_less k)
+      where
+        one_less : (j : ℕ) → j ≡ suc j - 1
+        one_less j = omega arith
+
+-- one that has come to its last step ends where no namespace lies
+pub ends_there : (f : Forest) (o : Option (List ℕ)) → ends_by 0 f o ≡ not (is_some o)
+ends_there f None = refl
+ends_there f (Some m) = refl
+
+-- whether a walk passes a name
+pub walk_above : (f : Forest) (o : Option (List ℕ)) (above : List ℕ) → walk_has (length f) f o above ≡ option_map_or (λ p. in_chain f p above) o false
+walk_above f None above = has_ended (length f) f None above refl
+walk_above f (Some p) above = walk_has_chain f p above
 
 -- ---- the index of a name
-
--- no walk passes one that isn't there
-walk_absent : (left : ℕ) (f : Forest) (next : Option (List ℕ)) (a : List ℕ) → is_there f a ≡ false → walk_has left f next a ≡ false
-walk_absent zero f first a out = refl
-walk_absent (suc left) f None a out = refl
-walk_absent (suc left) f (Some n) a out = at (is_there f n) refl (bytes_eq n a) refl (walk_absent left f (parent_of f n) a out)
-  where
-    at : (b : Bool) → is_there f n ≡ b → (c : Bool) → bytes_eq n a ≡ c → walk_has left f (parent_of f n) a ≡ false → (is_there f n && (bytes_eq n a || walk_has left f (parent_of f n) a)) ≡ false
-    at false gone c same rest = λ i. gone i && (bytes_eq n a || walk_has left f (parent_of f n) a)
-    at true there true same rest = absurd (true≢false (sym there ∙ subst (λ (k : List ℕ). is_there f k ≡ false) (sym (is_same n a same)) out))
-    at true there false same rest = λ i. there i && (same i || rest i)
-
-pub target_out : (places : Places) (above : List ℕ) → place_at places above ≡ None → (left : ℕ) (first : Option ℕ) → walk_from left places first above ≡ false
-target_out places above none left first = walk_absent left (tree_of (ordered places)) (option_and_then (name_at (entries_in places)) first) above (in_places places above ∙ ap is_some none)
 
 module _ (places : Places) (above : List ℕ) (target : ℕ) (lies : IsFoundAt places above (Some target)) (at : ℕ) where
   pub target_here : at ≡ target → option_map_or (λ n. bytes_eq n above) (name_at (entries_in places) at) false ≡ true

@@ -1,6 +1,6 @@
 -- The forest of entries, and steps up in it.
 --     node_of-tree, tree_length         the node of a name, and how many there are
---     has_ended, goes_on, has_come, has_out      a step of a walk: at the end, on, at the name, before one that isn't there
+--     has_ended, goes_on, has_come      a step of a walk: at the end, on, at the name
 use Rattle.std.proofs.Common.{◌≡◌, ℕ, zero, suc, ◌-◌, ◌<◌, true, false, cond, ◌&&◌, ◌||◌, Option, Some, None, option_map, List, [], ◌∷◌, length, refl, sym, ap, ◌∙◌, arith, true≢false}
 use Rattle.std.specs.Prelude.{option_and_then, IfSome}
 use Rattle.std.specs.Option.{option_map_or}
@@ -43,8 +43,3 @@ pub has_come : (left : ℕ) (f : Forest) (next : Option (List ℕ)) (a : List �
 has_come zero f next a pos same there = nothing_left pos
 has_come (suc left) f None a pos same there = absurd (true≢false (sym same))
 has_come (suc left) f (Some n) a pos same there = λ i. there i && (same i || walk_has left f (parent_of f n) a)
-
--- it doesn't go on from a name that isn't there
-pub has_out : (left : ℕ) (f : Forest) (next : Option (List ℕ)) (n a : List ℕ) → next ≡ Some n → is_there f n ≡ false → walk_has left f next a ≡ false
-has_out zero f next n a is out = refl
-has_out (suc left) f next n a is out = ap (λ o. walk_has (suc left) f o a) is ∙ ap (λ b. b && (bytes_eq n a || walk_has left f (parent_of f n) a)) out

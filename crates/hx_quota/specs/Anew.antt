@@ -1,6 +1,7 @@
 -- Sums over subtrees that are formed anew, namespace by namespace.
 --     all_ended             all walks up the parents from places end at a namespace without one
---     name_at, chain_at     the name at an index of entries, and its chain
+--     name_at, name_from, named      the name at an index of entries, at one that may be none, and at one that is there
+--     chain_at              the chain of the name at an index
 --     chain_behind          that of its parent
 --     walk_from, walk_behind      whether a walk up from an index passes a name, and one from its parent
 --     changed_at            places with a change at an index:
@@ -8,7 +9,7 @@
 --     cleared               places with no sums
 --     HasAdjusted           the sums at an index are adjusted
 --     HasFirst              the sums of places from which the walk up ends are those of subtrees, as far as the first places are in them
-use Rattle.std.specs.Prelude.{◌≡◌, ℕ, zero, suc, ◌<◌, Bool, true, List, [], ◌∷◌, map, replicate, sum_by, take, Option, Some, option_and_then, option_map, slice_get, slice_index}
+use Rattle.std.specs.Prelude.{◌≡◌, ℕ, zero, suc, ◌<◌, Bool, true, List, [], ◌∷◌, map, replicate, sum_by, take, Option, Some, option_and_then, option_map, unwrap_or, slice_get, slice_index}
 use Rattle.std.specs.List.{list_all}
 use Rattle.hx_model.specs.Forest.{parent_of}
 use Rattle.hx_model.specs.Moves.{chain_from}
@@ -21,6 +22,14 @@ use Rattle.hx_quota.specs.Inside.{Place, Places, adjusted, entries_from, entries
 -- the name at an index
 abbrev pub name_at : List (List ℕ × Entry) → ℕ → Option (List ℕ)
 name_at es at = option_map (λ e. e.0) (slice_get es at)
+
+-- the name at an index that may be none
+abbrev pub name_from : List (List ℕ × Entry) → Option ℕ → Option (List ℕ)
+name_from es at = option_and_then (name_at es) at
+
+-- the name at an index that is there
+abbrev pub named : List (List ℕ × Entry) → ℕ → List ℕ
+named es at = unwrap_or (name_at es at) []
 
 -- the chain of the namespace at an index, where there is one
 abbrev pub chain_at : List (List ℕ × Entry) → Option ℕ → List (List ℕ)

@@ -2,14 +2,16 @@
 --     Place, Places            what is kept of a namespace;  of all, under their names, in the order in which it lies
 --     PlacesView               the places, and how many more fit without taking memory
 --     new_place                the place of a namespace that comes
+--     linked                   names with those of their parents, which lie at indices
 --     joined                   the places whose parts lie in three lists
---     IsUp                     the index of a parent
---     AreTied                  the indices of parents
---     relinked                 an index where one lies that lay at another
+--     placed                   those of names, the indices of parents, and rows
 --     changed_row              rows with one changed
 --     IsTable                  these are equally long, and names are distinct
+--     UpsView, most_places     the indices of parents, and the room;  the most places
+--     AreUps                   indices of parents, each below the number of names
+--     relinked                 an index where one lies that lay at another
 --     IsFoundAt                the place of a name lies at an index, or it has none
-use Rattle.std.specs.Prelude.{◌≡◌, ℕ, zero, suc, nat_eq, List, [], ◌∷◌, length, replicate, slice_get, Option, Some, None, option_map, if◌then◌else◌, refl}
+use Rattle.std.specs.Prelude.{◌≡◌, ℕ, zero, suc, ◌<◌, nat_eq, List, [], ◌∷◌, length, replicate, slice_get, Option, Some, None, option_and_then, IfSome, if◌then◌else◌, refl}
 use Rattle.std.specs.Coded.{Coded, code_by, coded×, coded_list, coded_ℕ}
 use Rattle.std.specs.List.{IsDistinct}
 use Rattle.std.specs.Map.{keys_of, lookup}
@@ -56,6 +58,27 @@ Links = List (List ℕ × Link)
 abbrev pub Rows : Type 0
 Rows = List (List ℕ)
 
+abbrev pub Names : Type 0
+Names = List (List ℕ)
+
+-- the indices of parents
+abbrev pub Ups : Type 0
+Ups = List (Option ℕ)
+
+-- the first index, and those behind it
+abbrev pub first_up : Ups → Option ℕ
+first_up [] = None
+first_up (up ∷ ups) = up
+
+abbrev pub ups_behind : Ups → Ups
+ups_behind [] = []
+ups_behind (up ∷ ups) = ups
+
+-- names with those of their parents, which lie at indices among names
+abbrev pub linked : Names → Names → Ups → Links
+linked among [] ups = []
+linked among (n ∷ names) ups = (n, option_and_then (slice_get among) (first_up ups)) ∷ linked among names (ups_behind ups)
+
 -- the first row, and those behind it
 abbrev pub first_row : Rows → List ℕ
 first_row [] = []
@@ -73,6 +96,10 @@ place_of_parts link own sums = record { entry = record { parent = link; own = ow
 abbrev pub joined : Links → Rows → Rows → Places
 joined [] owns sums = []
 joined (e ∷ links) owns sums = (e.0, place_of_parts e.1 (first_row owns) (first_row sums)) ∷ joined links (behind owns) (behind sums)
+
+-- those of names, the indices of their parents, and rows
+abbrev pub placed : Names → Ups → Rows → Rows → Places
+placed names ups owns sums = joined (linked names names ups) owns sums
 
 -- with the row at an index changed
 abbrev pub changed_row : ℕ → (List ℕ → List ℕ) → Rows → Rows
@@ -93,18 +120,18 @@ IsFoundAt places n (Some at) = (p : Place) × (slice_get places at ≡ Some (n, 
 
 -- ---- where parents lie
 
--- the index of a parent, and none where there is no parent or it isn't there
-abbrev pub IsUp : {X : Type 0} → List (List ℕ × X) → Option (List ℕ) → Option ℕ → Type 0
-IsUp es None up = up ≡ None
-IsUp es (Some q) None = lookup (bytes_eq q) es ≡ None
-IsUp es (Some q) (Some at) = option_map (λ e. e.0) (slice_get es at) ≡ Some q
+-- the indices of parents, and how many more there is room for
+pub record UpsView : Type 0 where
+  pub items : Ups
+  pub spare : ℕ
 
--- the indices, among others, of the parents of links
-abbrev pub AreTied : Links → Links → List (Option ℕ) → Type 0
-AreTied among [] [] = Unit {0}
-AreTied among [] (up ∷ ups) = ⊥
-AreTied among (e ∷ links) [] = ⊥
-AreTied among (e ∷ links) (up ∷ ups) = IsUp among e.1 up × AreTied among links ups
+-- the most places, so that their indices have 32 bits
+abbrev pub most_places : ℕ
+most_places = 4_294_967_296
+
+-- an index for each name, or none, each below their number
+abbrev pub AreUps : Names → Ups → Type 0
+AreUps names ups = (length ups ≡ length names) × ((k : ℕ) (up : Option ℕ) → slice_get ups k ≡ Some up → IfSome up (λ i. i < length names))
 
 -- an index, where one lies that lay at another
 abbrev pub relinked : ℕ → ℕ → Option ℕ → Option ℕ

@@ -8,13 +8,16 @@ ghost use Rattle.hx_quota.specs.SubtreeUsage.{HasTotals, IsReady};
 use crate::change::CounterChange;
 use crate::counters::Counters;
 use crate::entry::{Delta, place_of};
+use crate::ledger::Hints;
 use crate::shifting::shift;
-use hx_object::NoMemory;
+use hx_forest::Forest;
+use hx_object::{NoMemory, Text};
 
-/// Makes changes, the first one first. It takes no memory.
+/// Makes changes, the first one first. It takes no memory. The forest hints at where namespaces lie.
 pub(crate) fn make_all(
     counters: &mut Counters,
     totals: &mut [u128; 15],
+    forest: &Forest,
     changes: Vec<CounterChange>,
 )
     requires { IsReady counters.old totals.old changes.items }
@@ -22,12 +25,12 @@ pub(crate) fn make_all(
     ensures ready { IsReady counters.new totals.new [] }
 {
     for change in changes {
-        make(counters, totals, change);
+        make(counters, totals, forest, change);
     }
 }
 
 /// Makes a change. It takes no memory.
-fn make(counters: &mut Counters, totals: &mut [u128; 15], change: CounterChange)
+fn make(counters: &mut Counters, totals: &mut [u128; 15], forest: &Forest, change: CounterChange)
     requires regular { AreRegular counters.old.entries }
     requires totals { HasTotals totals.old counters.old.entries }
     requires may { MayChange change counters.old.entries }
@@ -38,12 +41,27 @@ fn make(counters: &mut Counters, totals: &mut [u128; 15], change: CounterChange)
 {
     match change {
         CounterChange::Add { name } => counters.add(name),
-        CounterChange::Move { moved, parent } => counters.move_under(&moved, parent),
+        CounterChange::Move { moved, parent } => {
+            let hints = hints_of(forest, &moved, parent.as_ref());
+            counters.move_under(hints, &moved, parent.as_ref());
+        }
         CounterChange::Shift { ns, deltas } => {
             shift(totals, deltas.as_slice());
-            counters.shift_at(&ns, deltas.as_slice());
+            counters.shift_at(forest.place_of(&ns), &ns, deltas.as_slice());
         }
         CounterChange::Remove { name } => counters.remove(&name),
+    }
+}
+
+/// Where a namespace that is moved, and its new parent, may lie. The forest adds namespaces, and takes them out, in the same order as the counters.
+fn hints_of(forest: &Forest, moved: &Text, parent: Option<&Text>) -> Hints {
+    let parent = match parent {
+        Some(parent) => forest.place_of(parent),
+        None => None,
+    };
+    Hints {
+        moved: forest.place_of(moved),
+        parent,
     }
 }
 

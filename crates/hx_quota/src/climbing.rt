@@ -1,42 +1,34 @@
 // Walks up the places by their indices, and sums that are adjusted along them.
-ghost use Rattle.std.specs.Prelude.{◌≡◌, ℕ, ◌≤◌, true, false, Some, None, is_some, IfSome, List, length, option_copied, option_and_then};
+ghost use Rattle.std.specs.Prelude.{◌≡◌, ℕ, ◌<◌, ◌≤◌, not, true, Some, is_some, IfSome, List, length, option_copied, option_and_then};
 ghost use Rattle.std.specs.List.{IsDistinct};
 ghost use Rattle.std.specs.Map.{keys_of};
-ghost use Rattle.std.specs.Option.{option_map_or};
 ghost use Rattle.std.specs.Str.{bytes_eq};
-ghost use Rattle.hx_model.specs.Forest.{is_in, parent_of, chain_of};
-ghost use Rattle.hx_model.specs.Moves.{chain_from};
-ghost use Rattle.hx_model.specs.Walks.{walk_has};
+ghost use Rattle.hx_model.specs.Forest.{is_in, parent_of};
 ghost use Rattle.hx_quota.specs.Counters.{entry_of, tree_of, with_parent, AllFit};
-ghost use Rattle.hx_quota.specs.PlaceRows.{Place, place_at, IsFoundAt};
+ghost use Rattle.hx_quota.specs.PlaceRows.{Place, place_at};
 ghost use Rattle.hx_quota.specs.Inside.{entries_in, ordered, MayAdjust, IsAdjusted, HasUsage, IsFree, ends_by, ends_up};
-ghost use Rattle.hx_quota.specs.Anew.{name_at, chain_at, chain_behind, walk_from, walk_behind};
+ghost use Rattle.hx_quota.specs.Anew.{name_at, name_from, named, chain_at, chain_behind, walk_from, walk_behind};
 
 use crate::place_table::PlaceTable;
 use crate::places::Change;
 use hx_object::Text;
 
-/// Takes the sums of a namespace that gets another parent from the namespaces above it to those above that one. The walks up end then as before. It takes no memory.
-pub(crate) fn take_over(places: &mut PlaceTable, moved: &Text, parent: Option<&Text>)
-    requires there { is_some (entry_of (ordered places.old.entries) moved.now) ≡ true }
-    requires given { IfSome (option_copied parent) (λ p. is_some (entry_of (ordered places.old.entries) p) ≡ true) }
-    requires ended { ends_up (tree_of (ordered places.old.entries)) moved.now ≡ true }
-    requires ends { ends_by (length (tree_of (ordered places.old.entries))) (tree_of (ordered places.old.entries)) (option_copied parent) ≡ true }
-    requires open { IsFree (tree_of (ordered places.old.entries)) moved.now (option_copied parent) }
+/// Takes the sums of the namespace at an index, which gets another parent, from the namespaces above it to those above that one. The walks up end then as before. It takes no memory.
+pub(crate) fn take_over(places: &mut PlaceTable, at: usize, up: Option<usize>)
+    requires within { at < length places.old.entries }
+    requires ended { ends_up (tree_of (ordered places.old.entries)) (named (entries_in places.old.entries) at) ≡ true }
+    requires ends { ends_by (length (tree_of (ordered places.old.entries))) (tree_of (ordered places.old.entries)) (name_from (entries_in places.old.entries) up) ≡ true }
+    requires open { IsFree (tree_of (ordered places.old.entries)) (named (entries_in places.old.entries) at) (name_from (entries_in places.old.entries) up) }
     requires fits { AllFit (ordered places.old.entries) }
     requires summed { HasUsage places.old.entries (ordered places.old.entries) }
-    ensures entries { ordered places.new.entries ≡ ordered places.old.entries }
-    ensures sums { HasUsage places.new.entries (with_parent moved.now (option_copied parent.entry) (ordered places.old.entries)) }
+    ensures entries { entries_in places.new.entries ≡ entries_in places.old.entries }
+    ensures sums { HasUsage places.new.entries (with_parent (named (entries_in places.old.entries) at) (name_from (entries_in places.old.entries) up) (ordered places.old.entries)) }
     ensures room { places.old.spare ≤ places.new.spare }
 {
-    let Some(at) = index_of(places, moved) else {
-        return;
-    };
     let Some(sums) = places.sums_at(at) else {
         return;
     };
     let from = parent_index(places, at);
-    let to = index_from(places, parent);
     let off = Change {
         take: sums,
         give: [0; 15],
@@ -46,7 +38,7 @@ pub(crate) fn take_over(places: &mut PlaceTable, moved: &Text, parent: Option<&T
         give: sums,
     };
     adjust_up(places, from, &off);
-    adjust_up(places, to, &on);
+    adjust_up(places, up, &on);
 }
 
 /// Changes the sums of the namespace at an index, and of all above it. It takes no memory. Where nothing changes, it looks at none.
@@ -77,13 +69,11 @@ fn changes_nothing(change: &Change) -> bool
     change.take == change.give
 }
 
-/// Whether the walk up from an index, where there is one, comes to a namespace.
-pub(crate) fn passes(places: &PlaceTable, first: Option<usize>, above: &Text) -> bool
-    ensures { result ≡ walk_from (length (tree_of (ordered places.now.entries))) places.now.entries first above.now }
+/// Whether the walk up from an index, where there is one, comes to another one.
+pub(crate) fn passes(places: &PlaceTable, first: Option<usize>, target: usize) -> bool
+    requires { target < length places.now.entries }
+    ensures { result ≡ walk_from (length (tree_of (ordered places.now.entries))) places.now.entries first (named (entries_in places.now.entries) target) }
 {
-    let Some(target) = places.index_of(above) else {
-        return false;
-    };
     let mut next = first;
     let mut left = count(places);
     while left > 0 {
@@ -99,25 +89,30 @@ pub(crate) fn passes(places: &PlaceTable, first: Option<usize>, above: &Text) ->
     false
 }
 
-/// Whether the walk up from a name, where there is one, ends at a namespace without a parent. It is at most as long as there are namespaces.
-pub(crate) fn ends(places: &PlaceTable, first: Option<&Text>) -> bool
-    ensures { result ≡ ends_by (length (tree_of (ordered places.now.entries))) (tree_of (ordered places.now.entries)) (option_copied first.entry) }
+/// Whether the walk up from an index, where there is one, ends at a namespace without a parent. It is at most as long as there are namespaces.
+pub(crate) fn ends(places: &PlaceTable, first: Option<usize>) -> bool
+    ensures { result ≡ ends_by (length (tree_of (ordered places.now.entries))) (tree_of (ordered places.now.entries)) (name_from (entries_in places.now.entries) first) }
 {
     let mut next = first;
-    let mut near = 0;
     let mut left = count(places);
     while left > 0 {
         left -= 1;
-        let Some(member) = next else {
+        let Some(at) = next else {
             return true;
         };
-        let Some(at) = index_near(places, near, member) else {
-            return false;
-        };
-        next = places.parent_at(at);
-        near = places.up_at(at).unwrap_or(0);
+        next = parent_index(places, at);
     }
-    next.is_none()
+    is_past(places, next)
+}
+
+/// Whether no namespace lies at an index that may be none.
+fn is_past(places: &PlaceTable, at: Option<usize>) -> bool
+    ensures { result ≡ not (is_some (name_from (entries_in places.now.entries) at)) }
+{
+    match at {
+        Some(at) => places.name_at(at).is_none(),
+        None => true,
+    }
 }
 
 /// How many namespaces there are.
@@ -130,48 +125,26 @@ fn count(places: &PlaceTable) -> usize
 
 /// The index of the parent of the namespace at an index.
 fn parent_index(places: &PlaceTable, at: usize) -> Option<usize>
+    ensures name { name_from (entries_in places.now.entries) result ≡ option_and_then (parent_of (tree_of (ordered places.now.entries))) (name_at (entries_in places.now.entries) at) }
     ensures chain { chain_at (entries_in places.now.entries) result ≡ chain_behind (entries_in places.now.entries) at }
     ensures walks { (left : ℕ) (above : List ℕ) → walk_from left places.now.entries result above ≡ walk_behind left places.now.entries at above }
+    ensures distinct { IsDistinct bytes_eq (keys_of (entries_in places.now.entries)) }
 {
     places.up_at(at)
 }
 
-/// The index of a namespace. It is found without hashing where it lies at that index.
-fn index_near(places: &PlaceTable, near: usize, name: &Text) -> Option<usize>
-    requires { IsDistinct bytes_eq (keys_of places.now.entries) }
-    ensures place { IsFoundAt places.now.entries name.now result }
-{
-    if is_named(places, near, name) {
-        return Some(near);
-    }
-    places.index_of(name)
-}
-
-/// Whether the namespace at an index has a name.
-fn is_named(places: &PlaceTable, at: usize, name: &Text) -> bool
-    ensures { result ≡ option_map_or (λ n. bytes_eq n name.now) (name_at (entries_in places.now.entries) at) false }
-{
-    match places.name_at(at) {
-        Some(found) => found.as_str() == name.as_str(),
-        None => false,
-    }
-}
-
-/// The index of a namespace.
-pub(crate) fn index_of(places: &PlaceTable, name: &Text) -> Option<usize>
-    ensures chain { chain_at (entries_in places.now.entries) result ≡ chain_of (tree_of (ordered places.now.entries)) name.now }
-    ensures walks { (left : ℕ) (above : List ℕ) → walk_from left places.now.entries result above ≡ walk_has left (tree_of (ordered places.now.entries)) (Some name.now) above }
-    ensures distinct { IsDistinct bytes_eq (keys_of (entries_in places.now.entries)) }
-{
-    places.index_of(name)
-}
-
-/// The index of a name that may be none.
-fn index_from(places: &PlaceTable, name: Option<&Text>) -> Option<usize>
-    ensures { chain_at (entries_in places.now.entries) result ≡ chain_from (tree_of (ordered places.now.entries)) (option_copied name.entry) }
+/// The index of a name that may be none, and is there else, with a hint at it.
+pub(crate) fn index_from(
+    places: &PlaceTable,
+    hint: Option<usize>,
+    name: Option<&Text>,
+) -> Option<usize>
+    requires { IfSome (option_copied name) (λ n. is_some (entry_of (ordered places.now.entries) n) ≡ true) }
+    ensures name { name_from (entries_in places.now.entries) result ≡ option_copied name.entry }
+    ensures within { IfSome result (λ i. i < length places.now.entries) }
 {
     match name {
-        Some(name) => index_of(places, name),
+        Some(name) => places.index_near(hint, name),
         None => None,
     }
 }

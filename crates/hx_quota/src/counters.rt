@@ -1,10 +1,10 @@
 // The counters.
-ghost use Rattle.std.specs.Prelude.{◌≡◌, ◌+◌, ◌≤◌, true, Some, None, is_some, [], ◌∷◌, IfSome, OnOk};
+ghost use Rattle.std.specs.Prelude.{◌≡◌, ◌+◌, ◌≤◌, true, Some, None, is_some, [], ◌∷◌, IfSome, OnOk, option_copied};
 ghost use Rattle.hx_model.specs.Forest.{subtree_of};
 ghost use Rattle.hx_quota.specs.Counters.{entry_of, tree_of, own_in, used_in, with_entry, new_entry, without_entry, with_parent, with_shifted, sums_of, IsChain, IsBehind, IsAbove, AreApart, HaveOld, AllFit};
 
 use crate::entry::Delta;
-use crate::ledger::Ledger;
+use crate::ledger::{Hints, Ledger};
 use hx_model::Resource;
 use hx_object::{NoMemory, Text};
 use std::alloc::Global;
@@ -96,12 +96,12 @@ impl Counters {
         ensures room { self.old.spare ≤ self.new.spare }
     {
         if let Some(ns) = chain.first() {
-            self.shift_at(ns, deltas);
+            self.shift_at(None, ns, deltas);
         }
     }
 
-    /// The same of a namespace, whose chain is found among those that are there. It takes no memory.
-    pub(crate) fn shift_at(&mut self, ns: &Text, deltas: &[Delta])
+    /// The same of a namespace, which may lie at an index, and whose chain is found among those that are there. It takes no memory.
+    pub(crate) fn shift_at(&mut self, hint: Option<usize>, ns: &Text, deltas: &[Delta])
         requires there { is_some (entry_of self.old.entries ns.now) ≡ true }
         requires apart { AreApart deltas.now }
         requires old { HaveOld deltas.now (sums_of self.old.entries (ns.now ∷ [])) }
@@ -109,7 +109,7 @@ impl Counters {
         ensures entries { self.new.entries ≡ with_shifted (ns.now ∷ []) deltas.now self.old.entries }
         ensures room { self.old.spare ≤ self.new.spare }
     {
-        self.ledger.shift(ns, deltas);
+        self.ledger.shift(hint, ns, deltas);
     }
 
     /// Gives a namespace another parent, or none. `from` is its chain behind it, and `to` the chain of the new parent, which is there. It takes no memory.
@@ -120,16 +120,20 @@ impl Counters {
         ensures entries { self.new.entries ≡ with_parent moved.now parent self.old.entries }
         ensures room { self.old.spare ≤ self.new.spare }
     {
-        self.move_under(moved, parent);
+        let hints = Hints {
+            moved: None,
+            parent: None,
+        };
+        self.move_under(hints, moved, parent.as_ref());
     }
 
     /// The same, where the chains are found among the namespaces that are there. It takes no memory.
-    pub(crate) fn move_under(&mut self, moved: &Text, parent: Option<Text>)
+    pub(crate) fn move_under(&mut self, hints: Hints, moved: &Text, parent: Option<&Text>)
         requires there { is_some (entry_of self.old.entries moved.now) ≡ true }
-        requires given { IfSome parent (λ p. is_some (entry_of self.old.entries p) ≡ true) }
-        ensures entries { self.new.entries ≡ with_parent moved.now parent self.old.entries }
+        requires given { IfSome (option_copied parent) (λ p. is_some (entry_of self.old.entries p) ≡ true) }
+        ensures entries { self.new.entries ≡ with_parent moved.now (option_copied parent.entry) self.old.entries }
         ensures room { self.old.spare ≤ self.new.spare }
     {
-        self.ledger.move_subtree(moved, parent);
+        self.ledger.move_subtree(hints, moved, parent);
     }
 }

@@ -65,7 +65,7 @@ fn add_up(places: &mut PlaceTable, at: usize) -> bool
     ensures ends { result ≡ ends_by (length (tree_of (ordered places.old.entries))) (tree_of (ordered places.old.entries)) (name_at (entries_in places.old.entries) at) }
     ensures room { places.old.spare ≤ places.new.spare }
 {
-    let ends = ends(places, places.name_at(at));
+    let ends = ends(places, Some(at));
     if ends {
         let change = Change {
             take: [0; 15],

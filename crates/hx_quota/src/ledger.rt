@@ -1,11 +1,12 @@
 // Namespaces, what they have by themselves, and with all below them.
-ghost use Rattle.std.specs.Prelude.{◌≡◌, ◌+◌, ◌≤◌, true, false, None, is_some, [], ◌∷◌, IfSome, OnOk};
+ghost use Rattle.std.specs.Prelude.{◌≡◌, ◌+◌, ◌<◌, ◌≤◌, true, false, None, is_some, [], ◌∷◌, IfSome, OnOk, length, option_copied};
 ghost use Rattle.hx_model.specs.Forest.{subtree_of};
 ghost use Rattle.hx_model.specs.declared.resource.Resource.{Resource};
 ghost use Rattle.hx_quota.specs.Counters.{entry_of, tree_of, own_in, with_entry, new_entry, without_entry, with_parent, with_shifted, sums_of, AreApart, HaveOld, AllFit};
-ghost use Rattle.hx_quota.specs.Inside.{entries_of, IsKept, ends_up};
+ghost use Rattle.hx_quota.specs.Inside.{entries_in, entries_of, IsKept, ends_up};
+ghost use Rattle.hx_quota.specs.Anew.{name_from, named};
 
-use crate::climbing::{adjust_up, index_of, take_over};
+use crate::climbing::{adjust_up, index_from, take_over};
 use crate::entry::Delta;
 use crate::forming::form_anew;
 use crate::place_table::PlaceTable;
@@ -14,6 +15,13 @@ use hx_model::Resource;
 use hx_object::{NoMemory, Text};
 use std::alloc::Global;
 use std::hash::RandomState;
+
+/// Where a namespace that is moved, and its new parent, may lie.
+#[derive(Clone, Copy)]
+pub(crate) struct Hints {
+    pub(crate) moved: Option<usize>,
+    pub(crate) parent: Option<usize>,
+}
 
 /// Places by the names of their namespaces, in no order.
 pub(crate) struct Ledger {
@@ -79,8 +87,8 @@ impl Ledger {
         self.places.swap_remove(ns);
     }
 
-    /// Shifts the own sums of a namespace, and with them the sums of all members of its chain. It takes no memory.
-    pub(crate) fn shift(&mut self, ns: &Text, deltas: &[Delta])
+    /// Shifts the own sums of a namespace, which may lie at an index, and with them the sums of all members of its chain. It takes no memory.
+    pub(crate) fn shift(&mut self, hint: Option<usize>, ns: &Text, deltas: &[Delta])
         requires there { is_some (entry_of (entries_of self.old) ns.now) ≡ true }
         requires apart { AreApart deltas.now }
         requires old { HaveOld deltas.now (sums_of (entries_of self.old) (ns.now ∷ [])) }
@@ -90,55 +98,72 @@ impl Ledger {
         ensures room { self.old.places.spare ≤ self.new.places.spare }
         ensures kept { IsKept self.new }
     {
-        let ends = self.ends(Some(ns));
-        let Some(change) = shift_own(&mut self.places, ns, deltas) else {
+        let Some(at) = self.places.index_near(hint, ns) else {
             return;
         };
+        let ends = self.ends(Some(at));
+        let change = shift_own(&mut self.places, at, deltas);
         if ends {
-            let first = index_of(&self.places, ns);
-            adjust_up(&mut self.places, first, &change);
+            adjust_up(&mut self.places, Some(at), &change);
         }
     }
 
     /// Gives a namespace another parent, or none, and takes what it has with all below it from the namespaces that were above it to those that are. It takes no memory.
     ///
     /// Where it comes out of a cycle, or from below one, all sums are formed anew, in as many steps as all chains together have members, and as all walks that come to no end have.
-    pub(crate) fn move_subtree(&mut self, moved: &Text, parent: Option<Text>)
+    pub(crate) fn move_subtree(&mut self, hints: Hints, moved: &Text, parent: Option<&Text>)
         requires there { is_some (entry_of (entries_of self.old) moved.now) ≡ true }
-        requires given { IfSome parent (λ p. is_some (entry_of (entries_of self.old) p) ≡ true) }
+        requires given { IfSome (option_copied parent) (λ p. is_some (entry_of (entries_of self.old) p) ≡ true) }
         requires fits { AllFit (entries_of self.old) }
         requires kept { IsKept self.old }
-        ensures entries { entries_of self.new ≡ with_parent moved.now parent (entries_of self.old) }
+        ensures entries { entries_of self.new ≡ with_parent moved.now (option_copied parent.entry) (entries_of self.old) }
         ensures room { self.old.places.spare ≤ self.new.places.spare }
         ensures kept { IsKept self.new }
     {
-        if !self.ends(Some(moved)) {
-            self.move_endless(moved, parent);
+        let Some(at) = self.places.index_near(hints.moved, moved) else {
+            return;
+        };
+        let up = index_from(&self.places, hints.parent, parent);
+        self.move_at(at, up);
+    }
+
+    /// The same by indices.
+    fn move_at(&mut self, at: usize, up: Option<usize>)
+        requires within { at < length self.old.places.entries }
+        requires given { IfSome up (λ i. i < length self.old.places.entries) }
+        requires fits { AllFit (entries_of self.old) }
+        requires kept { IsKept self.old }
+        ensures entries { entries_of self.new ≡ with_parent (named (entries_in self.old.places.entries) at) (name_from (entries_in self.old.places.entries) up) (entries_of self.old) }
+        ensures room { self.old.places.spare ≤ self.new.places.spare }
+        ensures kept { IsKept self.new }
+    {
+        if !self.ends(Some(at)) {
+            self.move_endless(at, up);
             return;
         }
-        if self.stays_ended(moved, parent.as_ref()) {
-            take_over(&mut self.places, moved, parent.as_ref());
-            set_parent(&mut self.places, moved, parent);
+        if self.stays_ended(at, up) {
+            take_over(&mut self.places, at, up);
+            set_parent(&mut self.places, at, up);
         } else {
-            take_over(&mut self.places, moved, None);
-            set_parent(&mut self.places, moved, parent);
+            take_over(&mut self.places, at, None);
+            set_parent(&mut self.places, at, up);
             self.circular = true;
         }
     }
 
     /// The same where the walk up comes to no end before.
-    fn move_endless(&mut self, moved: &Text, parent: Option<Text>)
-        requires there { is_some (entry_of (entries_of self.old) moved.now) ≡ true }
-        requires given { IfSome parent (λ p. is_some (entry_of (entries_of self.old) p) ≡ true) }
+    fn move_endless(&mut self, at: usize, up: Option<usize>)
+        requires within { at < length self.old.places.entries }
+        requires given { IfSome up (λ i. i < length self.old.places.entries) }
         requires fits { AllFit (entries_of self.old) }
         requires kept { IsKept self.old }
-        requires endless { ends_up (tree_of (entries_of self.old)) moved.now ≡ false }
-        ensures entries { entries_of self.new ≡ with_parent moved.now parent (entries_of self.old) }
+        requires endless { ends_up (tree_of (entries_of self.old)) (named (entries_in self.old.places.entries) at) ≡ false }
+        ensures entries { entries_of self.new ≡ with_parent (named (entries_in self.old.places.entries) at) (name_from (entries_in self.old.places.entries) up) (entries_of self.old) }
         ensures room { self.old.places.spare ≤ self.new.places.spare }
         ensures kept { IsKept self.new }
     {
-        let ends = self.ends(parent.as_ref());
-        set_parent(&mut self.places, moved, parent);
+        let ends = self.ends(up);
+        set_parent(&mut self.places, at, up);
         if ends {
             let ended = form_anew(&mut self.places);
             self.circular = !ended;

@@ -18,6 +18,7 @@ mod shifting;
 mod staging;
 mod subtrees;
 mod sum_table;
+mod up_table;
 mod walking;
 mod walks;
 

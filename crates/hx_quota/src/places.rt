@@ -1,12 +1,15 @@
-// Changes of what is kept of namespaces, by their names.
-ghost use Rattle.std.specs.Prelude.{◌≡◌, ℕ, ◌≤◌, true, Some, None, is_some, List, MatchOption, replicate};
-ghost use Rattle.hx_quota.specs.Counters.{entry_of, shifted, with_parent, AreApart, HaveOld};
-ghost use Rattle.hx_quota.specs.PlaceRows.{Place, place_at};
-ghost use Rattle.hx_quota.specs.Inside.{ordered, taken_by, given_by, OwnFit, HasShifted, SameSums};
+// Changes of what is kept of namespaces, by their indices.
+ghost use Rattle.std.specs.Prelude.{◌≡◌, ℕ, ◌<◌, ◌≤◌, Some, List, IfSome, length, replicate, slice_get};
+ghost use Rattle.std.specs.List.{IsDistinct};
+ghost use Rattle.std.specs.Map.{keys_of};
+ghost use Rattle.std.specs.Str.{bytes_eq};
+ghost use Rattle.hx_quota.specs.Counters.{shifted, with_parent, AreApart, HaveOld};
+ghost use Rattle.hx_quota.specs.PlaceRows.{Place, place_at, IsFoundAt};
+ghost use Rattle.hx_quota.specs.Inside.{entries_in, ordered, taken_by, given_by, OwnFit, HasShifted, SameSums};
+ghost use Rattle.hx_quota.specs.Anew.{name_at, name_from, named};
 
 use crate::entry::{Delta, place_of};
 use crate::place_table::PlaceTable;
-use hx_object::Text;
 
 /// What is taken off sums, and what is added to them. Mostly it is nothing of most resources.
 #[derive(Clone, Copy)]
@@ -30,28 +33,27 @@ fn change_of(deltas: &[Delta]) -> Change
     Change { take, give }
 }
 
-/// Shifts own sums, and gives back what that changes. None where the namespace isn't there.
-pub(crate) fn shift_own(places: &mut PlaceTable, ns: &Text, deltas: &[Delta]) -> Option<Change>
+/// Shifts own sums of the namespace at an index, and gives back what that changes.
+pub(crate) fn shift_own(places: &mut PlaceTable, at: usize, deltas: &[Delta]) -> Change
     requires apart { AreApart deltas.now }
-    requires old { (p : Place) → place_at places.old.entries ns.now ≡ Some p → HaveOld deltas.now p.entry.own }
-    requires fits { (p : Place) → place_at places.old.entries ns.now ≡ Some p → OwnFit (shifted deltas.now p.entry.own) }
-    ensures absent { MatchOption result (place_at places.old.entries ns.now ≡ None) (λ change. HasShifted places.old.entries places.new.entries ns.now deltas.now change) }
+    requires old { (n : List ℕ) (p : Place) → slice_get places.old.entries at ≡ Some (n, p) → HaveOld deltas.now p.entry.own }
+    requires fits { (n : List ℕ) (p : Place) → slice_get places.old.entries at ≡ Some (n, p) → OwnFit (shifted deltas.now p.entry.own) }
+    ensures shifted { (n : List ℕ) → IsFoundAt places.old.entries n (Some at) → HasShifted places.old.entries places.new.entries n deltas.now result }
+    ensures name { name_at (entries_in places.new.entries) at ≡ name_at (entries_in places.old.entries) at }
+    ensures distinct { IsDistinct bytes_eq (keys_of (entries_in places.new.entries)) }
     ensures room { places.old.spare ≤ places.new.spare }
 {
-    let at = places.index_of(ns)?;
     places.shift_own(at, deltas);
-    Some(change_of(deltas))
+    change_of(deltas)
 }
 
-/// Gives a namespace another parent, or none.
-pub(crate) fn set_parent(places: &mut PlaceTable, ns: &Text, parent: Option<Text>)
-    requires { is_some (entry_of (ordered places.old.entries) ns.now) ≡ true }
-    ensures entries { ordered places.new.entries ≡ with_parent ns.now parent (ordered places.old.entries) }
+/// Gives the namespace at an index another parent, which lies at an index, or none.
+pub(crate) fn set_parent(places: &mut PlaceTable, at: usize, up: Option<usize>)
+    requires within { at < length places.old.entries }
+    requires given { IfSome up (λ i. i < length places.old.entries) }
+    ensures entries { ordered places.new.entries ≡ with_parent (named (entries_in places.old.entries) at) (name_from (entries_in places.old.entries) up) (ordered places.old.entries) }
     ensures sums { (q : List ℕ) (p : Place) → place_at places.new.entries q ≡ Some p → SameSums (place_at places.old.entries q) p }
     ensures room { places.old.spare ≤ places.new.spare }
 {
-    let Some(at) = places.index_of(ns) else {
-        return;
-    };
-    places.set_parent(at, parent);
+    places.set_parent(at, up);
 }

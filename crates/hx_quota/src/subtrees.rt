@@ -121,13 +121,13 @@ impl Usage {
         }
     }
 
-    /// Makes the staged changes. It takes no memory.
-    pub fn apply(&mut self)
+    /// Makes the staged changes. It takes no memory. The forest hints at where namespaces lie, and what is counted doesn't depend on it.
+    pub fn apply(&mut self, forest: &Forest)
         ensures now { self.new.now ≡ self.old.next }
         ensures next { self.new.next ≡ self.old.next }
     {
         let changes = mem::replace(&mut self.staged, Vec::new(self.alloc));
-        make_all(&mut self.counters, &mut self.totals, changes);
+        make_all(&mut self.counters, &mut self.totals, forest, changes);
         self.counts = self.counts_then;
     }
 

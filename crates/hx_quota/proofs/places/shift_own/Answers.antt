@@ -1,38 +1,38 @@
-use Rattle.std.proofs.Common.{◌∙◌, ℕ, Option, Some, List, replicate, ap, sym, subst}
-use Rattle.std.proofs.lemmas.Option.{same_Some}
-use Rattle.hx_quota.specs.Counters.{place_of, shifted, HaveOld}
-use Rattle.hx_quota.specs.PlaceRows.{Place, place_at, IsFoundAt}
-use Rattle.hx_quota.specs.Inside.{taken_by, OwnFit, Replaces}
+use Rattle.std.proofs.Common.{◌∙◌, List, ℕ, replicate, ap, sym, subst}
+use Rattle.std.specs.List.{IsDistinct}
+use Rattle.std.specs.Map.{keys_of}
+use Rattle.std.specs.Str.{bytes_eq}
+use Rattle.hx_quota.specs.Counters.{place_of, shifted}
+use Rattle.hx_quota.specs.PlaceRows.{Place, place_at}
+use Rattle.hx_quota.specs.Inside.{entries_in, taken_by, Replaces}
+use Rattle.hx_quota.specs.Anew.{name_at}
 use Rattle.hx_quota.proofs.Deltas.{replaces}
-use Rattle.hx_quota.proofs.Indexed.{place_changed}
+use Rattle.hx_quota.proofs.Indexed.{keys_changed, name_changed, place_changed}
+use Rattle.hx_quota.proofs.Placed.{same_keys}
 use Rattle.hx_quota.proofs.places.shift_own.Goals as goal
 
-pub shift_own-requires-clause-old : goal.shift_own-requires-clause-old
-shift_own-requires-clause-old c = λ n p is.
-    let places = c.args.places.now.entries in
-    let ns = c.args.ns.now in
-    let lies : IsFoundAt places ns (Some c.in_ok-at.at) = subst (λ (o : Option ℕ). IsFoundAt places ns o) c.in_ok-at.was c.index_of.ensures.place in
-    subst (λ (e : List ℕ × Place). HaveOld c.args.deltas.now e.1.entry.own) (same_Some {A = List ℕ × Place} (ns, lies.0) (n, p) (sym lies.1 ∙ is)) (c.requires.old lies.0 lies.2)
-
-pub shift_own-requires-clause-fits : goal.shift_own-requires-clause-fits
-shift_own-requires-clause-fits c = λ n p is.
-    let places = c.args.places.now.entries in
-    let ns = c.args.ns.now in
-    let lies : IsFoundAt places ns (Some c.in_ok-at.at) = subst (λ (o : Option ℕ). IsFoundAt places ns o) c.in_ok-at.was c.index_of.ensures.place in
-    subst (λ (e : List ℕ × Place). OwnFit (shifted c.args.deltas.now e.1.entry.own)) (same_Some {A = List ℕ × Place} (ns, lies.0) (n, p) (sym lies.1 ∙ is)) (c.requires.fits lies.0 lies.2)
-
-pub returns-clause-absent : goal.returns-clause-absent
-returns-clause-absent c =
+pub returns-clause-shifted : goal.returns-clause-shifted
+returns-clause-shifted c = λ n lies.
     let old = c.args.places.now.entries in
-    let ns = c.args.ns.now in
     let deltas = c.args.deltas.now in
-    let lies : IsFoundAt old ns (Some c.in_ok-at.at) = subst (λ (o : Option ℕ). IsFoundAt old ns o) c.in_ok-at.was c.index_of.ensures.place in
     let place = lies.0 in
     let own = place.entry.own in
-    let long = c.shift_own.ensures.long ns place lies.1 in (
+    let long = c.shift_own.ensures.long n place lies.1 in (
       place,
       lies.2,
       λ r. subst (λ (take : List ℕ). Replaces take c.change_of.result.give own (shifted deltas own) (place_of r)) (sym c.change_of.ensures.take)
-          (subst (λ (give : List ℕ). Replaces (taken_by deltas (replicate 15 0)) give own (shifted deltas own) (place_of r)) (sym c.change_of.ensures.give) (replaces deltas own long c.requires.apart (c.requires.old place lies.2) r)),
-      λ q. ap (λ xs. place_at xs q) c.shift_own.ensures.entries ∙ place_changed c.in_ok-at.at (λ (p : Place). record p { entry = record (p.entry) { own = shifted deltas p.entry.own } }) old ns place c.index_of.ensures.distinct lies.1 q,
+          (subst (λ (give : List ℕ). Replaces (taken_by deltas (replicate 15 0)) give own (shifted deltas own) (place_of r)) (sym c.change_of.ensures.give) (replaces deltas own long c.requires.apart (c.requires.old n place lies.1) r)),
+      λ q. ap (λ xs. place_at xs q) c.shift_own.ensures.entries ∙ place_changed c.args.at (λ (p : Place). record p { entry = record (p.entry) { own = shifted deltas p.entry.own } }) old n place c.shift_own.ensures.distinct lies.1 q,
     )
+
+pub returns-clause-name : goal.returns-clause-name
+returns-clause-name c =
+    let deltas = c.args.deltas.now in
+    ap (λ xs. name_at (entries_in xs) c.args.at) c.shift_own.ensures.entries ∙ name_changed c.args.at (λ (p : Place). record p { entry = record (p.entry) { own = shifted deltas p.entry.own } }) c.args.places.now.entries c.args.at
+
+pub returns-clause-distinct : goal.returns-clause-distinct
+returns-clause-distinct c =
+    let deltas = c.args.deltas.now in
+    let old = c.args.places.now.entries in
+    subst (λ (ks : List (List ℕ)). IsDistinct bytes_eq ks)
+    (sym (same_keys c.shift_own.new.self.entries ∙ ap (λ xs. keys_of xs) c.shift_own.ensures.entries ∙ keys_changed c.args.at (λ (p : Place). record p { entry = record (p.entry) { own = shifted deltas p.entry.own } }) old)) c.shift_own.ensures.distinct

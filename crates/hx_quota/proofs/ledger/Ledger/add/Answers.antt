@@ -5,7 +5,7 @@ use Rattle.hx_quota.specs.PlaceRows.{Place, new_place, place_at}
 use Rattle.hx_quota.proofs.Indexed.{place_added}
 use Rattle.hx_quota.specs.Counters.{Entries, tree_of}
 use Rattle.hx_quota.specs.Inside.{entries_of, AreClosed, AllEnd}
-use Rattle.hx_quota.proofs.Keeping.{no_child, summed_added}
+use Rattle.hx_quota.proofs.Keeping.{summed_added}
 use Rattle.hx_quota.proofs.Lasting.{ends_added}
 use Rattle.hx_quota.proofs.UsedSums.{closed_added}
 use Rattle.hx_quota.proofs.Placed.{entry_in, entry_at, put_places}
@@ -20,9 +20,6 @@ insert-requires-clause-absent c = absent (place_at c.args.self.now.places.entrie
 
 looks : (c : goal.After-insert) (q : List ℕ) → place_at c.insert.new.self.entries q ≡ cond (bytes_eq c.args.ns q) (Some new_place) (place_at c.args.self.now.places.entries q)
 looks c q = ap (λ xs. place_at xs q) c.insert.ensures.entries ∙ place_added c.args.self.now.places.entries c.args.ns new_place (absent (place_at c.args.self.now.places.entries c.args.ns) (sym (entry_at c.args.self.now.places.entries c.args.ns) ∙ c.requires.absent)) q
-
-pub insert-requires-clause-alone : goal.insert-requires-clause-alone
-insert-requires-clause-alone c = no_child c.args.self.now.places.entries c.args.ns c.requires.kept.closed c.requires.absent
 
 pub returns-clause-entries : goal.returns-clause-entries
 returns-clause-entries c = put_places c.insert.new.self.entries c.args.self.now.places.entries c.args.ns new_place (looks c)

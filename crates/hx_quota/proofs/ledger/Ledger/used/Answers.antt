@@ -1,7 +1,8 @@
-use Rattle.std.proofs.Common.{◌≡◌, Option, ℕ, Some, None, is_some, slice_index, sym, ap, subst, ◌∙◌}
-use Rattle.hx_quota.specs.Counters.{entry_of}
+use Rattle.std.proofs.Common.{◌≡◌, Option, List, ℕ, Some, None, length, slice_index, sym, ap, subst, ◌∙◌}
+use Rattle.hx_quota.specs.Counters.{entry_of, tree_of, used_in}
 use Rattle.hx_quota.specs.PlaceRows.{place_at, IsFoundAt}
-use Rattle.hx_quota.specs.Inside.{entries_of}
+use Rattle.hx_quota.specs.Inside.{entries_of, ends_by}
+use Rattle.hx_quota.proofs.Reached.{found_named, found_row}
 use Rattle.hx_quota.proofs.Placed.{entry_in, entry_at}
 use Rattle.hx_quota.proofs.UsedSums.{used_absent}
 use Rattle.hx_quota.proofs.ledger.Ledger.used.Goals as goal
@@ -15,17 +16,18 @@ returns-in_default c =
     let none : entry_of es ns ≡ None = entry_at places ns ∙ ap entry_in away in
     sym (used_absent es ns c.args.resource none)
 
-pub ends-requires-clause-there : goal.ends-requires-clause-there
-ends-requires-clause-there c =
+pub returns-then-not-ends : goal.returns-then-not-ends
+returns-then-not-ends c =
     let places = c.args.self.now.places.entries in
     let ns = c.args.ns.now in
     let lies : IsFoundAt places ns (Some c.in-Some.at) = subst (λ (o : Option ℕ). IsFoundAt places ns o) c.in-Some.is c.index_of.ensures.place in
-    ap is_some (entry_at places ns ∙ ap entry_in lies.2)
+    c.used_by_walks.ensures ∙ ap (λ (n : List ℕ). used_in (entries_of c.args.self.now) n c.args.resource) (found_named places ns c.in-Some.at lies)
 
 pub returns : goal.returns
 returns c =
     let places = c.args.self.now.places.entries in
     let ns = c.args.ns.now in
     let lies : IsFoundAt places ns (Some c.in-Some.at) = subst (λ (o : Option ℕ). IsFoundAt places ns o) c.in-Some.is c.index_of.ensures.place in
+    let f = tree_of (entries_of c.args.self.now) in
     c.sum_at.ensures ns lies.0 lies.1 ∙ ap (slice_index lies.0.sums) c.place_of.ensures.place
-    ∙ c.requires.kept.summed ns lies.0 lies.2 (sym c.ends.ensures.ends ∙ c.if-not-ends.false) c.args.resource
+    ∙ c.requires.kept.summed ns lies.0 lies.2 (ap (λ (o : Option (List ℕ)). ends_by (length f) f o) (sym (found_row places ns c.in-Some.at lies)) ∙ sym c.ends.ensures.ends ∙ c.if-not-ends.false) c.args.resource

@@ -1,7 +1,7 @@
 use Rattle.std.specs.Prelude.{◌≡◌, vec_len}
 use Rattle.std.specs.Vec.{vec_capacity}
-use Rattle.hx_quota.proofs.Tied.{relinked_to}
-use Rattle.hx_quota.proofs.place_table.relink.Given as goal
+use Rattle.hx_quota.proofs.Linked.{relinked_to}
+use Rattle.hx_quota.proofs.up_table.relink.Given as goal
 
 -- those so far are relinked
 abbrev pub invariant-loop-at : goal.invariant-loop-at

@@ -3,9 +3,9 @@ use Rattle.std.specs.Prelude.{vec_len}
 use Rattle.std.specs.Vec.{vec_capacity}
 use Rattle.std.proofs.lemmas.Option.{slice_get_read}
 use Rattle.hx_quota.specs.PlaceRows.{relinked}
-use Rattle.hx_quota.proofs.Tied.{relinked_to, relink_one, relink_none, relink_that, relink_all}
-use Rattle.hx_quota.proofs.place_table.relink.Goals as goal
-use Rattle.hx_quota.proofs.place_table.relink.Goals.{then-is_at, else-is_at}
+use Rattle.hx_quota.proofs.Linked.{relinked_to, relink_one, relink_none, relink_that, relink_all}
+use Rattle.hx_quota.proofs.up_table.relink.Goals as goal
+use Rattle.hx_quota.proofs.up_table.relink.Goals.{then-is_at, else-is_at}
 
 pub loop-at-init : goal.loop-at-init
 loop-at-init c = record { ups = refl; len = refl; room = refl }
