@@ -11,6 +11,7 @@ pub mod Seen
 pub mod Refusing
 pub mod Reviewing
 pub mod Ruling
+pub mod Owned
 pub mod Ruled
 pub mod Families
 pub mod Removing

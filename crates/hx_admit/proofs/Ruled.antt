@@ -3,9 +3,10 @@
 --     no_home, no_config, looked_at, no_family     what the rules don't look at
 --     ruled            what it is given is the case of the state
 --     same_annotation  a namespace that passes the rules keeps its annotation
-use Rattle.std.proofs.Common.{◌≡◌, ℕ, Bool, true, false, not, ◌&&◌, List, [], ◌∷◌, None, Some, Option, IfSome, refl, sym, ap, subst, ◌∙◌, true≢false}
+use Rattle.std.proofs.Common.{◌≡◌, ℕ, Bool, true, false, not, ◌&&◌, ◌||◌, List, [], ◌∷◌, None, Some, Option, IfSome, refl, sym, ap, subst, ◌∙◌, true≢false}
 use Rattle.std.specs.Prelude.{is_some, if◌then◌else◌, option_map, option_and_then, option_copied}
 use Rattle.std.specs.List.{AllByRecursion}
+use Rattle.std.specs.Str.{bytes_eq}
 use Rattle.std.proofs.lemmas.Bool.{and_parts}
 use Rattle.std.proofs.lemmas.Slice.Eq.{bytes_eq-Decides}
 use Rattle.hx_object.specs.Kinds.{can_be_copied}
@@ -13,7 +14,7 @@ use Rattle.hx_object.specs.declared.object.Id.{Id}
 use Rattle.hx_object.specs.declared.object.Object.{Object}
 use Rattle.hx_model.specs.Answers.{case_at, rule_refusal, version_refusal}
 use Rattle.hx_model.specs.First.{so, or_else, first}
-use Rattle.hx_model.specs.Forest.{Forest, is_there, parent_of}
+use Rattle.hx_model.specs.Forest.{Forest, is_there, parent_of, halt_of, with_parent, reaches_deeper}
 use Rattle.hx_model.specs.Limits.{is_namespace, is_anchor, is_hierarchy, is_copy}
 use Rattle.hx_model.specs.Cases.{Case, breaks, any_of, is_write, is_kept_out, same_name}
 use Rattle.hx_model.specs.Denials.{refusal_by}
@@ -22,7 +23,7 @@ use Rattle.hx_model.specs.Rules.{rules, name_rule, kind_rules}
 use Rattle.hx_model.specs.RulesAnchors.{unskipped_rules, creates, asks_excluded, reaches_too_deep}
 use Rattle.hx_model.specs.RulesConfig.{entry_rules}
 use Rattle.hx_model.specs.RulesCopies.{is_ignored, writes_copy, removes_copy, touches_copy, misuses_exceptions, source_rules}
-use Rattle.hx_model.specs.RulesHierarchy.{tree_rules, lacks_parent, closes_cycle, contradicts, moves_halted, meets_excluded, grows_too_deep}
+use Rattle.hx_model.specs.RulesHierarchy.{tree_rules, annotated_parent, parent_after, lacks_parent, closes_cycle, contradicts, moves_halted, meets_excluded, grows_too_deep, is_ancestor, greatest_depth}
 use Rattle.hx_model.specs.RulesNamespace.{namespace_rules, enters_leaving, changes_annotation}
 use Rattle.hx_model.specs.Serving.{IsServed}
 use Rattle.hx_model.specs.State.{State, Objects, object_at, namespace_id, home_in}
@@ -42,6 +43,7 @@ use Rattle.hx_admit.specs.Inside.{IsHomeOf, IsConfigFor, IsConflictFor}
 use Rattle.hx_admit.specs.Families.{IsFamilyFor}
 use Rattle.hx_admit.specs.Ruling.{IsAtHome, family_in}
 use Rattle.hx_admit.specs.declared.case.Family as kin
+use Rattle.hx_admit.proofs.Owned.{same_there, same_owner, same_after, same_parent}
 use Rattle.hx_model.specs.Tree.{parent_with}
 use Rattle.hx_model.specs.declared.config.RunConfig.{RunConfig}
 
@@ -50,8 +52,8 @@ use Rattle.hx_model.specs.declared.config.RunConfig.{RunConfig}
 home_found : (rows : Objects) (id : Id) → is_hierarchy id.kind ≡ true → home_in rows id ≡ object_at rows (namespace_id id.ns)
 home_found rows id is = ap (λ kind. home_in rows (record id { kind = kind })) (hierarchy_kind id is)
 
-pub at_home : (s : State) (c : Case) → AllByRecursion IsServed s.objects → c.tree ≡ forest_of s → object_at s.objects c.id ≡ c.old → c.home ≡ home_in s.objects c.id → is_hierarchy c.id.kind ≡ true → IsAtHome c
-at_home s c served planted there is_home is =
+stored_at_home : (s : State) (c : Case) → AllByRecursion IsServed s.objects → c.tree ≡ forest_of s → object_at s.objects c.id ≡ c.old → c.home ≡ home_in s.objects c.id → is_hierarchy c.id.kind ≡ true → IsAtHome c
+stored_at_home s c served planted there is_home is =
     let found : object_at s.objects (namespace_id c.id.ns) ≡ c.home = sym (home_found s.objects c.id is) ∙ sym is_home in
     record { there = ap (λ (f : Forest). is_there f c.id.ns) planted ∙ there-objects s.config.excluded s.objects c.id.ns served ∙ ap is_some found; parent = λ named. by c.home found named }
   where
@@ -66,7 +68,49 @@ at_home s c served planted there is_home is =
         ap (λ (f : Forest). parent_of f c.id.ns) planted ∙ node
         ∙ ap (λ o. or_else (subnamespace_parent x) (option_and_then named_parent o)) (ap (λ n. object_at s.objects (hierarchy_id n)) name ∙ ap (object_at s.objects) (sym exact) ∙ there)
 
+-- as far as the rules look at it: the parent that its annotation names
+pub at_home : (s : State) (c : Case) → AllByRecursion IsServed s.objects → c.tree ≡ forest_of s → object_at s.objects c.id ≡ c.old → option_map subnamespace_parent c.home ≡ option_map subnamespace_parent (home_in s.objects c.id) → is_hierarchy c.id.kind ≡ true → IsAtHome c
+at_home s c served planted there owner is =
+    let stored : IsAtHome (record c { home = home_in s.objects c.id }) = stored_at_home s (record c { home = home_in s.objects c.id }) served planted there refl is in
+    record {
+      there = stored.there ∙ sym (same_there c.home (home_in s.objects c.id) owner);
+      parent = λ named. same_parent c.old c.home (home_in s.objects c.id) (parent_of c.tree c.id.ns) owner (stored.parent named);
+    }
+
 -- ---- the rules
+
+-- for a HierarchyConfiguration they look at the parent that the annotation of the namespace names
+pub same_home : (c : Case) (home : Option Object) → is_hierarchy c.id.kind ≡ true → option_map subnamespace_parent c.home ≡ option_map subnamespace_parent home → rules c ≡ rules (record c { home = home })
+same_home c home is owner = λ i. breaks X1 (c.skip && not c.config.allow_skip) ∷ breaks N4 (enters_leaving c) ∷ names c.id.kind i ∷ breaks O1 (touches_copy c) ∷ by c.id.kind is i
+  where
+    other : Case
+    other = record c { home = home }
+
+    names : (kind : Kind) → name_rule kind c ≡ name_rule kind other
+    names HierarchyConfiguration = refl
+    names HncConfiguration = refl
+    names _ = refl
+
+    annotated_same : annotated_parent c ≡ annotated_parent other
+    annotated_same = same_owner c.home home owner
+
+    after : parent_after c ≡ parent_after other
+    after = ap (λ p. if bytes_eq c.id.name hierarchy then p else parent_of c.tree c.id.ns) (same_after c.new c.home home owner)
+
+    tree : tree_rules c ≡ tree_rules other
+    tree = λ i.
+        breaks H1 (lacks_parent c)
+        ∷ breaks H2 (closes_cycle c)
+        ∷ breaks H3 (any_of (λ p. any_of (λ q. not (bytes_eq p q)) (annotated_same i)) (option_and_then named_parent c.new))
+        ∷ breaks H4 (not (same_name (parent_of c.tree c.id.ns) (after i)) && (any_of is_ancestor (halt_of c.tree c.id.ns) || any_of (λ p. is_some (halt_of c.tree p)) (after i)))
+        ∷ breaks H5 c.conflict
+        ∷ breaks H6 (is_write c && meets_excluded c)
+        ∷ breaks H8 (is_write c && (not (same_name (parent_of c.tree c.id.ns) (after i)) && reaches_deeper greatest_depth (with_parent c.id.ns (after i) c.tree) c.id.ns))
+        ∷ []
+
+    by : (kind : Kind) → is_hierarchy kind ≡ true → kind_rules kind c ≡ kind_rules kind other
+    by HierarchyConfiguration e = ap (λ rows. if c.skip then [] else rows) tree
+    by _ e = absurd (true≢false (sym e))
 
 -- for other kinds the rules don't look at the namespace
 pub no_home : (c : Case) (home : Option Object) → is_hierarchy c.id.kind ≡ false → rules c ≡ rules (record c { home = home })
@@ -211,7 +255,7 @@ module _ (s : State) (id : Id) (old new home found : Option Object) (conflict sk
   abbrev given : Case
   given = record { id = id; old = old; new = new; home = home; hnc_config = found; conflict = conflict; family = family_in f; tree = nodes; config = config; skip = skip }
 
-  pub ruled : nodes ≡ forest_of s → config ≡ s.config → IsHomeOf s id home → IsConfigFor s old new found → IsConflictFor (case_at s id old new skip) conflict → IsFamilyFor s id new skip f → first (rules given) ≡ first (rules (case_at s id old new skip))
+  pub ruled : nodes ≡ forest_of s → config ≡ s.config → IsHomeOf s id (option_map subnamespace_parent home) → IsConfigFor s old new found → IsConflictFor (case_at s id old new skip) conflict → IsFamilyFor s id new skip f → first (rules given) ≡ first (rules (case_at s id old new skip))
   ruled planted same is_home is_config is_conflict is_family =
       (λ i. first (rules (record given { tree = planted i; config = same i })))
       ∙ ap first (no_config (record given { tree = forest_of s; config = s.config }) (object_at s.objects config_id) is_config)
@@ -220,7 +264,7 @@ module _ (s : State) (id : Id) (old new home found : Option Object) (conflict sk
       ∙ ap first (no_family s id old new skip f is_family)
     where
       by : (b : Bool) → is_hierarchy id.kind ≡ b → first (rules (record given { tree = forest_of s; config = s.config; hnc_config = object_at s.objects config_id })) ≡ first (rules (record (case_at s id old new skip) { family = family_in f; conflict = conflict }))
-      by true e = ap (λ h. first (rules (record given { tree = forest_of s; config = s.config; hnc_config = object_at s.objects config_id; home = h }))) (is_home e)
+      by true e = ap first (same_home (record given { tree = forest_of s; config = s.config; hnc_config = object_at s.objects config_id }) (home_in s.objects id) e (is_home e))
       by false e = ap first (no_home (record given { tree = forest_of s; config = s.config; hnc_config = object_at s.objects config_id }) (home_in s.objects id) e)
 
 -- ---- the annotation of a namespace

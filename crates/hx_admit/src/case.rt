@@ -1,8 +1,11 @@
 // What the rules look at.
-ghost use Rattle.std.specs.Prelude.{◌≡◌, option_copied};
-ghost use Rattle.hx_model.specs.Cases.{is_write, same_name, subject_of};
+ghost use Rattle.std.specs.Prelude.{◌≡◌, option_copied, option_and_then};
+ghost use Rattle.hx_model.specs.Cases.{is_write, subject_of};
+ghost use Rattle.hx_model.specs.First.{or_else};
+ghost use Rattle.hx_model.specs.Tree.{named_parent};
 ghost use Rattle.hx_admit.specs.Ruling.{case_of};
 
+use crate::tree::given_parent;
 use hx_forest::Forest;
 use hx_model::RunConfig;
 use hx_object::{Id, Object, Text};
@@ -16,7 +19,7 @@ pub struct Case<'a> {
     /// The object that is given.
     pub new: Option<&'a Object>,
     /// The namespace, for a HierarchyConfiguration. The rules on other objects don't look at it.
-    pub home: Option<&'a Object>,
+    pub home: Option<Home<'a>>,
     /// The HNCConfiguration that is stored, where a copy is removed. The rules on other requests don't look at it.
     pub hnc_config: Option<&'a Object>,
     /// Whether an object is given that can be copied, with exceptions that aren't valid. To read them takes memory, and the rules take none.
@@ -48,6 +51,25 @@ impl<'a> Case<'a> {
             &self.id.name
         } else {
             &self.id.ns
+        }
+    }
+}
+
+/// All that the rules on HierarchyConfigurations look at of a namespace.
+#[derive(Clone, Copy)]
+pub struct Home<'a> {
+    /// The parent that its annotation names.
+    pub owner: Option<&'a Text>,
+}
+
+impl<'a> Home<'a> {
+    /// The parent of the namespace, whose HierarchyConfiguration this is, or which has none.
+    pub fn parent_with(self, hierarchy: Option<&'a Object>) -> Option<&'a Text>
+        ensures { option_copied result ≡ or_else (option_copied self.entry.owner) (option_and_then named_parent (option_copied hierarchy.entry)) }
+    {
+        match self.owner {
+            Some(owner) => Some(owner),
+            None => given_parent(hierarchy),
         }
     }
 }

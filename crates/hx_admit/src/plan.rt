@@ -8,7 +8,9 @@ ghost use Rattle.hx_object.specs.Sizes.{size_of, greatest_size};
 ghost use Rattle.hx_admit.specs.Counting.{Counts, IsPart, gone};
 ghost use Rattle.hx_admit.specs.Inside.{IsHomeOf};
 ghost use Rattle.hx_admit.specs.Planning.{IsPlan, MayMakeAll, planting, moving, tree_change, owning, owner_change, listed};
+ghost use Rattle.hx_admit.specs.Ruling.{home_in_case, owner_in};
 
+use crate::case::Home;
 use crate::indexed_state::IndexedState;
 use crate::limits::LimitCounts;
 use crate::names::NameChange;
@@ -159,14 +161,22 @@ impl IndexedState {
         parent_by(namespace, object_in(hierarchy))
     }
 
-    /// The namespace of a HierarchyConfiguration. The rules look at no other object's.
-    pub(crate) fn home_of(&self, id: &Id) -> Option<&Object>
-        ensures { IsHomeOf self.now.state id.now (option_copied result) }
+    /// What the rules look at of the namespace of a HierarchyConfiguration. They look at no other object's.
+    ///
+    /// The owners tell it. They have a namespace where the tree has it, so that no name is hashed in both.
+    pub(crate) fn home_of(&self, id: &Id) -> Option<Home<'_>>
+        ensures { IsHomeOf self.now.state id.now (owner_in result) }
     {
         if !id.kind.is_hierarchy() {
             return None;
         }
-        object_in(self.store.find(Kind::Namespace, "", id.ns.as_str()))
+        let hint = self.forest.place_of(&id.ns);
+        match self.owners().node_near(hint, &id.ns) {
+            Some(node) => Some(Home {
+                owner: node.parent.as_ref(),
+            }),
+            None => None,
+        }
     }
 }
 
@@ -193,12 +203,8 @@ fn counts_after(
 }
 
 /// The change by a HierarchyConfiguration, where its namespace is there.
-fn moving(
-    id: &Id,
-    new: Option<&Object>,
-    home: Option<&Object>,
-) -> Result<Option<TreeChange>, NoMemory>
-    ensures { IfOk result (λ change. change ≡ moving id.now (option_copied new.entry) (option_copied home.entry)) }
+fn moving(id: &Id, new: Option<&Object>, home: Option<Home>) -> Result<Option<TreeChange>, NoMemory>
+    ensures { IfOk result (λ change. change ≡ moving id.now (option_copied new.entry) (home_in_case home.entry)) }
 {
     if id.name.as_str() != HIERARCHY {
         return Ok(None);
@@ -206,7 +212,7 @@ fn moving(
     match home {
         Some(home) => Ok(Some(TreeChange::SetParent {
             name: id.ns.clone()?,
-            parent: clone_of(parent_by(home, new))?,
+            parent: clone_of(home.parent_with(new))?,
         })),
         None => Ok(None),
     }

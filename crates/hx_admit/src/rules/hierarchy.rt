@@ -3,15 +3,15 @@ ghost use Rattle.std.specs.Prelude.{◌≡◌, false, is_some, option_copied};
 ghost use Rattle.hx_model.specs.First.{first};
 ghost use Rattle.hx_model.specs.Forest.{halt_of};
 ghost use Rattle.hx_model.specs.Cases.{any_of, is_kept_out};
-ghost use Rattle.hx_model.specs.RulesHierarchy.{misses_hierarchy, hierarchy_rules, new_parent, parent_after, changes_parent, lacks_parent, closes_cycle, contradicts, moves_halted, meets_excluded, grows_too_deep, is_ancestor};
+ghost use Rattle.hx_model.specs.RulesHierarchy.{misses_hierarchy, hierarchy_rules, new_parent, annotated_parent, parent_after, changes_parent, lacks_parent, closes_cycle, contradicts, moves_halted, meets_excluded, grows_too_deep, is_ancestor};
 ghost use Rattle.hx_admit.specs.Refusing.{fault_in};
 ghost use Rattle.hx_admit.specs.Ruling.{case_of, IsAtHome};
 
 use super::check_rule;
 use crate::case::Case;
-use crate::tree::{annotated_parent, given_parent};
+use crate::tree::given_parent;
 use hx_forest::{Forest, Halt};
-use hx_model::{Denial, Rule, is_same_name, parent_by};
+use hx_model::{Denial, Rule, is_same_name};
 use hx_object::Text;
 use hx_object::well_known::HIERARCHY;
 
@@ -73,7 +73,7 @@ pub fn parent_after<'a>(case: &Case<'a>) -> Option<&'a Text>
     if case.id.name.as_str() != HIERARCHY {
         return case.forest.parent(&case.id.ns);
     }
-    parent_by(case.home?, case.new)
+    case.home?.parent_with(case.new)
 }
 
 fn changes_parent(case: &Case) -> bool
@@ -106,10 +106,17 @@ pub fn closes_cycle(case: &Case) -> bool
 fn contradicts(case: &Case) -> bool
     ensures { result ≡ contradicts (case_of case.now) }
 {
-    match (given_parent(case.new), annotated_parent(case.home)) {
+    match (given_parent(case.new), owner_of(case)) {
         (Some(named), Some(annotated)) => named.as_str() != annotated.as_str(),
         _ => false,
     }
+}
+
+/// The parent that the annotation of the namespace names.
+fn owner_of<'a>(case: &Case<'a>) -> Option<&'a Text>
+    ensures { option_copied result ≡ annotated_parent (case_of case.now) }
+{
+    case.home?.owner
 }
 
 /// Whether the parent changes where an ancestor is halted, or to one that is.

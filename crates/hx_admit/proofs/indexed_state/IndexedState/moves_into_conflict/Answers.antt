@@ -11,8 +11,9 @@ use Rattle.hx_model.specs.RulesHierarchy.{closes_cycle, brought_parent, parent_a
 use Rattle.hx_model.specs.State.{home_in}
 use Rattle.hx_model.specs.Tree.{hierarchy, parent_with, forest_of}
 use Rattle.hx_admit.specs.Moves.{CanMove, IsMovedBy}
-use Rattle.hx_admit.specs.Ruling.{family_in}
+use Rattle.hx_admit.specs.Ruling.{family_in, owner_in, home_in_case}
 use Rattle.hx_admit.proofs.Counting.{valid_served}
+use Rattle.hx_admit.proofs.Owned.{owner_kept, same_after}
 use Rattle.hx_admit.proofs.Ruled.{at_home}
 use Rattle.hx_admit.proofs.Seen.{valid_seen, planted_seen}
 use Rattle.hx_admit.proofs.Moved.{if_ok_by}
@@ -29,8 +30,8 @@ pub overwrites_by_move-requires : goal.overwrites_by_move-requires
 overwrites_by_move-requires c =
     let trees : c.self.inside.forest.nodes ≡ forest_of c.args.self.now.state = planted_seen c.self.view_is c.self.invariant.now in
     let home = at_home c.args.self.now.state
-    (record { id = c.args.id.now; old = option_copied c.args.old; new = option_copied c.args.new; home = option_copied c.home_of.result; hnc_config = None; conflict = false; family = family_in c.unasked_family.result; tree = c.self.inside.forest.nodes; config = c.self.inside.config; skip = false })
-    (valid_served c.args.self.now.state (valid_seen c.self.view_is c.self.invariant.now)) trees c.requires.there (c.home_of.ensures c.requires.kind) c.requires.kind in
+    (record { id = c.args.id.now; old = option_copied c.args.old; new = option_copied c.args.new; home = home_in_case c.home_of.result; hnc_config = None; conflict = false; family = family_in c.unasked_family.result; tree = c.self.inside.forest.nodes; config = c.self.inside.config; skip = false })
+    (valid_served c.args.self.now.state (valid_seen c.self.view_is c.self.invariant.now)) trees c.requires.there (owner_kept (owner_in c.home_of.result) ∙ c.home_of.ensures c.requires.kind) c.requires.kind in
     record {
       moves =
           subst (λ (f : Forest). same_name (parent_of f c.args.id.now.ns) (option_copied c.parent_after.result) ≡ false → CanMove f c.args.id.now.ns (option_copied c.parent_after.result)) trees
@@ -41,9 +42,11 @@ overwrites_by_move-requires c =
 pub returns : goal.returns
 returns c =
     let trees : c.self.inside.forest.nodes ≡ forest_of c.args.self.now.state = planted_seen c.self.view_is c.self.invariant.now in
-    let homes : option_copied c.home_of.result ≡ home_in c.args.self.now.state.objects c.args.id.now = c.home_of.ensures c.requires.kind in
+    let given = option_copied c.args.new in
+    let homes : option_and_then (parent_with given) (home_in_case c.home_of.result) ≡ option_and_then (parent_with given) (home_in c.args.self.now.state.objects c.args.id.now) =
+    same_after given _ _ (owner_kept (owner_in c.home_of.result) ∙ c.home_of.ensures c.requires.kind) in
     let parent : option_copied c.parent_after.result ≡ parent_after (case_at c.args.self.now.state c.args.id.now (option_copied c.args.old) (option_copied c.args.new) false) =
-    c.parent_after.ensures ∙ (λ i. if bytes_eq c.args.id.now.name hierarchy then option_and_then (parent_with (option_copied c.args.new)) (homes i) else parent_of (trees i) c.args.id.now.ns) in
+    c.parent_after.ensures ∙ (λ i. if bytes_eq c.args.id.now.name hierarchy then homes i else parent_of (trees i) c.args.id.now.ns) in
     let moved : IsMovedBy c.args.self.now.state c.args.id.now.ns (option_copied c.parent_after.result) c.args.id.now (option_copied c.args.new) =
     subst (λ (p : Option (List ℕ)). IsMovedBy c.args.self.now.state c.args.id.now.ns p c.args.id.now (option_copied c.args.new)) (sym parent) (moved_by_case c.args.self.now.state c.args.id.now (option_copied c.args.old) (option_copied c.args.new) false c.requires.kind c.requires.given) in
     if_ok_by
