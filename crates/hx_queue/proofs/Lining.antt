@@ -50,28 +50,24 @@ pub first_line : (older younger new : List Key) (k : Key) → IsLine older young
 first_line older younger new k line none is =
     subst (λ l. IsLine l younger) (sym (is ∙ ap (with_key k) none)) (subst (IsLine (k ∷ [])) (sym (line.turned none)) (pushed_first k))
 
--- a key that the older generation has
-pub there_line : (older younger : List Key) (k : Key) → is_among k older ≡ true → in_line older younger ≡ with_key k (in_line older younger)
-there_line older younger k there = sym (ap (λ b. cond b (in_line older younger) (in_line older younger ++ k ∷ [])) (among_line k older younger ∙ ap (λ b. b || is_among k younger) there))
+-- a key that is there
+pub there_line : (older younger : List Key) (k : Key) → is_among k (in_line older younger) ≡ true → in_line older younger ≡ with_key k (in_line older younger)
+there_line older younger k there = sym (ap (λ b. cond b (in_line older younger) (in_line older younger ++ k ∷ [])) there)
 
--- a key that it doesn't have
-pub younger_line : (older younger : List Key) (k : Key) → IsLine older younger → (older ≡ [] → ⊥) → length (in_line older younger) < most_line → is_among k older ≡ false
+-- one that isn't goes to the younger generation
+pub absent_line : (older younger : List Key) (k : Key) → IsLine older younger → (older ≡ [] → ⊥) → length (in_line older younger) < most_line → is_among k (in_line older younger) ≡ false
     → IsLine older (with_key k younger) × (in_line older (with_key k younger) ≡ with_key k (in_line older younger))
-younger_line older younger k line some less out = by (is_among k younger) refl
+absent_line older younger k line some less absent = (
+  subst (IsLine older) (sym behind) (pushed older younger k line some less absent),
+  ap (in_line older) behind ∙ sym (append_assoc (reverse older) younger (k ∷ [])) ∙ sym (ap (λ b. cond b (in_line older younger) (in_line older younger ++ k ∷ [])) absent),
+)
   where
-    among : is_among k (in_line older younger) ≡ is_among k younger
-    among = among_line k older younger ∙ ap (λ b. b || is_among k younger) out
+    second : (a b : Bool) → (a || b) ≡ false → b ≡ false
+    second true b h = absurd (true≢false h)
+    second false b h = h
 
-    by : (b : Bool) → is_among k younger ≡ b → IsLine older (with_key k younger) × (in_line older (with_key k younger) ≡ with_key k (in_line older younger))
-    by true there = (
-      subst (IsLine older) (sym (ap (λ b. cond b younger (younger ++ k ∷ [])) there)) line,
-      ap (in_line older) (ap (λ b. cond b younger (younger ++ k ∷ [])) there) ∙ sym (ap (λ b. cond b (in_line older younger) (in_line older younger ++ k ∷ [])) (among ∙ there)),
-    )
-    by false absent = (
-      subst (IsLine older) (sym (ap (λ b. cond b younger (younger ++ k ∷ [])) absent)) (pushed older younger k line some less (among ∙ absent)),
-      ap (in_line older) (ap (λ b. cond b younger (younger ++ k ∷ [])) absent) ∙ sym (append_assoc (reverse older) younger (k ∷ []))
-          ∙ sym (ap (λ b. cond b (in_line older younger) (in_line older younger ++ k ∷ [])) (among ∙ absent)),
-    )
+    behind : with_key k younger ≡ younger ++ k ∷ []
+    behind = ap (λ b. cond b younger (younger ++ k ∷ [])) (second (is_among k older) (is_among k younger) (sym (among_line k older younger) ∙ absent))
 
 -- ---- keys that are taken
 
@@ -225,8 +221,16 @@ next_is older younger turned = by (reverse older) refl
 
 -- ---- whether a key is there
 
-pub has_older : (r : Bool) (k : Key) (older younger : List Key) → r ≡ is_among k older → r ≡ true → r ≡ is_among k (in_line older younger)
-has_older r k older younger e there = there ∙ sym (among_line k older younger ∙ ap (λ b. b || is_among k younger) (sym e ∙ there))
+pub has_younger : (r : Bool) (k : Key) (older younger : List Key) → r ≡ is_among k younger → r ≡ true → r ≡ is_among k (in_line older younger)
+has_younger r k older younger e there = there ∙ sym (among_line k older younger ∙ ap (λ b. is_among k older || b) (sym e ∙ there) ∙ always (is_among k older))
+  where
+    always : (b : Bool) → (b || true) ≡ true
+    always true = refl
+    always false = refl
 
-pub has_younger : (r s : Bool) (k : Key) (older younger : List Key) → r ≡ is_among k older → r ≡ false → s ≡ is_among k younger → s ≡ is_among k (in_line older younger)
-has_younger r s k older younger e absent f = f ∙ sym (among_line k older younger ∙ ap (λ b. b || is_among k younger) (sym e ∙ absent))
+pub has_older : (r s : Bool) (k : Key) (older younger : List Key) → r ≡ is_among k younger → r ≡ false → s ≡ is_among k older → s ≡ is_among k (in_line older younger)
+has_older r s k older younger e absent f = f ∙ sym (among_line k older younger ∙ ap (λ b. is_among k older || b) (sym e ∙ absent) ∙ alone (is_among k older))
+  where
+    alone : (b : Bool) → (b || false) ≡ b
+    alone true = refl
+    alone false = refl

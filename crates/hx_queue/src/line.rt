@@ -86,12 +86,12 @@ impl Line {
         self.older.len() + self.younger.len()
     }
 
-    /// Whether a key is there.
+    /// Whether a key is there. Most that are lie in the younger generation, which is looked up first.
     #[tactic(auto, unfolding(hx_model::specs::Keys::same_key))]
     pub(crate) fn has(&self, key: &Key) -> bool
         ensures { result ≡ is_among key.now self.now.keys }
     {
-        self.older.contains(key) || self.younger.contains(key)
+        self.younger.contains(key) || self.older.contains(key)
     }
 
     /// Whether the key of a copy is there.
@@ -99,7 +99,7 @@ impl Line {
     pub(crate) fn has_copy(&self, key: CopyOf<'_>) -> bool
         ensures { result ≡ is_among (key_by.Copy key.entry.ns.now key.entry.kind key.entry.name.now) self.now.keys }
     {
-        self.older.contains(key) || self.younger.contains(key)
+        self.younger.contains(key) || self.older.contains(key)
     }
 
     /// The next key.
@@ -110,6 +110,8 @@ impl Line {
     }
 
     /// Puts a key behind the others, unless it is there. It takes no memory.
+    ///
+    /// One that waits already, as most do that are marked while nobody works, costs one look-up.
     pub(crate) fn push(&mut self, key: Key)
         requires { 0 < self.old.room }
         ensures keys { self.new.keys ≡ with_key key self.old.keys }
@@ -117,7 +119,7 @@ impl Line {
     {
         if self.older.is_empty() {
             push_in(&mut self.older, key);
-        } else if self.older.contains(&key) {
+        } else if self.has(&key) {
             drop(key);
         } else {
             push_in(&mut self.younger, key);
