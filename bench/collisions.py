@@ -4,8 +4,8 @@
 Usage: bench/collisions.py PROGRAM
 PROGRAM is the built program, which bin/hnc leaves as crates/hnc/out/hnc.
 Prints one line for POSTs and one for GETs: the time per request with either names, and their ratio. The names have 240 bytes and differ in the
-last eight alone. All are created in a new run each time, and then read in shuffled order. The POSTs are those of the last quarter. The least of
-five runs, which take turns, counts. Everything runs on one processor.
+last eight alone. All are created in a new run each time, and then read in shuffled order. The POSTs are those of the last quarter. There are five
+turns of two runs. Everything runs on one processor.
 
 The hasher, FoldHasher, takes 16 bytes at a time: it multiplies the first eight, joined by xor with its state, by the other eight, joined by xor
 with a number. Where the first eight are those of the state the product is 0, whatever the others are. So a block is looked for after which the

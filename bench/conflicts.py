@@ -10,7 +10,7 @@ copy in every namespace; what the review of it takes is seen where it has the na
 contents of a Role in a leaf. A move takes the fourth of a column with the four below it, and their 75 Roles, below the third of another one. All
 come in shuffled order and in parts of 2,480 requests, in turns at the small and the large size; moves in parts of 248, since each marks some 450
 keys, which nobody takes here. The PUTs and the moves come once more in as many columns of the large tree as the small one has: there the two
-differ in what they hold, and not in how much of it is asked about. The least of 32 parts counts. Everything runs on one processor.
+differ in what they hold, and not in how much of it is asked about. There are 32 turns. Everything runs on one processor.
 """
 import itertools
 import os

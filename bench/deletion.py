@@ -10,7 +10,7 @@ Prints, a line for each:
   reach lie below its first one;
 - the same of reaches of 60 and of 8, in which each lies below the one before;
 - the DELETE of a namespace that holds nothing, with the turns that remove it, beside 3,800 namespaces and beside 256, and the ratio: the mean of 200.
-Each is the least of so many rounds. Times are the processor's. Everything runs on one.
+Rounds are turns of both. Times are the processor's. Everything runs on one.
 """
 import os
 import sys

@@ -5,7 +5,7 @@ Usage: bench/depth.py PROGRAM
 PROGRAM is the built program, which bin/hnc leaves as crates/hnc/out/hnc.
 Prints the time per PUT at each depth, and their ratio. A tree is a root and columns of namespaces, each the parent of the next one. A PUT moves
 a leaf below the last but one of another column, so that the depth stays. They come in shuffled order and in parts of 2,480, in turns in the
-shallow and the deep tree. The least of 32 parts counts. Everything runs on one processor.
+shallow and the deep tree. There are 32 turns. Everything runs on one processor.
 """
 import os
 import sys

@@ -7,8 +7,7 @@ where none is given. The objects are of four kinds, four of each in a namespace.
 Prints a line per kind of request and length: the time per request at each size, and their ratio; and at the end the greatest ratio of each
 kind. The first POSTs are those of the second half of the objects. Then rounds of GETs, PUTs that change the object, lists of the objects of a
 kind in one namespace, DELETEs, and POSTs of what was removed follow one another. All come in shuffled order and in parts of 1,016 requests, in
-turns at the small and the large size. The least of 32 parts with the first POSTs, and of 64 with each other kind, counts. Everything runs on
-one processor.
+turns at the small and the large size: 32 with the first POSTs, and 64 with each other kind. Everything runs on one processor.
 """
 import itertools
 import os

@@ -3,6 +3,7 @@ import itertools
 import json
 import os
 import re
+import statistics
 import subprocess
 import tempfile
 import time
@@ -136,7 +137,7 @@ class Run:
 
 
 def compare(kind, names, runs, lines, part=2_480, count=32, statuses=SUCCESS):
-    """Prints the least time per request in two runs, which take turns in so many parts of the lines that each gives, and the ratio of the second to the first.
+    """Reports the time per request in two runs, which take turns in so many parts of the lines that each gives.
 
     Parts are long, since each begins with caches that hold what the other run has read."""
     turns = [(run, parts(lines(run), part)) for run in runs]
@@ -144,7 +145,13 @@ def compare(kind, names, runs, lines, part=2_480, count=32, statuses=SUCCESS):
 
 
 def report(kind, names, times, part):
-    """Prints the least of each column of times, per request, and gives the ratio of the second to the first."""
+    """Prints what a request takes in two columns of times, and gives the ratio of the second to the first.
+
+    A row is a turn, in which one was measured right behind the other. The ratio is the middle one of all turns, and half of them lie between the two
+    that stand behind it. A machine that others use may be slower by half for seconds: then both times of a turn are, but the least times of the two
+    columns are of whatever moments, so that their ratio, which stands last, differs from run to run."""
+    low, middle, high = statistics.quantiles([second / first for first, second in times], n=4, method="inclusive")
     first, second = (min(column) / part * 1e6 for column in zip(*times))
-    print(f"{kind}: {first:.1f} us at {names[0]}, {second:.1f} us at {names[1]}, ratio {second / first:.2f}", flush=True)
-    return second / first
+    least = f"{first:.1f} us at {names[0]}, {second:.1f} us at {names[1]}, ratio {second / first:.2f}"
+    print(f"{kind}: ratio {middle:.2f} ({low:.2f} to {high:.2f}); least times {least}", flush=True)
+    return middle

@@ -8,8 +8,8 @@ of the next one. A Pod is made in a leaf and removed again, and both requests co
 namespaces of depth 8 and of depth 64; under a quota in the root and one in the leaf's column, beside Pods in all namespaces, at 4,096 namespaces
 and 60,960 Pods against a sixteenth of both; and there without quotas. They come in shuffled order and in parts of 62 requests, in turns at the
 small and the large size. There too a namespace at half the depth gets a parent in another column, with five namespaces and their Pods below it and
-a quota above it before and after; and what quotas tell is settled behind each part, of which the time of a turn is printed. The least of 16 parts
-counts. Everything runs on one processor.
+a quota above it before and after; and what quotas tell is settled behind each part, of which the time of a turn is printed. There are 16 turns
+of both sizes. Everything runs on one processor.
 """
 import os
 import sys

@@ -5,8 +5,8 @@ Usage: bench/ring.py PROGRAM [PART]
 PROGRAM is the built program, which bin/hnc leaves as crates/hnc/out/hnc.
 Prints the time per request in each run, and their ratio. In both there are 4,096 namespaces: four leaves that move between two roots, and the
 others, which in the second run are each the parent of the next one, and the last of the first, by `admission=skip`. The PUTs that move the leaves
-come in parts of PART, 2,480 where it isn't given, in turns in both runs, and the least of 32 parts counts. Then a Pod is made in a leaf and removed
-again, under a quota in its root: both requests count, in parts of two, of which the least of four counts. Everything runs on one processor.
+come in parts of PART, 2,480 where it isn't given, in 32 turns of both runs. Then a Pod is made in a leaf and removed again, under a quota in its
+root: both requests count, in parts of two, in four turns. Everything runs on one processor.
 """
 import itertools
 import os

@@ -8,7 +8,7 @@ the parent of the next one, with 16 ConfigMaps in each. A list is of the ConfigM
 another column, or the fourth with the four below it below the third of another one: so every PUT changes a parent, and the depth stays. GETs
 read the leaves' HierarchyConfigurations. The PUTs come once more in as many columns of the large tree as the small one has: there the two differ
 in what they hold, and not in how much of it is asked about. All come in shuffled order and in parts of 2,480 requests, in turns at the small and
-the large size. The least of 32 parts counts. Everything runs on one processor.
+the large size. There are 32 turns. Everything runs on one processor.
 """
 import os
 import sys

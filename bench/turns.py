@@ -11,7 +11,7 @@ exception. A tree has settled before it is measured, and settles behind each par
   above the leaf of each of 31 columns are copied to it, and are removed again; then they are posted there;
 - how many turns write, and how many don't, the time and the peak of memory, where 4,096 namespaces with 16 Roles in their root settle at once;
 - the start on the rows of that tree in a database file : the start of OTHER, a program that looks for no keys, or without one Python's reading.
-Parts take turns at the two sizes, and the least of 32 counts, of starts the least of five. Times are the processor's. Everything runs on one.
+Parts take 32 turns at the two sizes; of starts the least of five counts. Times are the processor's. Everything runs on one.
 """
 import os
 import shutil

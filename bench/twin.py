@@ -6,8 +6,8 @@ PROGRAM is the built program, which bin/hnc leaves as crates/hnc/out/hnc. The tw
 no checks. It is built in a temporary folder by the cargo that is installed, with the crates of Debian's package librust-serde-json-dev where
 they are there, and else with those that it finds by itself.
 Prints one line per kind of request and size of the bodies: the time per request of both, and their ratio. There are 20,000 ConfigMaps in 4
-namespaces, each created and then read once, in parts of 1,000, in turns in both programs. The least of the parts counts. Everything runs on one
-processor. All GETs are answered alike.
+namespaces, each created and then read once, in parts of 1,000, in turns in both programs. Everything runs on one processor. All GETs are
+answered alike.
 """
 import os
 import shutil
