@@ -61,6 +61,7 @@ pub mod Searching
 pub mod Reading
 pub mod Adding
 pub mod Placing
+pub mod Owning
 pub mod Promising
 pub mod Regular
 pub mod Sending

@@ -6,5 +6,6 @@ pub mod Before
 pub mod Halves
 pub mod Senders
 pub mod Reads
+pub mod Owners
 pub mod Moving
 pub mod Spread

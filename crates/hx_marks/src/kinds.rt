@@ -2,7 +2,9 @@
 ghost use Rattle.std.specs.Prelude.{◌≡◌, ◌++◌, ◌∷◌, [], OnOk, if◌then◌else◌, option_and_then, option_copied};
 ghost use Rattle.std.specs.Str.{bytes_eq};
 ghost use Rattle.hx_object.specs.WellKnown.{config as config_name};
-ghost use Rattle.hx_model.specs.Tree.{forest_of, parent_with};
+ghost use Rattle.hx_model.specs.First.{or_else};
+ghost use Rattle.hx_model.specs.State.{namespace_id, object_at};
+ghost use Rattle.hx_model.specs.Tree.{forest_of, named_parent, parent_with};
 ghost use Rattle.hx_model.specs.declared.key.Key.TheVariants as key;
 ghost use Rattle.hx_marks.specs.Before.{hierarchy_marks, hierarchy_reports_by, marks_before_by, move_marks_to, namespace_marks_by, namespace_reports_by, place_reports_to};
 ghost use Rattle.hx_marks.specs.Moving.{moved_marks_to};
@@ -25,7 +27,7 @@ use crate::reports::{
 use crate::usage::{charged_usage, created_usage, moved_usage, push_usage, removed_usage};
 use crate::wants::known_of;
 use hx_forest::Forest;
-use hx_model::{Key, is_same_name, is_terminating, parent_by};
+use hx_model::{Key, is_same_name, is_terminating, named_parent, parent_by};
 use hx_object::well_known::{CONFIG, HIERARCHY};
 use hx_object::{Id, Kind, NoMemory, Object, Text};
 
@@ -132,15 +134,35 @@ fn hierarchy_marks(
     if id.name.as_str() != HIERARCHY {
         return leaving_keys(current.forest, &id.ns, keys);
     }
-    let home = object_in(current.store.find(Kind::Namespace, "", id.ns.as_str()));
-    placed_marks(current, &id.ns, parent_under(home, new), keys)
+    placed_marks(current, &id.ns, parent_under(current, &id.ns, new), keys)
 }
 
 /// The parent of a namespace once its HierarchyConfiguration is `new`, or is gone. None where there is no namespace.
-fn parent_under<'a>(home: Option<&'a Object>, new: Option<&'a Object>) -> Option<&'a Text>
-    ensures { option_copied result ≡ option_and_then (parent_with (option_copied new.entry)) (option_copied home.entry) }
+///
+/// The owners tell it. They have a namespace where the tree has it, so that no name is hashed in both, and no object is read.
+fn parent_under<'a>(
+    current: &'a Current<'a>,
+    name: &Text,
+    new: Option<&'a Object>,
+) -> Option<&'a Text>
+    ensures { option_copied result ≡ option_and_then (parent_with (option_copied new.entry)) (object_at (state_in current.now).objects (namespace_id name.now)) }
 {
-    parent_by(home?, new)
+    let hint = current.forest.place_of(name);
+    match current.owners.node_near(hint, name) {
+        Some(node) => parent_beside(node.parent.as_ref(), new),
+        None => None,
+    }
+}
+
+/// The parent of a namespace whose annotation names `owner`, or none, and whose HierarchyConfiguration this is, or which has none.
+fn parent_beside<'a>(owner: Option<&'a Text>, hierarchy: Option<&'a Object>) -> Option<&'a Text>
+    ensures { option_copied result ≡ or_else (option_copied owner.entry) (option_and_then named_parent (option_copied hierarchy.entry)) }
+{
+    match (owner, hierarchy) {
+        (Some(owner), _) => Some(owner),
+        (None, Some(hierarchy)) => named_parent(hierarchy),
+        (None, None) => None,
+    }
 }
 
 /// Marks what a namespace touches that gets a parent, or keeps the one that it has.

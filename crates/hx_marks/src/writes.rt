@@ -6,6 +6,7 @@ ghost use Rattle.hx_model.specs.Writes.{MayWriteAll};
 ghost use Rattle.hx_marks.specs.Before.{marks_before_among, state_of};
 ghost use Rattle.hx_marks.specs.Reads.{state_in};
 ghost use Rattle.hx_marks.specs.Halves.{Covers, IsWithin};
+ghost use Rattle.hx_marks.specs.Owners.{TellOwners};
 ghost use Rattle.hx_marks.specs.Law.{all_marks};
 
 use crate::current::Current;
@@ -22,10 +23,12 @@ use hx_store::{Change, Store};
 pub fn marks(
     store: &Store,
     forest: &Forest,
+    owners: &Forest,
     config: &RunConfig,
     writes: &[Change],
 ) -> Result<Vec<Key>, NoMemory>
     requires tree { forest.now.nodes ≡ forest_of (state_of store.now config.now) }
+    requires owners { TellOwners store.now.objects owners.now.nodes }
     requires valid { IsValid (state_of store.now config.now) }
     requires may { MayWriteAll (state_of store.now config.now) writes.now }
     ensures named { IfOk result (λ keys. keys.items ≡ all_marks (state_of store.now config.now) writes.now) }
@@ -39,6 +42,7 @@ pub fn marks(
     let current = Current {
         store,
         forest,
+        owners,
         config,
     };
     marks_of_all(&current, &endings, writes, &mut keys)?;
