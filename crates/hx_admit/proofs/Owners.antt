@@ -1,17 +1,16 @@
 -- The changes of the owners by writes.
 --     owners-there, owner_found      what they tell of a name, by the row of its namespace
---     home_owner         what they tell of the namespace of a HierarchyConfiguration
 --     owned              the change that is planned gives the owners of the objects after a write
 use Rattle.std.proofs.Common.{◌≡◌, Bool, true, false, [], ◌∷◌, None, Some, Option, IfSome, List, ℕ, refl, sym, ap, subst, ◌∙◌}
 use Rattle.std.specs.Prelude.{is_some, if◌then◌else◌, option_map}
 use Rattle.std.specs.List.{AllByRecursion}
 use Rattle.hx_object.specs.declared.object.Id.{Id}
 use Rattle.hx_object.specs.declared.object.Object.{Object}
-use Rattle.hx_model.specs.Forest.{Forest, is_there, node_of}
+use Rattle.hx_model.specs.Forest.{is_there, node_of}
 use Rattle.hx_model.specs.ForestChanges.{with_node}
-use Rattle.hx_model.specs.Limits.{is_namespace, is_hierarchy}
+use Rattle.hx_model.specs.Limits.{is_namespace}
 use Rattle.hx_model.specs.Serving.{IsServed}
-use Rattle.hx_model.specs.State.{State, Objects, object_at, ascends, put, cut, namespace_id, home_in, after_writes}
+use Rattle.hx_model.specs.State.{State, Objects, object_at, ascends, put, cut, namespace_id, after_writes}
 use Rattle.hx_model.specs.Subnamespaces.{owned_node, owners_in, owners_of}
 use Rattle.hx_model.specs.Tree.{subnamespace_parent}
 use Rattle.hx_model.specs.Writes.{KeepsItsPlace}
@@ -19,7 +18,7 @@ use Rattle.hx_model.specs.declared.key.Write.{Write}
 use Rattle.hx_model.specs.declared.node.Node.{Node}
 use Rattle.hx_model.specs.declared.key.Write.TheVariants.{Put, Cut}
 use Rattle.hx_model.proofs.Objects.{found_id}
-use Rattle.hx_model.proofs.Planting.{all_homed, home_of_hierarchy, look_up, namespace_is_homed, namespaces-put, namespaces-cut, nodes-put, nodes-cut, put_there}
+use Rattle.hx_model.proofs.Planting.{all_homed, look_up, namespace_is_homed, namespaces-put, namespaces-cut, nodes-put, nodes-cut, put_there}
 use Rattle.hx_model.proofs.Storing.{All-found}
 use Rattle.hx_store.specs.Changes.{id_of, object_of}
 use Rattle.hx_admit.specs.Planning.{LeadTo, MayMake, owning, owner_change, listed}
@@ -33,13 +32,6 @@ owner_found objects n served = ap (option_map (λ (node : Node). node.parent)) (
     each : (found : Option Object) → option_map (λ (node : Node). node.parent) (option_map owned_node found) ≡ option_map subnamespace_parent found
     each None = refl
     each (Some x) = refl
-
--- so they tell it of the namespace of a HierarchyConfiguration
-pub home_owner : (s : State) (id : Id) (owners : Forest) (found : Option Node) → AllByRecursion IsServed s.objects → is_hierarchy id.kind ≡ true → owners ≡ owners_of s → found ≡ node_of owners id.ns → option_map (λ (node : Node). node.parent) found ≡ option_map subnamespace_parent (home_in s.objects id)
-home_owner s id owners found served is same there =
-    ap (option_map (λ (node : Node). node.parent)) (there ∙ ap (λ (f : Forest). node_of f id.ns) same)
-    ∙ owner_found s.objects id.ns served
-    ∙ ap (option_map subnamespace_parent) (sym (home_of_hierarchy s.objects id is))
 
 -- ---- the owners after a write
 

@@ -1,10 +1,11 @@
 -- What a state with its indexes keeps true, as it is seen.
 --     valid_seen       the state is valid
 --     planted_seen     the tree is that of the state
+--     told_seen        the owners tell which parents annotations name
 --     config_seen      what is fixed for the run is the state's
 --     served_seen      what is found is served
 --     legal_listed     what is listed is legal
-use Rattle.std.proofs.Common.{◌≡◌, ℕ, List, Option, Some, ap, ◌∙◌, subst}
+use Rattle.std.proofs.Common.{◌≡◌, ℕ, List, Option, Some, option_map, ap, ◌∙◌, subst}
 use Rattle.std.specs.List.{AllByRecursion}
 use Rattle.hx_object.specs.Faults.{IsLegal}
 use Rattle.hx_object.specs.declared.kind.Kind.{Kind}
@@ -12,17 +13,20 @@ use Rattle.hx_object.specs.declared.object.Id.{Id}
 use Rattle.hx_object.specs.declared.object.Object.{Object}
 use Rattle.hx_select.specs.declared.selector.Selector.{Selector}
 use Rattle.hx_model.specs.Answers.{selected}
-use Rattle.hx_model.specs.Forest.{Forest}
+use Rattle.hx_model.specs.Forest.{Forest, node_of}
 use Rattle.hx_model.specs.Serving.{IsServed}
-use Rattle.hx_model.specs.State.{Objects, object_at}
-use Rattle.hx_model.specs.Tree.{forest_of}
+use Rattle.hx_model.specs.State.{Objects, object_at, namespace_id}
+use Rattle.hx_model.specs.Subnamespaces.{owners_of}
+use Rattle.hx_model.specs.Tree.{forest_of, subnamespace_parent}
 use Rattle.hx_model.specs.Valid.{IsValid, IsStored}
 use Rattle.hx_model.specs.declared.config.RunConfig.{RunConfig}
 use Rattle.hx_model.specs.declared.key.Write.{Write}
+use Rattle.hx_model.specs.declared.node.Node.{Node}
 use Rattle.hx_model.proofs.Storing.{All-found}
 use Rattle.hx_admit.specs.StateView.{StateView, Agrees, state_in}
 use Rattle.hx_admit.specs.declared.limits.LimitCounts.{LimitCounts}
-use Rattle.hx_admit.proofs.Counting.{listed_legal}
+use Rattle.hx_admit.proofs.Counting.{listed_legal, valid_served}
+use Rattle.hx_admit.proofs.Owners.{owner_found}
 
 module _ {config : RunConfig} {objects : Objects} {last : ℕ} {staged : List Write} {counts : LimitCounts} {nodes owners : Forest} {seen : StateView} (same : record { state = state_in config objects last; staged = staged } ≡ seen) (agrees : Agrees config objects last counts nodes owners) where
   -- the state is valid
@@ -32,6 +36,12 @@ module _ {config : RunConfig} {objects : Objects} {last : ℕ} {staged : List Wr
   -- the tree is that of the state
   pub planted_seen : nodes ≡ forest_of seen.state
   planted_seen = agrees.planted ∙ ap (λ (v : StateView). forest_of v.state) same
+
+  -- the owners tell which parents annotations name
+  pub told_seen : (n : List ℕ) → option_map (λ (node : Node). node.parent) (node_of owners n) ≡ option_map subnamespace_parent (object_at seen.state.objects (namespace_id n))
+  told_seen n =
+      ap (λ (f : Forest). option_map (λ (node : Node). node.parent) (node_of f n)) (agrees.owned ∙ ap (λ (v : StateView). owners_of v.state) same)
+      ∙ owner_found seen.state.objects n (valid_served seen.state valid_seen)
 
   -- what is fixed for the run is the state's
   pub config_seen : config ≡ seen.state.config

@@ -1,10 +1,12 @@
 // A state with its indexes.
-ghost use Rattle.std.specs.Prelude.{◌≡◌, ◌≤◌, [], OnOk, OnErr};
+ghost use Rattle.std.specs.Prelude.{◌≡◌, ◌≤◌, ℕ, List, [], OnOk, OnErr, option_map};
+ghost use Rattle.hx_model.specs.Forest.{node_of};
 ghost use Rattle.hx_model.specs.Limits.{greatest_version};
-ghost use Rattle.hx_model.specs.State.{opening_state, state_after};
+ghost use Rattle.hx_model.specs.State.{namespace_id, object_at, opening_state, state_after};
 ghost use Rattle.hx_model.specs.Subnamespaces.{owners_of};
-ghost use Rattle.hx_model.specs.Tree.{forest_of};
+ghost use Rattle.hx_model.specs.Tree.{forest_of, subnamespace_parent};
 ghost use Rattle.hx_model.specs.Writes.{MayWriteAll};
+ghost use Rattle.hx_model.specs.declared.node.Node.{Node as node};
 ghost use Rattle.hx_quota.specs.SubtreeUsage.{IsCounted};
 
 use crate::limits::LimitCounts;
@@ -101,8 +103,9 @@ impl IndexedState {
     }
 
     /// All namespaces, each under the parent that its annotation names.
-    pub(crate) fn owners(&self) -> &Forest
-        ensures { result.now.nodes ≡ owners_of self.now.state }
+    pub fn owners(&self) -> &Forest
+        ensures nodes { result.now.nodes ≡ owners_of self.now.state }
+        ensures tells { (n : List ℕ) → option_map (λ (owner : node). owner.parent) (node_of result.now.nodes n) ≡ option_map subnamespace_parent (object_at self.now.state.objects (namespace_id n)) }
     {
         &self.owners
     }

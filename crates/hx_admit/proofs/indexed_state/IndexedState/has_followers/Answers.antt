@@ -10,10 +10,10 @@ pub returns-then-is_some : goal.returns-then-is_some
 returns-then-is_some c =
     let there : is_there c.owners.result.now.nodes c.args.name.now ≡ true = search rules in
     c.has_other.ensures
-    ∙ ap (list_any (λ m. not (bytes_eq m c.args.name.now))) (c.children.ensures.names ∙ ap (λ (f : Forest). children_of f c.args.name.now) c.owners-then-is_some.ensures)
-    ∙ any_follower (owners_of c.args.self.now.state) c.args.name.now (sym (ap (λ (f : Forest). is_there f c.args.name.now) c.owners.ensures) ∙ there)
+    ∙ ap (list_any (λ m. not (bytes_eq m c.args.name.now))) (c.children.ensures.names ∙ ap (λ (f : Forest). children_of f c.args.name.now) c.owners-then-is_some.ensures.nodes)
+    ∙ any_follower (owners_of c.args.self.now.state) c.args.name.now (sym (ap (λ (f : Forest). is_there f c.args.name.now) c.owners.ensures.nodes) ∙ there)
 
 pub returns-else-is_some : goal.returns-else-is_some
 returns-else-is_some c =
     let there : is_there c.owners.result.now.nodes c.args.name.now ≡ false = search rules in
-    c.if-is_some.false ∙ sym (no_follower (owners_of c.args.self.now.state) c.args.name.now (sym (ap (λ (f : Forest). is_there f c.args.name.now) c.owners.ensures) ∙ there))
+    c.if-is_some.false ∙ sym (no_follower (owners_of c.args.self.now.state) c.args.name.now (sym (ap (λ (f : Forest). is_there f c.args.name.now) c.owners.ensures.nodes) ∙ there))

@@ -10,7 +10,7 @@ use Rattle.hx_admit.proofs.indexed_state.IndexedState.push_ending.Goals as goal
 
 pub returns : goal.returns
 returns c =
-    let members = c.deref.ensures.value ∙ c.in_ok-members.ensures ∙ ap (λ (f : Forest). subtree_of f c.args.name.now) c.owners.ensures in
+    let members = c.deref.ensures.value ∙ c.in_ok-members.ensures ∙ ap (λ (f : Forest). subtree_of f c.args.name.now) c.owners.ensures.nodes in
     let ends : flat_map (ended_at c.args.self.now.state) c.deref.result.now ≡ ending c.args.self.now.state c.args.name.now =
     ap (flat_map (ended_at c.args.self.now.state)) members ∙ ended_among c.args.self.now.state c.requires c.args.name.now in
     subst (λ (ws : List Write). OnOk c.push_each_ended.result (c.push_each_ended.new.writes.items ≡ c.args.writes.now.items ++ ws)) ends c.push_each_ended.ensures
