@@ -14,7 +14,7 @@ use Rattle.hx_ports.specs.Rows.{Entry, entry_of}
 
 -- the bytes of a row's key, wherever they lie
 abbrev pub key_bytes : RowKey → List ℕ
-key_bytes (key.Lying bytes) = bytes.now
+key_bytes (key.Borrowed bytes) = bytes.now
 key_bytes (key.Formed bytes) = bytes.items
 
 -- what a key is hashed by: as many first bytes as the key of a legal object has at most

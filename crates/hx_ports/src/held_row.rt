@@ -61,7 +61,7 @@ impl Model for HeldRow {
 /// The key of a row: as it lies in memory, or as it was formed.
 #[derive(Drop)]
 enum RowKey<'a> {
-    Lying(&'a [u8]),
+    Borrowed(&'a [u8]),
     Formed(ArrayVec<u8, MOST>),
 }
 
@@ -70,7 +70,7 @@ impl RowKey<'_> {
         ensures { result.now ≡ key_bytes self.now }
     {
         match self {
-            RowKey::Lying(bytes) => bytes,
+            RowKey::Borrowed(bytes) => bytes,
             RowKey::Formed(bytes) => bytes.as_slice(),
         }
     }
@@ -132,7 +132,7 @@ impl HeldRow {
         ensures { key_bytes result ≡ self.now.0 }
     {
         match &self.form {
-            Form::Given(row) => RowKey::Lying(row.key.as_slice()),
+            Form::Given(row) => RowKey::Borrowed(row.key.as_slice()),
             Form::Put(object) => RowKey::Formed(whole_key(object)),
         }
     }
