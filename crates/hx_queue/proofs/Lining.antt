@@ -1,22 +1,22 @@
 -- How the two generations of keys that wait change.
-use Rattle.std.proofs.Common.{◌≡◌, ◌≤◌, ◌<◌, ◌+◌, ◌-◌, ℕ, Bool, true, false, not, cond, ◌&&◌, ◌||◌, List, [], ◌∷◌, ◌++◌, reverse, length, refl, sym, ap, subst, ◌∙◌, true≢false, arith, nat_lt, position, Some, None, take, slice_get, lt-ltb}
+use Rattle.std.proofs.Common.{◌≡◌, ◌≤◌, ◌<◌, ◌+◌, ◌-◌, ℕ, Bool, true, false, not, cond, ◌&&◌, ◌||◌, List, [], ◌∷◌, ◌++◌, reverse, length, refl, sym, ap, subst, ◌∙◌, true≢false, arith, nat_lt, position, Option, Some, None, is_some, take, slice_get, lt-ltb}
 use Rattle.std.specs.List.{AllByRecursion, IsDistinct, position_or_len, swap_remove}
 use Rattle.std.specs.List.Sorted.{IsPermutation}
-use Rattle.std.specs.Option.{option_map_or}
-use Rattle.std.specs.Bool.{OnFalse}
+use Rattle.std.specs.Option.{option_map_or, option_to_list}
 use Rattle.std.proofs.lemmas.List.{reverse-append, reverse-reverse, append_assoc, length-append, get_or_push}
 use Rattle.std.proofs.lemmas.Option.{slice_get-get_or}
 use Rattle.std.proofs.Math.Seq.{take-append_seam}
-use Rattle.std.proofs.lemmas.List.Sorted.{IsPermutation-sym, IsPermutation-reverse, IsPermutation-append_comm, length_permutation}
+use Rattle.std.proofs.lemmas.List.Sorted.{IsPermutation-sym, IsPermutation-reverse, IsPermutation-append_comm, length_permutation, list_any-IsPermutation}
 use Rattle.std.proofs.lemmas.List.Filters.{length-filter_both}
+use Rattle.std.proofs.lemmas.List.Folds.{list_any-append}
 use Rattle.std.proofs.lemmas.Map.Keys.{IsDistinct-head, IsDistinct-tail, IsDistinct-push, IsDistinct-IsPermutation}
 use Rattle.indexmap.specs.IndexMap.{swap_remove_by}
 use Rattle.indexmap.proofs.MapLemmas.{swap_remove_last}
 use Rattle.hx_model.specs.Keys.{same_key, is_among}
 use Rattle.hx_model.specs.declared.key.Key.{Key}
 use Rattle.hx_queue.specs.Kept.{waiting_without}
-use Rattle.hx_queue.specs.Line.{in_line, with_key, most_line, IsLine}
-use Rattle.hx_model.proofs.SameKeys.{key_laws, same_key_itself, same_turned}
+use Rattle.hx_queue.specs.Line.{Lacks, in_line, with_key, most_line, IsLine}
+use Rattle.hx_model.proofs.SameKeys.{key_laws, same_key_is, same_key_itself, same_turned}
 use Rattle.hx_queue.proofs.Sets.{among_without, distinct_filter, same_keys, line_without, line_permutes, among_line, head_absent}
 
 pub no_keys : IsLine [] []
@@ -26,11 +26,6 @@ no_keys = record { distinct = tt; turned = λ e. refl; most = omega arith }
 pub none_from : (xs : List Key) → length xs ≡ 0 → xs ≡ []
 none_from [] e = refl
 none_from (x ∷ xs) e = absurd (omega (arith, e))
-
--- what holds where a test says no
-pub unchanged : (b : Bool) (P : Type 0) → b ≡ false → OnFalse b P → P
-unchanged true P e h = absurd (true≢false e)
-unchanged false P e h = h
 
 -- ---- keys that are pushed
 
@@ -50,24 +45,28 @@ pub first_line : (older younger new : List Key) (k : Key) → IsLine older young
 first_line older younger new k line none is =
     subst (λ l. IsLine l younger) (sym (is ∙ ap (with_key k) none)) (subst (IsLine (k ∷ [])) (sym (line.turned none)) (pushed_first k))
 
--- a key that is there
-pub there_line : (older younger : List Key) (k : Key) → is_among k (in_line older younger) ≡ true → in_line older younger ≡ with_key k (in_line older younger)
-there_line older younger k there = sym (ap (λ b. cond b (in_line older younger) (in_line older younger ++ k ∷ [])) there)
+-- a key that the older generation has
+pub there_line : (older younger : List Key) (k : Key) → is_among k older ≡ true → in_line older younger ≡ with_key k (in_line older younger)
+there_line older younger k there = sym (ap (λ b. cond b (in_line older younger) (in_line older younger ++ k ∷ [])) (among_line k older younger ∙ ap (λ b. b || is_among k younger) there))
 
--- one that isn't goes to the younger generation
-pub absent_line : (older younger : List Key) (k : Key) → IsLine older younger → (older ≡ [] → ⊥) → length (in_line older younger) < most_line → is_among k (in_line older younger) ≡ false
+-- a key that it doesn't have
+pub younger_line : (older younger : List Key) (k : Key) → IsLine older younger → (older ≡ [] → ⊥) → length (in_line older younger) < most_line → is_among k older ≡ false
     → IsLine older (with_key k younger) × (in_line older (with_key k younger) ≡ with_key k (in_line older younger))
-absent_line older younger k line some less absent = (
-  subst (IsLine older) (sym behind) (pushed older younger k line some less absent),
-  ap (in_line older) behind ∙ sym (append_assoc (reverse older) younger (k ∷ [])) ∙ sym (ap (λ b. cond b (in_line older younger) (in_line older younger ++ k ∷ [])) absent),
-)
+younger_line older younger k line some less out = by (is_among k younger) refl
   where
-    second : (a b : Bool) → (a || b) ≡ false → b ≡ false
-    second true b h = absurd (true≢false h)
-    second false b h = h
+    among : is_among k (in_line older younger) ≡ is_among k younger
+    among = among_line k older younger ∙ ap (λ b. b || is_among k younger) out
 
-    behind : with_key k younger ≡ younger ++ k ∷ []
-    behind = ap (λ b. cond b younger (younger ++ k ∷ [])) (second (is_among k older) (is_among k younger) (sym (among_line k older younger) ∙ absent))
+    by : (b : Bool) → is_among k younger ≡ b → IsLine older (with_key k younger) × (in_line older (with_key k younger) ≡ with_key k (in_line older younger))
+    by true there = (
+      subst (IsLine older) (sym (ap (λ b. cond b younger (younger ++ k ∷ [])) there)) line,
+      ap (in_line older) (ap (λ b. cond b younger (younger ++ k ∷ [])) there) ∙ sym (ap (λ b. cond b (in_line older younger) (in_line older younger ++ k ∷ [])) (among ∙ there)),
+    )
+    by false absent = (
+      subst (IsLine older) (sym (ap (λ b. cond b younger (younger ++ k ∷ [])) absent)) (pushed older younger k line some less (among ∙ absent)),
+      ap (in_line older) (ap (λ b. cond b younger (younger ++ k ∷ [])) absent) ∙ sym (append_assoc (reverse older) younger (k ∷ []))
+          ∙ sym (ap (λ b. cond b (in_line older younger) (in_line older younger ++ k ∷ [])) (among ∙ absent)),
+    )
 
 -- ---- keys that are taken
 
@@ -188,11 +187,39 @@ older_distinct older younger line =
     let turned = IsDistinct-IsPermutation same_key same_turned (reverse older ++ younger) (younger ++ reverse older) (IsPermutation-append_comm (reverse older) younger) line.distinct in
     IsDistinct-IsPermutation same_key same_turned (reverse older) older (IsPermutation-sym _ _ (IsPermutation-reverse older)) (distinct_right younger (reverse older) turned)
 
--- what each generation has of a key
-abbrev pub LacksAlone : Key → List Key → List Key → Type 0
-LacksAlone k old new = (q : Key) → is_among q new ≡ cond (same_key k q) false (is_among q old)
+-- a key of the older generation isn't in the younger one
+in_one : (k : Key) (xs ys : List Key) → IsDistinct same_key (xs ++ ys) → is_among k xs ≡ true → is_among k ys ≡ false
+in_one k [] ys d h = absurd (true≢false (sym h))
+in_one k (x ∷ xs) ys d h = by (same_key k x) refl h (in_one k xs ys (IsDistinct-tail same_key x (xs ++ ys) d))
+  where
+    later : (p q : Bool) → (p || q) ≡ false → q ≡ false
+    later true q e = absurd (true≢false e)
+    later false q e = e
 
-pub taken_line : (k : Key) (older younger u v : List Key) → IsLine older younger → IsDistinct same_key u → IsDistinct same_key v → LacksAlone k older u → LacksAlone k younger v
+    by : (b : Bool) → same_key k x ≡ b → (b || is_among k xs) ≡ true → (is_among k xs ≡ true → is_among k ys ≡ false) → is_among k ys ≡ false
+    by true e _ _ =
+        let others = head_absent x (xs ++ ys) (IsDistinct-head same_key x (xs ++ ys) d) in
+        ap (λ q. is_among q ys) (same_key_is k x e) ∙ later (is_among x xs) (is_among x ys) (sym (list_any-append (same_key x) xs ys) ∙ others)
+    by false e there rest = rest there
+
+pub apart : (k : Key) (older younger : List Key) → IsLine older younger → is_among k older ≡ true → is_among k younger ≡ false
+apart k older younger line there =
+    in_one k (reverse older) younger line.distinct (sym (list_any-IsPermutation (same_key k) older (reverse older) (IsPermutation-reverse older)) ∙ there)
+
+-- without a key that isn't there
+lacks_absent : (k : Key) (keys : List Key) → is_among k keys ≡ false → Lacks k keys keys
+lacks_absent k keys absent q = by (same_key k q) refl
+  where
+    by : (b : Bool) → same_key k q ≡ b → is_among q keys ≡ cond (same_key k q) false (is_among q keys)
+    by true e = ap (λ y. is_among y keys) (sym (same_key_is k q e)) ∙ absent ∙ sym (ap (λ b. cond b false (is_among q keys)) e)
+    by false e = sym (ap (λ b. cond b false (is_among q keys)) e)
+
+-- the younger generation lacks a key that it is asked for only where the older one didn't have it
+pub lacks_other : (taken : Bool) (k : Key) (older younger new : List Key) → IsLine older younger → taken ≡ is_among k older → (taken ≡ true → new ≡ younger) → (taken ≡ false → Lacks k younger new) → Lacks k younger new
+lacks_other true k older younger new line there kept lacks = subst (Lacks k younger) (sym (kept refl)) (lacks_absent k younger (apart k older younger line (sym there)))
+lacks_other false k older younger new line there kept lacks = lacks refl
+
+pub taken_line : (k : Key) (older younger u v : List Key) → IsLine older younger → IsDistinct same_key u → IsDistinct same_key v → Lacks k older u → Lacks k younger v
     → IsPermutation (in_line u v) (waiting_without (in_line older younger) k)
 taken_line k older younger u v line c d h g =
     taken_both k older younger u v (taken k older u (older_distinct older younger line) c h) (taken k younger v (younger_distinct older younger line) d g)
@@ -204,6 +231,39 @@ first_last xs x =
     let long = length-append xs (x ∷ []) in
     let e : length xs ≡ length (xs ++ x ∷ []) - 1 = omega (arith, long) in
     ap (slice_get (xs ++ x ∷ [])) (sym e) ∙ slice_get-get_or (xs ++ x ∷ []) (length xs) x (omega (arith, long)) ∙ ap Some (get_or_push xs x x (length xs) refl)
+
+-- ---- the last key
+
+-- what is popped is the last key
+pub popped : (k : Key) (old new : List Key) (r : Option Key) → (0 < length old → is_some r ≡ true) → slice_get old (length old - 1) ≡ Some k → old ≡ new ++ option_to_list r → r ≡ Some k
+popped k [] new r some last is = absurd (true≢false (sym (ap is_some last)))
+popped k (x ∷ xs) new None some last is = absurd (true≢false (sym (some (omega arith))))
+popped k (x ∷ xs) new (Some y) some last is = sym (first_last new y) ∙ ap (λ l. slice_get l (length l - 1)) (sym is) ∙ last
+
+pub last_among : (k : Key) (init : List Key) → is_among k (init ++ k ∷ []) ≡ true
+last_among k init = list_any-append (same_key k) init (k ∷ []) ∙ ap (λ b. is_among k init || (b || false)) (same_key_itself k) ∙ always (is_among k init)
+  where
+    always : (b : Bool) → (b || true) ≡ true
+    always true = refl
+    always false = refl
+
+pub last_apart : (k : Key) (init : List Key) → IsDistinct same_key (init ++ k ∷ []) → is_among k init ≡ false
+last_apart k init d =
+    let turned = IsDistinct-IsPermutation same_key same_turned (init ++ k ∷ []) (k ∷ init) (IsPermutation-append_comm init (k ∷ [])) d in
+    head_absent k init (IsDistinct-head same_key k init turned)
+
+-- the others are there without it
+pub last_lacks : (k : Key) (init : List Key) → is_among k init ≡ false → Lacks k (init ++ k ∷ []) init
+last_lacks k init absent q = by (same_key k q) refl
+  where
+    alone : (b : Bool) → (b || false) ≡ b
+    alone true = refl
+    alone false = refl
+
+    by : (b : Bool) → same_key k q ≡ b → is_among q init ≡ cond (same_key k q) false (is_among q (init ++ k ∷ []))
+    by true e = ap (λ y. is_among y init) (sym (same_key_is k q e)) ∙ absent ∙ sym (ap (λ b. cond b false (is_among q (init ++ k ∷ []))) e)
+    by false e =
+        sym (ap (λ b. cond b false (is_among q (init ++ k ∷ []))) e ∙ list_any-append (same_key q) init (k ∷ []) ∙ ap (λ b. is_among q init || (b || false)) (same_turned q k ∙ e) ∙ alone (is_among q init))
 
 pub next_is : (older younger : List Key) → (older ≡ [] → younger ≡ []) → slice_get older (length older - 1) ≡ slice_get (in_line older younger) 0
 next_is older younger turned = by (reverse older) refl
@@ -221,16 +281,8 @@ next_is older younger turned = by (reverse older) refl
 
 -- ---- whether a key is there
 
-pub has_younger : (r : Bool) (k : Key) (older younger : List Key) → r ≡ is_among k younger → r ≡ true → r ≡ is_among k (in_line older younger)
-has_younger r k older younger e there = there ∙ sym (among_line k older younger ∙ ap (λ b. is_among k older || b) (sym e ∙ there) ∙ always (is_among k older))
-  where
-    always : (b : Bool) → (b || true) ≡ true
-    always true = refl
-    always false = refl
+pub has_older : (r : Bool) (k : Key) (older younger : List Key) → r ≡ is_among k older → r ≡ true → r ≡ is_among k (in_line older younger)
+has_older r k older younger e there = there ∙ sym (among_line k older younger ∙ ap (λ b. b || is_among k younger) (sym e ∙ there))
 
-pub has_older : (r s : Bool) (k : Key) (older younger : List Key) → r ≡ is_among k younger → r ≡ false → s ≡ is_among k older → s ≡ is_among k (in_line older younger)
-has_older r s k older younger e absent f = f ∙ sym (among_line k older younger ∙ ap (λ b. is_among k older || b) (sym e ∙ absent) ∙ alone (is_among k older))
-  where
-    alone : (b : Bool) → (b || false) ≡ b
-    alone true = refl
-    alone false = refl
+pub has_younger : (r s : Bool) (k : Key) (older younger : List Key) → r ≡ is_among k older → r ≡ false → s ≡ is_among k younger → s ≡ is_among k (in_line older younger)
+has_younger r s k older younger e absent f = f ∙ sym (among_line k older younger ∙ ap (λ b. b || is_among k younger) (sym e ∙ absent))

@@ -2,9 +2,10 @@
 --     LineView    the keys, the next one first, and the room
 --     in_line     the keys of both generations in order
 --     with_key    keys with one behind the others, unless it is there
+--     Lacks       keys without one of them
 --     room_in     the room for more
 --     IsLine      what the generations keep
-use Rattle.std.specs.Prelude.{◌≡◌, ◌≤◌, ◌-◌, ℕ, min, length, List, [], ◌∷◌, ◌++◌, reverse, if◌then◌else◌, refl}
+use Rattle.std.specs.Prelude.{◌≡◌, ◌≤◌, ◌-◌, ℕ, false, min, length, List, [], ◌∷◌, ◌++◌, reverse, if◌then◌else◌, refl}
 use Rattle.std.specs.List.{IsDistinct}
 use Rattle.std.specs.Coded.{Coded, code_by, coded×, coded_list, coded_ℕ}
 use Rattle.hx_model.specs.Keys.{same_key, is_among}
@@ -22,6 +23,10 @@ in_line now later = reverse now ++ later
 -- with a key behind the others, unless it is there
 abbrev pub with_key : Key → List Key → List Key
 with_key k keys = if is_among k keys then keys else keys ++ k ∷ []
+
+-- one key isn't there any more, and each other one is where it was
+abbrev pub Lacks : Key → List Key → List Key → Type 0
+Lacks k old new = (q : Key) → is_among q new ≡ (if same_key k q then false else is_among q old)
 
 -- as many keys at most are in line, which is more than any memory has room for, so that a sum with their number is one of a `usize`
 abbrev pub most_line : ℕ

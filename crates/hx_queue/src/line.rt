@@ -1,13 +1,13 @@
 // The keys that wait, in their order.
-ghost use Rattle.std.specs.Prelude.{◌≡◌, ◌≤◌, ◌<◌, ◌+◌, ◌++◌, ◌∷◌, [], List, false, OnOk, option_copied, length, min, slice_get};
+ghost use Rattle.std.specs.Prelude.{◌≡◌, ◌≤◌, ◌<◌, ◌+◌, ◌-◌, ◌++◌, ◌∷◌, [], List, true, false, Some, OnOk, option_copied, length, min, slice_get};
 ghost use Rattle.std.specs.List.{IsDistinct, list_any};
 ghost use Rattle.std.specs.List.Sorted.{IsPermutation};
-ghost use Rattle.indexmap.specs.IndexSet.{spare};
+ghost use Rattle.indexmap.specs.IndexSet.{spare, swap_remove_by};
 ghost use Rattle.hx_model.specs.Keys.{same_key, is_among};
 ghost use Rattle.hx_model.specs.declared.key.Key.{Key as key_of};
 ghost use Rattle.hx_queue.specs.Kept.{waiting_without};
 ghost use Rattle.hx_model.specs.declared.key.Key.TheVariants as key_by;
-ghost use Rattle.hx_queue.specs.Line.{in_line, with_key, most_line, room_in};
+ghost use Rattle.hx_queue.specs.Line.{Lacks, in_line, with_key, most_line, room_in};
 
 use crate::copy_of::CopyOf;
 use hx_model::Key;
@@ -86,12 +86,12 @@ impl Line {
         self.older.len() + self.younger.len()
     }
 
-    /// Whether a key is there. Most that are lie in the younger generation, which is looked up first.
+    /// Whether a key is there.
     #[tactic(auto, unfolding(hx_model::specs::Keys::same_key))]
     pub(crate) fn has(&self, key: &Key) -> bool
         ensures { result ≡ is_among key.now self.now.keys }
     {
-        self.younger.contains(key) || self.older.contains(key)
+        self.older.contains(key) || self.younger.contains(key)
     }
 
     /// Whether the key of a copy is there.
@@ -99,7 +99,7 @@ impl Line {
     pub(crate) fn has_copy(&self, key: CopyOf<'_>) -> bool
         ensures { result ≡ is_among (key_by.Copy key.entry.ns.now key.entry.kind key.entry.name.now) self.now.keys }
     {
-        self.younger.contains(key) || self.older.contains(key)
+        self.older.contains(key) || self.younger.contains(key)
     }
 
     /// The next key.
@@ -110,8 +110,6 @@ impl Line {
     }
 
     /// Puts a key behind the others, unless it is there. It takes no memory.
-    ///
-    /// One that waits already, as most do that are marked while nobody works, costs one look-up.
     pub(crate) fn push(&mut self, key: Key)
         requires { 0 < self.old.room }
         ensures keys { self.new.keys ≡ with_key key self.old.keys }
@@ -119,7 +117,7 @@ impl Line {
     {
         if self.older.is_empty() {
             push_in(&mut self.older, key);
-        } else if self.has(&key) {
+        } else if self.older.contains(&key) {
             drop(key);
         } else {
             push_in(&mut self.younger, key);
@@ -132,8 +130,8 @@ impl Line {
         ensures first { (rest : List key_of) → self.old.keys ≡ key.now ∷ rest → self.new.keys ≡ rest }
         ensures room { self.old.room ≤ self.new.room }
     {
-        let _older = self.older.swap_remove(key);
-        let _younger = self.younger.swap_remove(key);
+        let taken = take_in(&mut self.older, key);
+        take_unless(taken, &mut self.younger, key);
         turn(&mut self.older, &mut self.younger);
     }
 }
@@ -146,6 +144,51 @@ fn push_in(keys: &mut KeySet, key: Key)
     ensures room { spare keys.old ≤ spare keys.new + 1 }
 {
     let _pushed = keys.insert(key);
+}
+
+// Takes a key out of a generation, and says whether it was there. The last key is found without a look-up.
+#[tactic(auto, unfolding(hx_model::specs::Keys::same_key))]
+fn take_in(keys: &mut KeySet, key: &Key) -> bool
+    ensures found { result ≡ is_among key.now keys.old.keys }
+    ensures keys { keys.new.keys ≡ swap_remove_by (same_key key.now) keys.old.keys }
+    ensures lacks { Lacks key.now keys.old.keys keys.new.keys }
+    ensures fewer { length keys.new.keys ≤ length keys.old.keys }
+    ensures distinct { IsDistinct same_key keys.new.keys }
+    ensures room { spare keys.old ≤ spare keys.new }
+{
+    let _count = keys.len();
+    if is_last(keys, key) {
+        let _last = keys.pop();
+        return true;
+    }
+    keys.swap_remove(key)
+}
+
+// Whether a key is the last of a generation.
+fn is_last(keys: &KeySet, key: &Key) -> bool
+    ensures { result ≡ true → slice_get keys.now.keys (length keys.now.keys - 1) ≡ Some key.now }
+{
+    match keys.last() {
+        Some(last) => *last == *key,
+        None => false,
+    }
+}
+
+// Takes a key out of a generation, unless it was taken out of the other one.
+#[tactic(auto, unfolding(hx_model::specs::Keys::same_key))]
+fn take_unless(taken: bool, keys: &mut KeySet, key: &Key)
+    ensures kept { taken ≡ true → keys.new.keys ≡ keys.old.keys }
+    ensures absent { is_among key.now keys.old.keys ≡ false → keys.new.keys ≡ keys.old.keys }
+    ensures lacks { taken ≡ false → Lacks key.now keys.old.keys keys.new.keys }
+    ensures fewer { length keys.new.keys ≤ length keys.old.keys }
+    ensures distinct { IsDistinct same_key keys.new.keys }
+    ensures room { spare keys.old ≤ spare keys.new }
+{
+    if taken {
+        let _count = keys.len();
+        return;
+    }
+    let _taken = keys.swap_remove(key);
 }
 
 // Where the older generation has no keys, the younger one takes its place.
