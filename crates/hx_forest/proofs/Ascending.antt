@@ -15,7 +15,7 @@ use Rattle.hx_object.specs.Texts.{bytes_cmp}
 use Rattle.hx_model.specs.Forest.{is_in}
 use Rattle.hx_model.proofs.Climbing.{is_same, same_itself}
 use Rattle.hx_forest.specs.Names.{IsAscending}
-use Rattle.hx_forest.proofs.Nodes.{name_total, same_name-cmp}
+use Rattle.hx_forest.proofs.Named.{name_total, same_name-cmp}
 use Rattle.hx_forest.proofs.Listing.{all_below}
 
 greater_of_less : (a b : List ℕ) → bytes_cmp a b ≡ Less → bytes_cmp b a ≡ Greater

@@ -25,7 +25,8 @@ use Rattle.hx_forest.specs.Kept.{changed_by, MayChange}
 use Rattle.hx_forest.specs.declared.places.Nodes.{Nodes}
 use Rattle.hx_forest.specs.Ways.{forest_of, index_at, parent_in}
 use Rattle.hx_forest.specs.Staged.{parted_by, joined_by, IsLeft, IsJoined}
-use Rattle.hx_forest.proofs.Nodes.{ascends, ascends-with_node, ascends-without_node, ascends-with_changed, node_of-with_node, node_of-without_node}
+use Rattle.hx_forest.proofs.Named.{ascends, ascends-without_value, ascends-with_changed, lookup-without_value}
+use Rattle.hx_forest.proofs.Nodes.{ascends-with_node, node_of-with_node}
 use Rattle.hx_forest.proofs.Ways.{parent_at_name}
 use Rattle.hx_forest.proofs.Listing.{names_sorted, same_names}
 
@@ -119,7 +120,7 @@ parent-with_node n node f m = ap (λ (o : Option Node). option_and_then (λ node
     by false = refl
 
 parent-without_node : (n : List ℕ) (f : Forest) (m : List ℕ) → parent_of (without_node n f) m ≡ cond (bytes_eq m n) None (parent_of f m)
-parent-without_node n f m = ap (λ (o : Option Node). option_and_then (λ node. node.parent) o) (node_of-without_node n f m) ∙ by (bytes_eq m n)
+parent-without_node n f m = ap (λ (o : Option Node). option_and_then (λ node. node.parent) o) (lookup-without_value n f m) ∙ by (bytes_eq m n)
   where
     by : (b : Bool) → option_and_then (λ (node : Node). node.parent) (cond b None (node_of f m)) ≡ cond b None (parent_of f m)
     by true = refl
@@ -168,7 +169,7 @@ index_parted old new f n up there each left =
 
 -- or is gone
 pub index_removed : (old new : Lists) (f : Forest) (n : List ℕ) → ascends f ≡ true → Each old f → IsLeft (option_map (λ p. (p, n)) (parent_of f n)) old new → Each new (without_node n f)
-index_removed old new f n up each left = index_left old new f (without_node n f) n (parent_of f n) each up (ascends-without_node n f up) refl (parent-without_node n f) left
+index_removed old new f n up each left = index_left old new f (without_node n f) n (parent_of f n) each up (ascends-without_value n f up) refl (parent-without_node n f) left
 
 -- who is on its way out keeps its parent
 pub index_terminated : (lists : Lists) (f : Forest) (n : List ℕ) → ascends f ≡ true → Each lists f → Each lists (with_terminating n f)

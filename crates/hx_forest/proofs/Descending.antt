@@ -22,7 +22,7 @@ use Rattle.hx_model.proofs.Climbing.{is_same, same_itself, few, Above, itself, t
 use Rattle.hx_model.proofs.Parents.{in_below, is_in_filter, swap_same}
 use Rattle.hx_model.proofs.Walking.{both, names_have, no_parent, IsDistinct-filter}
 use Rattle.hx_model.proofs.Moving.{Steps, arrived, step}
-use Rattle.hx_forest.proofs.Nodes.{ascends}
+use Rattle.hx_forest.proofs.Named.{ascends}
 use Rattle.hx_forest.proofs.Listing.{names_sorted, same_names, ascending}
 use Rattle.hx_forest.proofs.Ascending.{distinct_names}
 use Rattle.hx_forest.proofs.Changing.{children_has, children_ascend}

@@ -1,3 +1,4 @@
+pub mod Named
 pub mod Nodes
 pub mod Placing
 pub mod Slots

@@ -14,7 +14,7 @@ use Rattle.std.proofs.lemmas.Map.Lookups.{exact_bytes}
 use Rattle.hx_object.specs.Texts.{bytes_cmp}
 use Rattle.hx_model.specs.Forest.{Forest, is_in, names_of}
 use Rattle.hx_model.proofs.Climbing.{is_same, same_itself}
-use Rattle.hx_forest.proofs.Nodes.{name_total, same_name-cmp, less, is_below_all, ascends}
+use Rattle.hx_forest.proofs.Named.{name_total, same_name-cmp, less, is_below_all, ascends}
 
 -- ---- ascending names
 

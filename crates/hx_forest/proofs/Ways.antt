@@ -29,7 +29,8 @@ use Rattle.hx_forest.specs.Places.{Place, step_of, entry_in, changed_at}
 use Rattle.hx_forest.specs.Inside.{node_at}
 use Rattle.hx_forest.specs.Ways.{nodes_of, place_of, place_at, node_in, forest_of, index_at, place_in, parent_in, IsAt, LeadsUp, LeadUp, AllLeadUp}
 use Rattle.hx_forest.proofs.Placing.{place_at_index, name_at_index, own_index, look_changed}
-use Rattle.hx_forest.proofs.Nodes.{ascends-forest, same_forests, forest-put, forest-cut, forest-changed, node_of-forest}
+use Rattle.hx_forest.proofs.Named.{same_values}
+use Rattle.hx_forest.proofs.Nodes.{ascends-forest, forest-put, forest-cut, forest-changed, node_of-forest}
 
 -- ---- ways
 
@@ -177,7 +178,7 @@ module _ (new old : List (List ℕ × Place)) (n : List ℕ) where
   -- a place whose node stays
   pub same_nodes : (was place : Place) → lookup (bytes_eq n) old ≡ Some was → place.node ≡ was.node → ((q : List ℕ) → lookup (bytes_eq q) new ≡ cond (bytes_eq n q) (Some place) (lookup (bytes_eq q) old))
       → forest_from (nodes_of new) ≡ forest_from (nodes_of old)
-  same_nodes was place there node is = same_forests (forest_from (nodes_of new)) (forest_from (nodes_of old)) (ascends-forest (nodes_of new)) (ascends-forest (nodes_of old)) (λ q.
+  same_nodes was place there node is = same_values (forest_from (nodes_of new)) (forest_from (nodes_of old)) (ascends-forest (nodes_of new)) (ascends-forest (nodes_of old)) (λ q.
       node_of-forest (nodes_of new) q ∙ look (Some place) is q ∙ at q (bytes_eq n q) refl ∙ sym (node_of-forest (nodes_of old) q))
     where
       at : (q : List ℕ) (b : Bool) → bytes_eq n q ≡ b → cond b (Some place.node) (lookup (bytes_eq q) (nodes_of old)) ≡ lookup (bytes_eq q) (nodes_of old)

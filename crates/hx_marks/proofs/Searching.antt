@@ -16,7 +16,7 @@ use Rattle.hx_model.specs.Writes.{id_written}
 use Rattle.hx_model.specs.declared.key.Write.{Write}
 use Rattle.hx_model.proofs.Climbing.{same_itself}
 use Rattle.hx_forest.proofs.Ascending.{found_has, missed_has}
-use Rattle.hx_forest.proofs.Nodes.{name_total}
+use Rattle.hx_forest.proofs.Named.{name_total}
 use Rattle.hx_marks.specs.Before.{marks_before, marks_before_among}
 use Rattle.hx_marks.specs.Law.{follows, begins_by, following_marks, object_written}
 use Rattle.hx_object.specs.Kinds.{is_namespace}

@@ -14,7 +14,7 @@ use Rattle.std.proofs.lemmas.Map.Keys.{IsDistinct-cons}
 use Rattle.hx_forest.specs.Kept.{changed_by, MayChange as MayChangeTree}
 use Rattle.hx_forest.specs.declared.change.Change.{Change as TreeChange}
 use Rattle.hx_forest.specs.declared.change.Change.TheVariants as tree
-use Rattle.hx_forest.proofs.Nodes.{is_below_all, ascends as forest_ascends, none_below}
+use Rattle.hx_forest.proofs.Named.{is_below_all, ascends as forest_ascends, none_below}
 use Rattle.hx_model.specs.First.{so}
 use Rattle.hx_model.specs.Forest.{Forest, names_of, node_of, is_there, parent_of, with_parent as forest_with_parent}
 use Rattle.hx_model.specs.ForestChanges.{with_terminating}

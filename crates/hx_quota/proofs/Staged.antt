@@ -18,7 +18,7 @@ use Rattle.hx_object.specs.declared.object.Object.{Object}
 use Rattle.hx_forest.specs.Kept.{changed_by, changed_by_all, MayChange as MayChangeTree}
 use Rattle.hx_forest.specs.declared.change.Change.{Change as TreeChange}
 use Rattle.hx_forest.specs.declared.change.Change.TheVariants as tree
-use Rattle.hx_forest.proofs.Nodes.{node_of-without_node}
+use Rattle.hx_forest.proofs.Named.{lookup-without_value as node_of-without_node}
 use Rattle.hx_model.specs.Cases.{same_name}
 use Rattle.hx_model.specs.Charges.{charge_of, resources_for}
 use Rattle.hx_model.specs.Forest.{Forest, is_there, node_of, parent_of}
