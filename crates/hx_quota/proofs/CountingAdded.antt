@@ -9,6 +9,7 @@ use Rattle.std.proofs.lemmas.Bool.{false_from_ne_true}
 use Rattle.std.proofs.lemmas.Map.Keys.{IsDistinct-tail}
 use Rattle.hx_forest.specs.declared.change.Change.TheVariants as tree
 use Rattle.hx_forest.proofs.Nodes.{node_of-with_node}
+use Rattle.hx_forest.proofs.Named.{lookup-with_value}
 use Rattle.hx_model.specs.First.{so}
 use Rattle.hx_model.specs.Forest.{Forest, is_in, node_of, is_there, parent_of, is_child, children_of}
 use Rattle.hx_model.specs.ForestChanges.{with_node}
@@ -23,7 +24,6 @@ use Rattle.hx_quota.specs.Counters.{Entry}
 use Rattle.hx_quota.specs.Counters.{Entries, entry_of, node_for, own_of, with_entry, new_entry, with_parent}
 use Rattle.hx_quota.specs.Counting.{Counts, if_there, parent_there, own_charge, changed, changed_all, MayChange, MayChangeAll, under_parent, taken_in, changes_of_tree}
 use Rattle.hx_quota.proofs.CountingMoves.{changed_both, may_both, steps, HasTree, counted, has_moved, has_alike, child_parent, child_there, among_children, not_among}
-use Rattle.hx_quota.proofs.Entries.{entry_of-with_entry}
 use Rattle.hx_quota.proofs.Fitting.{has_nothing}
 use Rattle.hx_quota.proofs.Trees.{node_of-tree}
 
@@ -131,9 +131,9 @@ module _ (f : Forest) (n : List ℕ) (node : Node) (new : is_there f n ≡ false
 
       has_first : HasTree objects (is_there grown) (parent_there f) first
       has_first = record {
-        there = λ m. ap is_some (entry_of-with_entry n new_entry es m) ∙ there (bytes_eq m n) m ∙ sym (ap is_some (node_of-with_node n node f m));
-        parents = λ m. ap (λ (o : Option Node). option_and_then (λ node. node.parent) o) (node_of-tree first m ∙ ap (option_map node_for) (entry_of-with_entry n new_entry es m)) ∙ parent m (bytes_eq m n) refl;
-        own = λ m r. ap (λ (o : Option Entry). option_map_or (own_of r) o 0) (entry_of-with_entry n new_entry es m) ∙ own m r (bytes_eq m n) refl;
+        there = λ m. ap is_some (lookup-with_value n new_entry es m) ∙ there (bytes_eq m n) m ∙ sym (ap is_some (node_of-with_node n node f m));
+        parents = λ m. ap (λ (o : Option Node). option_and_then (λ node. node.parent) o) (node_of-tree first m ∙ ap (option_map node_for) (lookup-with_value n new_entry es m)) ∙ parent m (bytes_eq m n) refl;
+        own = λ m r. ap (λ (o : Option Entry). option_map_or (own_of r) o 0) (lookup-with_value n new_entry es m) ∙ own m r (bytes_eq m n) refl;
       }
         where
           there : (b : Bool) (m : List ℕ) → is_some (cond b (Some new_entry) (entry_of es m)) ≡ is_some (cond b (Some node) (node_of f m))

@@ -20,13 +20,13 @@ use Rattle.hx_model.specs.Quotas.{charge_before}
 use Rattle.hx_model.specs.declared.resource.Resource.{Resource}
 use Rattle.hx_model.specs.declared.resource.Resource.TheVariants.{Pods, RequestsCpu, RequestsMemory, LimitsCpu, LimitsMemory, RequestsStorage, CountRoles, CountRoleBindings, CountConfigMaps, CountSecrets, CountNetworkPolicies, CountLimitRanges, CountPods, CountServices, CountClaims}
 use Rattle.hx_model.proofs.Parents.{out_head, out_tail}
+use Rattle.hx_forest.proofs.Named.{ascends}
 use Rattle.hx_quota.specs.declared.entry.Delta.{Delta}
 use Rattle.hx_quota.specs.Counters.{Entry}
 use Rattle.hx_quota.specs.Counters.{Entries, entry_of, place_of, own_of, is_of, shifted, total_of, with_shifted, AreApart, HaveOld, AllFit}
 use Rattle.hx_quota.specs.Counting.{is_recharged, delta_by, deltas_of}
 use Rattle.hx_quota.proofs.Cutting.{sum-changed}
 use Rattle.hx_quota.proofs.Deltas.{in_place, shift_in}
-use Rattle.hx_quota.proofs.Entries.{ascends}
 use Rattle.hx_quota.proofs.Sums.{part-le}
 
 -- ---- resources

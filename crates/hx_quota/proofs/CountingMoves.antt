@@ -21,12 +21,12 @@ use Rattle.hx_model.proofs.Climbing.{is_same}
 use Rattle.hx_model.proofs.Moving.{moved_parent, other_parent}
 use Rattle.hx_model.proofs.Parents.{is_in_filter}
 use Rattle.hx_model.proofs.Walking.{names_have}
+use Rattle.hx_forest.proofs.Named.{ascends, lookup-with_changed, ascends-with_value, ascends-with_changed, ascends-without_value}
 use Rattle.hx_quota.specs.declared.change.CounterChange.{CounterChange}
 use Rattle.hx_quota.specs.declared.change.CounterChange.TheVariants.{Add, Move, Shift, Remove}
 use Rattle.hx_quota.specs.Counters.{Entry}
 use Rattle.hx_quota.specs.Counters.{Entries, entry_of, tree_of, own_of, own_in, with_entry, new_entry, without_entry, with_parent, AllFit}
 use Rattle.hx_quota.specs.Counting.{Counts, own_charge, parent_there, changed, changed_all, MayChange, MayChangeAll}
-use Rattle.hx_quota.proofs.Entries.{ascends, changed_entry, ascends-with_entry, ascends-with_changed, ascends-without_entry}
 use Rattle.hx_quota.proofs.Fitting.{fits_added, fits_moved, fits_removed}
 use Rattle.hx_quota.proofs.Moved.{tree_moved}
 use Rattle.hx_quota.proofs.UsedSums.{in_tree}
@@ -42,10 +42,10 @@ may_both [] ys es may then = then
 may_both (c ∷ xs) ys es may then = (may.0, may_both xs ys (changed c es) may.1 then)
 
 ascends_changed : (c : CounterChange) (es : Entries) → ascends es ≡ true → ascends (changed c es) ≡ true
-ascends_changed (Add name) es up = ascends-with_entry name new_entry es up
+ascends_changed (Add name) es up = ascends-with_value name new_entry es up
 ascends_changed (Move moved parent) es up = ascends-with_changed moved _ es ∙ up
 ascends_changed (Shift n deltas) es up = ascends-with_changed n _ es ∙ up
-ascends_changed (Remove name) es up = ascends-without_entry name es up
+ascends_changed (Remove name) es up = ascends-without_value name es up
 
 -- entries stay in order
 pub ascends_changed_all : (changes : List CounterChange) (es : Entries) → ascends es ≡ true → ascends (changed_all changes es) ≡ true
@@ -88,7 +88,7 @@ pub counted : (objects : Objects) (f : Forest) (es : Entries) → HasTree object
 counted objects f es has = record { there = has.there; parents = has.parents; own = has.own }
 
 there_moved : (n : List ℕ) (parent : Option (List ℕ)) (es : Entries) (m : List ℕ) → is_some (entry_of (with_parent n parent es) m) ≡ is_some (entry_of es m)
-there_moved n parent es m = ap is_some (changed_entry n (λ (e : Entry). record e { parent = parent }) es m) ∙ either (bytes_eq n m) (entry_of es m)
+there_moved n parent es m = ap is_some (lookup-with_changed n (λ (e : Entry). record e { parent = parent }) es m) ∙ either (bytes_eq n m) (entry_of es m)
   where
     either : (b : Bool) (o : Option Entry) → is_some (cond b (option_map (λ (e : Entry). record e { parent = parent }) o) o) ≡ is_some o
     either true None = refl
@@ -96,7 +96,7 @@ there_moved n parent es m = ap is_some (changed_entry n (λ (e : Entry). record 
     either false o = refl
 
 own_moved : (n : List ℕ) (parent : Option (List ℕ)) (es : Entries) (m : List ℕ) (r : Resource) → own_in (with_parent n parent es) m r ≡ own_in es m r
-own_moved n parent es m r = ap (λ (o : Option Entry). option_map_or (own_of r) o 0) (changed_entry n (λ (e : Entry). record e { parent = parent }) es m) ∙ either (bytes_eq n m) (entry_of es m)
+own_moved n parent es m r = ap (λ (o : Option Entry). option_map_or (own_of r) o 0) (lookup-with_changed n (λ (e : Entry). record e { parent = parent }) es m) ∙ either (bytes_eq n m) (entry_of es m)
   where
     either : (b : Bool) (o : Option Entry) → option_map_or (own_of r) (cond b (option_map (λ (e : Entry). record e { parent = parent }) o) o) 0 ≡ option_map_or (own_of r) o 0
     either true None = refl

@@ -29,14 +29,15 @@ use Rattle.hx_model.proofs.Climbing.{is_same, same_itself}
 use Rattle.hx_model.proofs.Objects.{is_same_id, object_at-put, object_at-put_itself, object_at-cut, found_id, sum-put, sum-cut, ascends-put}
 use Rattle.hx_model.proofs.Rising.{sum_less}
 use Rattle.hx_model.proofs.Writes.{ascends_after}
+use Rattle.hx_forest.specs.Named.{with_changed}
+use Rattle.hx_forest.proofs.Named.{lookup-with_changed}
 use Rattle.hx_quota.specs.declared.entry.Delta.{Delta}
 use Rattle.hx_quota.specs.Counters.{Entry}
-use Rattle.hx_quota.specs.Counters.{Entries, entry_of, own_of, with_changed}
+use Rattle.hx_quota.specs.Counters.{Entries, entry_of, own_of}
 use Rattle.hx_quota.specs.Counting.{Counts, AreRegular, charge_in, own_charge, deltas_of}
 use Rattle.hx_quota.proofs.CountingDeltas.{shifted_at, shift_deltas, apart_deltas, deltas_none, none_deltas}
 use Rattle.hx_quota.proofs.CountingSums.{nothing_counted}
 use Rattle.hx_quota.proofs.Deltas.{shift_in}
-use Rattle.hx_quota.proofs.Entries.{changed_entry}
 use Rattle.hx_quota.proofs.UsedSums.{same_tree}
 
 -- ---- what is found under an identity
@@ -117,9 +118,9 @@ module _ (before after : Objects) (f : Forest) (es : Entries) (n : List ℕ) (ol
 
   pub counts_then : Counts after f then
   counts_then = record {
-    there = λ m. ap is_some (changed_entry n (shift_in deltas) es m) ∙ still (bytes_eq n m) (entry_of es m) ∙ counts.there m;
+    there = λ m. ap is_some (lookup-with_changed n (shift_in deltas) es m) ∙ still (bytes_eq n m) (entry_of es m) ∙ counts.there m;
     parents = λ m. ap (λ (t : Forest). parent_of t m) (same_tree n deltas es) ∙ counts.parents m;
-    own = λ m r. ap (λ (o : Option Entry). option_map_or (own_of r) o 0) (changed_entry n (shift_in deltas) es m) ∙ at m r (bytes_eq n m) refl;
+    own = λ m r. ap (λ (o : Option Entry). option_map_or (own_of r) o 0) (lookup-with_changed n (shift_in deltas) es m) ∙ at m r (bytes_eq n m) refl;
   }
     where
       still : (b : Bool) (o : Option Entry) → is_some (cond b (option_map (shift_in deltas) o) o) ≡ is_some o

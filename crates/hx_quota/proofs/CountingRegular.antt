@@ -7,37 +7,38 @@ use Rattle.std.specs.Prelude.{slice_index, slice_set}
 use Rattle.std.specs.Str.{bytes_eq}
 use Rattle.std.proofs.lemmas.List.{length-set}
 use Rattle.std.proofs.lemmas.Option.{none-some, same_Some}
+use Rattle.hx_forest.specs.Named.{with_changed}
+use Rattle.hx_forest.proofs.Named.{ascends, same_values, lookup-values, ascends-values, lookup-with_value, lookup-without_value, lookup-with_changed, ascends-with_value, ascends-without_value, ascends-with_changed}
 use Rattle.hx_quota.specs.declared.change.CounterChange.{CounterChange}
 use Rattle.hx_quota.specs.declared.change.CounterChange.TheVariants.{Add, Move, Shift, Remove}
 use Rattle.hx_quota.specs.declared.entry.Delta.{Delta}
 use Rattle.hx_quota.specs.Counters.{Entry}
-use Rattle.hx_quota.specs.Counters.{Entries, entry_of, place_of, with_entry, new_entry, without_entry, with_changed, with_shifted, shifted}
+use Rattle.hx_quota.specs.Counters.{Entries, entry_of, place_of, with_entry, new_entry, without_entry, with_shifted, shifted}
 use Rattle.hx_quota.specs.Counting.{AreRegular, changed, changed_all}
 use Rattle.hx_quota.specs.Inside.{entries_from}
 use Rattle.hx_quota.proofs.Deltas.{shift_in}
-use Rattle.hx_quota.proofs.Entries.{ascends, same_entries, entry_of-entries, ascends-entries, entry_of-with_entry, entry_of-without_entry, changed_entry, ascends-with_entry, ascends-without_entry, ascends-with_changed}
 
 -- each entry has so many sums
 abbrev AreLong : Entries → Type 0
 AreLong es = (n : List ℕ) (e : Entry) → entry_of es n ≡ Some e → length e.own ≡ 15
 
 pub in_order : (es : Entries) → AreRegular es → ascends es ≡ true
-in_order es regular = subst (λ (xs : Entries). ascends xs ≡ true) regular.ordered (ascends-entries es)
+in_order es regular = subst (λ (xs : Entries). ascends xs ≡ true) regular.ordered (ascends-values es)
 
 regular_by : (es : Entries) → ascends es ≡ true → AreLong es → AreRegular es
-regular_by es up long = record { ordered = same_entries (entries_from es) es (ascends-entries es) up (entry_of-entries es); long = long }
+regular_by es up long = record { ordered = same_values (entries_from es) es (ascends-values es) up (lookup-values es); long = long }
 
 -- ---- each change
 
 regular_added : (n : List ℕ) (es : Entries) → AreRegular es → AreRegular (with_entry n new_entry es)
-regular_added n es regular = regular_by (with_entry n new_entry es) (ascends-with_entry n new_entry es (in_order es regular)) (λ q e there. at q e (bytes_eq q n) (sym (entry_of-with_entry n new_entry es q) ∙ there))
+regular_added n es regular = regular_by (with_entry n new_entry es) (ascends-with_value n new_entry es (in_order es regular)) (λ q e there. at q e (bytes_eq q n) (sym (lookup-with_value n new_entry es q) ∙ there))
   where
     at : (q : List ℕ) (e : Entry) (b : Bool) → cond b (Some new_entry) (entry_of es q) ≡ Some e → length e.own ≡ 15
     at q e true is = ap (λ (x : Entry). length x.own) (sym (same_Some new_entry e is))
     at q e false is = regular.long q e is
 
 regular_removed : (n : List ℕ) (es : Entries) → AreRegular es → AreRegular (without_entry n es)
-regular_removed n es regular = regular_by (without_entry n es) (ascends-without_entry n es (in_order es regular)) (λ q e there. at q e (bytes_eq q n) (sym (entry_of-without_entry n es q) ∙ there))
+regular_removed n es regular = regular_by (without_entry n es) (ascends-without_value n es (in_order es regular)) (λ q e there. at q e (bytes_eq q n) (sym (lookup-without_value n es q) ∙ there))
   where
     at : (q : List ℕ) (e : Entry) (b : Bool) → cond b None (entry_of es q) ≡ Some e → length e.own ≡ 15
     at q e true is = absurd (none-some e is)
@@ -45,7 +46,7 @@ regular_removed n es regular = regular_by (without_entry n es) (ascends-without_
 
 regular_with : (n : List ℕ) (change : Entry → Entry) (es : Entries) → ((e : Entry) → length (change e).own ≡ length e.own) → AreRegular es → AreRegular (with_changed n change es)
 regular_with n change es same regular =
-    regular_by (with_changed n change es) (ascends-with_changed n change es ∙ in_order es regular) (λ q e there. at q e (bytes_eq n q) (entry_of es q) refl (sym (changed_entry n change es q) ∙ there))
+    regular_by (with_changed n change es) (ascends-with_changed n change es ∙ in_order es regular) (λ q e there. at q e (bytes_eq n q) (entry_of es q) refl (sym (lookup-with_changed n change es q) ∙ there))
   where
     at : (q : List ℕ) (e : Entry) (b : Bool) (o : Option Entry) → entry_of es q ≡ o → cond b (option_map change o) o ≡ Some e → length e.own ≡ 15
     at q e true None was is = absurd (none-some e is)

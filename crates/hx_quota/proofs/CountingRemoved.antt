@@ -9,7 +9,7 @@ use Rattle.std.proofs.lemmas.Bool.{and_parts}
 use Rattle.std.proofs.lemmas.Map.Keys.{IsDistinct-tail}
 use Rattle.std.proofs.lemmas.Option.{none-some, same_Some}
 use Rattle.hx_forest.specs.declared.change.Change.TheVariants as tree
-use Rattle.hx_forest.proofs.Named.{lookup-without_value as node_of-without_node}
+use Rattle.hx_forest.proofs.Named.{lookup-without_value, ascends, is_below_all, none_below, ascends-with_changed}
 use Rattle.hx_model.specs.First.{so}
 use Rattle.hx_model.specs.Forest.{Forest, is_in, names_of, node_of, is_there, parent_of, is_child, children_of, in_chain, subtree_of}
 use Rattle.hx_model.specs.ForestChanges.{without_node}
@@ -25,7 +25,6 @@ use Rattle.hx_quota.specs.Counters.{Entry}
 use Rattle.hx_quota.specs.Counters.{Entries, entry_of, node_for, tree_of, own_of, without_entry, with_parent}
 use Rattle.hx_quota.specs.Counting.{Counts, if_there, parent_there, own_charge, changed, changed_all, MayChange, MayChangeAll, let_go, changes_of_tree}
 use Rattle.hx_quota.proofs.CountingMoves.{changed_both, may_both, steps, HasTree, has_counted, counted, has_moved, has_alike, child_there, among_children, not_among}
-use Rattle.hx_quota.proofs.Entries.{ascends, is_below_all, none_below, ascends-with_changed, entry_of-without_entry}
 use Rattle.hx_quota.proofs.Trees.{node_of-tree}
 use Rattle.hx_quota.proofs.UsedSums.{in_tree}
 
@@ -124,10 +123,10 @@ module _ (f : Forest) (n : List ℕ) where
     without = without_node n f
 
     node_gone : node_of without n ≡ None
-    node_gone = node_of-without_node n f n ∙ ap (λ b. cond b None (node_of f n)) (same_itself n)
+    node_gone = lookup-without_value n f n ∙ ap (λ b. cond b None (node_of f n)) (same_itself n)
 
     node_other : (m : List ℕ) → bytes_eq m n ≡ false → node_of without m ≡ node_of f m
-    node_other m out = node_of-without_node n f m ∙ ap (λ b. cond b None (node_of f m)) out
+    node_other m out = lookup-without_value n f m ∙ ap (λ b. cond b None (node_of f m)) out
 
     -- none names it
     free_then : (m : List ℕ) → leaving [] m ≡ Some n → ⊥
@@ -156,9 +155,9 @@ module _ (f : Forest) (n : List ℕ) where
     module _ (nothing : (r : Resource) → own_charge objects n r ≡ 0) (es : Entries) (is : HasTree objects (is_there f) (leaving []) es) where
       has_last : HasTree objects (is_there without) (parent_there without) (without_entry n es)
       has_last = record {
-        there = λ m. ap is_some (entry_of-without_entry n es m) ∙ there (bytes_eq m n) m ∙ sym (ap is_some (node_of-without_node n f m));
-        parents = λ m. ap (λ (o : Option Node). option_and_then (λ node. node.parent) o) (node_of-tree (without_entry n es) m ∙ ap (option_map node_for) (entry_of-without_entry n es m)) ∙ parent m (bytes_eq m n) refl;
-        own = λ m r. ap (λ (o : Option Entry). option_map_or (own_of r) o 0) (entry_of-without_entry n es m) ∙ own m r (bytes_eq m n) refl;
+        there = λ m. ap is_some (lookup-without_value n es m) ∙ there (bytes_eq m n) m ∙ sym (ap is_some (lookup-without_value n f m));
+        parents = λ m. ap (λ (o : Option Node). option_and_then (λ node. node.parent) o) (node_of-tree (without_entry n es) m ∙ ap (option_map node_for) (lookup-without_value n es m)) ∙ parent m (bytes_eq m n) refl;
+        own = λ m r. ap (λ (o : Option Entry). option_map_or (own_of r) o 0) (lookup-without_value n es m) ∙ own m r (bytes_eq m n) refl;
       }
         where
           there : (b : Bool) (m : List ℕ) → is_some (cond {A = Option Entry} b None (entry_of es m)) ≡ is_some (cond {A = Option Node} b None (node_of f m))

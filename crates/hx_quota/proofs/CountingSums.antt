@@ -32,13 +32,13 @@ use Rattle.hx_model.proofs.Admitting.{charged_plain}
 use Rattle.hx_model.proofs.Climbing.{is_same, same_itself}
 use Rattle.hx_model.proofs.Objects.{is_same_id}
 use Rattle.hx_model.proofs.Parents.{swap_same}
+use Rattle.hx_forest.proofs.Named.{is_below_all, ascends, none_below, lookup-without_value}
 use Rattle.hx_quota.specs.Counters.{Entry}
 use Rattle.hx_quota.specs.Counters.{Entries, entry_of, tree_of, own_of, part_of, used_in, without_entry}
 use Rattle.hx_quota.specs.Counting.{Counts, AreRegular, charge_in, own_charge}
 use Rattle.hx_quota.proofs.CountingChains.{chains}
 use Rattle.hx_quota.proofs.CountingRegular.{in_order}
 use Rattle.hx_quota.proofs.Cutting.{of_entry, sum-cut, sum-alike, sum-both}
-use Rattle.hx_quota.proofs.Entries.{is_below_all, ascends, none_below, entry_of-without_entry}
 use Rattle.hx_quota.proofs.Sums.{Pair}
 
 -- ---- objects lie in namespaces
@@ -138,7 +138,7 @@ sum_one h n es up only =
     either (Some e) = refl
 
     other : (m : List ℕ) → is_some (entry_of (without_entry n es) m) ≡ true → bytes_eq n m ≡ false
-    other m has = swap_same m n (false_from_ne_true (bytes_eq m n) (λ same. true≢false (sym has ∙ ap is_some (entry_of-without_entry n es m ∙ ap (λ b. cond b None (entry_of es m)) same))))
+    other m has = swap_same m n (false_from_ne_true (bytes_eq m n) (λ same. true≢false (sym has ∙ ap is_some (lookup-without_value n es m ∙ ap (λ b. cond b None (entry_of es m)) same))))
 
 -- two sums over entries in order
 sum_found : (g h : Pair → ℕ) (es : Entries) → ascends es ≡ true → ((e : Pair) → entry_of es e.0 ≡ Some e.1 → g e ≡ h e) → sum_by g es ≡ sum_by h es

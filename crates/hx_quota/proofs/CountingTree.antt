@@ -14,7 +14,7 @@ use Rattle.std.proofs.lemmas.Map.Keys.{IsDistinct-cons}
 use Rattle.hx_forest.specs.Kept.{changed_by, MayChange as MayChangeTree}
 use Rattle.hx_forest.specs.declared.change.Change.{Change as TreeChange}
 use Rattle.hx_forest.specs.declared.change.Change.TheVariants as tree
-use Rattle.hx_forest.proofs.Named.{is_below_all, ascends as forest_ascends, none_below}
+use Rattle.hx_forest.proofs.Named.{is_below_all, ascends, none_below}
 use Rattle.hx_model.specs.First.{so}
 use Rattle.hx_model.specs.Forest.{Forest, names_of, node_of, is_there, parent_of, with_parent as forest_with_parent}
 use Rattle.hx_model.specs.ForestChanges.{with_terminating}
@@ -28,7 +28,6 @@ use Rattle.hx_quota.specs.declared.change.CounterChange.TheVariants.{Move}
 use Rattle.hx_quota.specs.Counters.{Entries, entry_of, with_parent, AllFit}
 use Rattle.hx_quota.specs.Counting.{Counts, if_there, parent_there, own_charge, changed_all, MayChangeAll, changes_of_tree}
 use Rattle.hx_quota.specs.SubtreeUsage.{AreOnce}
-use Rattle.hx_quota.proofs.Entries.{ascends}
 use Rattle.hx_quota.proofs.CountingMoves.{ascends_changed_all, fits_changed_all, HasTree, has_counted, has_moved}
 pub use Rattle.hx_quota.proofs.CountingAdded.{added}
 pub use Rattle.hx_quota.proofs.CountingRemoved.{removed}
@@ -52,11 +51,11 @@ others_apart n (e ∷ f) none = at (bytes_eq n e.0) refl none (others_apart n f)
     at false out h rest = (out, rest h)
 
 -- names in order are distinct
-pub once_ascending : (f : Forest) → forest_ascends f ≡ true → IsDistinct bytes_eq (names_of f)
+pub once_ascending : (f : Forest) → ascends f ≡ true → IsDistinct bytes_eq (names_of f)
 unfolding IsDistinct
 once_ascending [] up = tt
 once_ascending (e ∷ f) up =
-    let parts = and_parts (is_below_all e.0 f) (forest_ascends f) up in
+    let parts = and_parts (is_below_all e.0 f) (ascends f) up in
     IsDistinct-cons bytes_eq e.0 (names_of f) (others_apart e.0 f (none_below e.0 f parts.0)) (once_ascending f parts.1)
 
 -- ---- changes that leave all parents

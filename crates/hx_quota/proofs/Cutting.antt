@@ -11,10 +11,11 @@ use Rattle.std.proofs.lemmas.Bool.{and_parts}
 use Rattle.std.proofs.lemmas.List.Sums.{sum_by-cons}
 use Rattle.std.proofs.lemmas.Option.{same_Some}
 use Rattle.hx_model.proofs.Climbing.{is_same, same_itself}
+use Rattle.hx_forest.specs.Named.{with_changed}
+use Rattle.hx_forest.proofs.Named.{is_below_all, ascends, none_below}
 use Rattle.hx_quota.specs.Counters.{Entry}
-use Rattle.hx_quota.specs.Counters.{Entries, entry_of, without_entry, with_changed}
+use Rattle.hx_quota.specs.Counters.{Entries, entry_of, without_entry}
 use Rattle.hx_quota.proofs.Deltas.{unchanged}
-use Rattle.hx_quota.proofs.Entries.{is_below_all, ascends, none_below}
 use Rattle.hx_quota.proofs.Sums.{Pair}
 
 absent_kept : (n : List ℕ) (es : Entries) → entry_of es n ≡ None → without_entry n es ≡ es

@@ -14,9 +14,10 @@ use Rattle.std.proofs.lemmas.Option.{same_Some}
 use Rattle.hx_model.specs.declared.resource.Resource.{Resource}
 use Rattle.hx_model.specs.declared.resource.Resource.TheVariants.{Pods, RequestsCpu, RequestsMemory, LimitsCpu, LimitsMemory, RequestsStorage, CountRoles, CountRoleBindings, CountConfigMaps, CountSecrets, CountNetworkPolicies, CountLimitRanges, CountPods, CountServices, CountClaims}
 use Rattle.hx_model.proofs.Parents.{out_head, out_tail}
+use Rattle.hx_forest.specs.Named.{with_changed}
 use Rattle.hx_quota.specs.Counters.{Entry}
 use Rattle.hx_quota.specs.declared.entry.Delta.{Delta}
-use Rattle.hx_quota.specs.Counters.{Entries, entry_of, place_of, is_of, shifted, with_changed, with_shifted, sums_of, AreApart, HaveOld}
+use Rattle.hx_quota.specs.Counters.{Entries, entry_of, place_of, is_of, shifted, with_shifted, sums_of, AreApart, HaveOld}
 use Rattle.hx_quota.specs.Inside.{taken_by, given_by, OwnFit, MayShift, Replaces}
 use Rattle.hx_quota.proofs.Fitting.{has_nothing}
 

@@ -9,9 +9,10 @@ use Rattle.hx_model.specs.Forest.{Forest, in_chain}
 use Rattle.hx_model.specs.declared.resource.Resource.{Resource}
 use Rattle.hx_model.specs.declared.resource.Resource.TheVariants.{Pods, RequestsCpu, RequestsMemory, LimitsCpu, LimitsMemory, RequestsStorage, CountRoles, CountRoleBindings, CountConfigMaps, CountSecrets, CountNetworkPolicies, CountLimitRanges, CountPods, CountServices, CountClaims}
 use Rattle.hx_model.proofs.Climbing.{same_itself}
+use Rattle.hx_forest.specs.Named.{with_changed}
+use Rattle.hx_forest.proofs.Named.{lookup-with_changed}
 use Rattle.hx_quota.specs.Counters.{Entry}
-use Rattle.hx_quota.specs.Counters.{Entries, entry_of, own_of, part_of, total_of, with_entry, new_entry, without_entry, with_changed, with_parent, AllFit}
-use Rattle.hx_quota.proofs.Entries.{changed_entry}
+use Rattle.hx_quota.specs.Counters.{Entries, entry_of, own_of, part_of, total_of, with_entry, new_entry, without_entry, with_parent, AllFit}
 use Rattle.hx_quota.proofs.Sums.{sum-with_entry, sum-without_entry, sum-same, part-le}
 
 pub has_nothing : (r : Resource) → own_of r new_entry ≡ 0
@@ -54,7 +55,7 @@ fits_moved es new n parent is fit r =
 -- what a changed entry has fits where all together do
 pub own_fits : (es : Entries) (n : List ℕ) (change : Entry → Entry) (entry : Entry) → entry_of es n ≡ Some entry → AllFit (with_changed n change es) → (r : Resource) → own_of r (change entry) < 2 ^ 128
 own_fits es n change entry there fit r =
-    let found : entry_of (with_changed n change es) n ≡ Some (change entry) = changed_entry n change es n ∙ (λ i. cond (same_itself n i) (option_map change (there i)) (there i)) in
+    let found : entry_of (with_changed n change es) n ≡ Some (change entry) = lookup-with_changed n change es n ∙ (λ i. cond (same_itself n i) (option_map change (there i)) (there i)) in
     within (own_of r (change entry)) (total_of (with_changed n change es) r) (part-le (own_of r) n (change entry) (with_changed n change es) found) (fit r)
   where
     within : (a b : ℕ) → a ≤ b → b < 2 ^ 128 → a < 2 ^ 128

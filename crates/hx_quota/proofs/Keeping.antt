@@ -15,6 +15,7 @@ use Rattle.hx_model.specs.declared.node.Node.{Node}
 use Rattle.hx_model.specs.declared.resource.Resource.{Resource}
 use Rattle.hx_model.proofs.Climbing.{itself, through, above_chain, chain_above, is_same}
 use Rattle.hx_model.proofs.Moving.{moved_there}
+use Rattle.hx_forest.proofs.Named.{ascends-values}
 use Rattle.hx_quota.specs.declared.entry.Delta.{Delta}
 use Rattle.hx_quota.specs.PlaceRows.{Place}
 use Rattle.hx_quota.specs.Counters.{Entries, Entry, entry_of, node_for, tree_of, own_of, own_in, part_of, place_of, used_in, with_entry, new_entry, without_entry, with_parent, with_shifted}
@@ -22,7 +23,6 @@ use Rattle.hx_quota.specs.Inside.{Places, place_at, entries_in, ordered, ends_by
 use Rattle.hx_quota.proofs.Cutting.{sum-alike}
 use Rattle.hx_quota.proofs.Ended.{ends_below, ends_shrunk, ends_grown, ended_before, parted_chain}
 use Rattle.hx_quota.proofs.Ending.{in_places}
-use Rattle.hx_quota.proofs.Entries.{ascends-entries}
 use Rattle.hx_quota.proofs.Fitting.{has_nothing}
 use Rattle.hx_quota.proofs.Lasting.{ends_moved}
 use Rattle.hx_quota.proofs.Moved.{tree_moved, usage_kept, closed_moved}
@@ -71,7 +71,7 @@ pub summed_removed : (old new : Places) (n : List ℕ) → is_some (entry_of (or
 summed_removed old new n there nothing alone is same closed was q p found ends r = at (bytes_eq n q) (sym (is q) ∙ found)
   where
     used : used_in (ordered new) q r ≡ used_in (ordered old) q r
-    used = ap (λ (es : Entries). used_in es q r) same ∙ used_removed (ordered old) n alone there closed (ascends-entries (entries_in old)) nothing q r
+    used = ap (λ (es : Entries). used_in es q r) same ∙ used_removed (ordered old) n alone there closed (ascends-values (entries_in old)) nothing q r
 
     top : ends_up (tree_of (ordered old)) q ≡ true
     top = ends_grown (tree_of (ordered old)) (tree_of (without_entry n (ordered old))) n (removed_new (ordered old) n alone there closed) q

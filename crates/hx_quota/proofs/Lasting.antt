@@ -10,11 +10,11 @@ use Rattle.hx_model.specs.declared.node.Node.{Node}
 use Rattle.hx_model.specs.Forest.{Forest, is_in, node_of, is_there, parent_of, in_chain, comes_back, subtree_of, with_parent as forest_with_parent}
 use Rattle.hx_model.proofs.Climbing.{Above, itself, through, chain_above, above_chain, chain_trans, is_same, same_itself}
 use Rattle.hx_model.proofs.Moving.{moved_there, moved_parent, other_parent, moved_chain_same}
+use Rattle.hx_forest.proofs.Named.{lookup-with_value}
 use Rattle.hx_quota.specs.Counters.{Entries, entry_of, node_for, tree_of, with_entry, new_entry, without_entry, with_parent}
 use Rattle.hx_quota.specs.Inside.{AllEnd, IsFree}
 use Rattle.hx_quota.proofs.Attaching.{chain_new}
 use Rattle.hx_quota.proofs.Ending.{closed_all}
-use Rattle.hx_quota.proofs.Entries.{entry_of-with_entry}
 use Rattle.hx_quota.proofs.Moved.{tree_moved, closed_moved}
 use Rattle.hx_quota.proofs.Rounds.{none_comes_back, end_without}
 use Rattle.hx_quota.proofs.Trees.{node_of-tree}
@@ -60,7 +60,7 @@ ends_added es n none all = end_without g (λ m. at m (bytes_eq n m) refl) (close
     at m true same =
         let mine : bytes_eq m n ≡ true = subst (λ (k : List ℕ). bytes_eq k n ≡ true) (is_same n m same) (same_itself n) in
         ap (λ (o : Option Node). option_map_or (λ p. in_chain g p m) (option_and_then (λ node. node.parent) o) false)
-        (node_of-tree (with_entry n new_entry es) m ∙ ap (option_map node_for) (entry_of-with_entry n new_entry es m ∙ ap (λ b. cond b (Some new_entry) (entry_of es m)) mine))
+        (node_of-tree (with_entry n new_entry es) m ∙ ap (option_map node_for) (lookup-with_value n new_entry es m ∙ ap (λ b. cond b (Some new_entry) (entry_of es m)) mine))
     at m false out =
         let same : parent_of g m ≡ parent_of (tree_of es) m = ap (λ (o : Option Node). option_and_then (λ node. node.parent) o) ((added_new es n none closed).others m out) in
         back_alike (tree_of es) g m same (λ p is h. sym (chain_new g (tree_of es) n (added_new es n none closed) p m (closed m p is)) ∙ h) (none_back (tree_of es) all m)

@@ -1,4 +1,3 @@
-pub mod Entries
 pub mod Sums
 pub mod Trees
 pub mod Fitting

@@ -7,11 +7,12 @@
 use Rattle.std.proofs.Common.{◌≡◌, ℕ, Bool, true, false, cond, Option, Some, None, option_map, List, [], ◌∷◌, length, suc, refl, sym, ap, ◌∙◌}
 use Rattle.std.specs.Map.{keys_of, lookup}
 use Rattle.std.specs.Str.{bytes_eq}
+use Rattle.hx_forest.specs.Named.{with_changed}
+use Rattle.hx_forest.proofs.Named.{ascends-values, same_values, lookup-values, values-put, values-cut, values-changed}
 use Rattle.hx_quota.specs.Counters.{Entry}
 use Rattle.hx_quota.specs.PlaceRows.{Place}
-use Rattle.hx_quota.specs.Counters.{entry_of, with_entry, without_entry, with_changed}
+use Rattle.hx_quota.specs.Counters.{entry_of, with_entry, without_entry}
 use Rattle.hx_quota.specs.Inside.{Places, entries_in, ordered, place_at, IsAdjusted}
-use Rattle.hx_quota.proofs.Entries.{ascends-entries, same_entries, entry_of-entries, entries-put, entries-cut, entries-changed}
 
 -- the entry of a place
 abbrev pub entry_in : Option Place → Option Entry
@@ -25,7 +26,7 @@ entry_among (e ∷ places) q = elim (bytes_eq q e.0) as (λ b. cond b (Some e.1.
 ]
 
 pub entry_at : (places : Places) (q : List ℕ) → entry_of (ordered places) q ≡ entry_in (place_at places q)
-entry_at places q = entry_of-entries (entries_in places) q ∙ entry_among places q
+entry_at places q = lookup-values (entries_in places) q ∙ entry_among places q
 
 pub same_keys : (places : Places) → keys_of (entries_in places) ≡ keys_of places
 same_keys [] = refl
@@ -49,18 +50,18 @@ module _ (new old : Places) (n : List ℕ) where
       by false = sym (entry_among old q)
 
   pub put_places : (place : Place) → ((q : List ℕ) → place_at new q ≡ cond (bytes_eq n q) (Some place) (place_at old q)) → ordered new ≡ with_entry n place.entry (ordered old)
-  put_places place is = entries-put (entries_in new) (entries_in old) n place.entry (look (Some place) is)
+  put_places place is = values-put (entries_in new) (entries_in old) n place.entry (look (Some place) is)
 
   pub cut_places : ((q : List ℕ) → place_at new q ≡ cond (bytes_eq n q) None (place_at old q)) → ordered new ≡ without_entry n (ordered old)
-  cut_places is = entries-cut (entries_in new) (entries_in old) n (look None is)
+  cut_places is = values-cut (entries_in new) (entries_in old) n (look None is)
 
   pub changed_places : (change : Entry → Entry) (was place : Place) → place_at old n ≡ Some was → place.entry ≡ change was.entry
       → ((q : List ℕ) → place_at new q ≡ cond (bytes_eq n q) (Some place) (place_at old q)) → ordered new ≡ with_changed n change (ordered old)
-  changed_places change was place there entry is = entries-changed (entries_in new) (entries_in old) n change was.entry (entry_among old n ∙ ap entry_in there)
+  changed_places change was place there entry is = values-changed (entries_in new) (entries_in old) n change was.entry (entry_among old n ∙ ap entry_in there)
       (λ q. look (Some place) is q ∙ ap (λ (x : Entry). cond (bytes_eq n q) (Some x) (lookup (bytes_eq q) (entries_in old))) entry)
 
 pub same_places : (new old : Places) → ((q : List ℕ) → entry_in (place_at new q) ≡ entry_in (place_at old q)) → ordered new ≡ ordered old
-same_places new old same = same_entries (ordered new) (ordered old) (ascends-entries (entries_in new)) (ascends-entries (entries_in old)) (λ q. entry_at new q ∙ same q ∙ sym (entry_at old q))
+same_places new old same = same_values (ordered new) (ordered old) (ascends-values (entries_in new)) (ascends-values (entries_in old)) (λ q. entry_at new q ∙ same q ∙ sym (entry_at old q))
 
 -- sums that are adjusted leave the entries
 pub adjusted_entries : (take give : List ℕ) (test : List ℕ → Bool) (old new : Places) → ((q : List ℕ) → IsAdjusted take give (test q) (place_at old q) (place_at new q)) → ordered new ≡ ordered old

@@ -12,17 +12,18 @@ use Rattle.hx_model.specs.Forest.{Forest, is_in, is_there, chain_of}
 use Rattle.hx_model.specs.declared.resource.Resource.{Resource}
 use Rattle.hx_model.proofs.Climbing.{chain_above, is_same, same_itself}
 use Rattle.hx_model.proofs.Walking.{chain_there}
+use Rattle.hx_forest.specs.Named.{with_changed}
+use Rattle.hx_forest.proofs.Named.{ascends, ascends-values}
 use Rattle.hx_quota.specs.declared.entry.Delta.{Delta}
 use Rattle.hx_quota.specs.Counters.{Entry}
 use Rattle.hx_quota.specs.declared.places.Change.{Change}
 use Rattle.hx_quota.specs.PlaceRows.{Place}
-use Rattle.hx_quota.specs.Counters.{Entries, entry_of, tree_of, own_of, place_of, part_of, used_in, total_of, without_entry, with_changed, with_shifted, IsChain, IsAbove, AllFit}
+use Rattle.hx_quota.specs.Counters.{Entries, entry_of, tree_of, own_of, place_of, part_of, used_in, total_of, without_entry, with_shifted, IsChain, IsAbove, AllFit}
 use Rattle.hx_quota.specs.Inside.{Places, place_at, entries_in, ordered, adjusted, MayAdjust, IsAdjusted, HasShifted, HasUsage, ends_up}
 use Rattle.hx_quota.proofs.Adjusting.{may_by, was_there}
 use Rattle.hx_quota.proofs.Cutting.{of_entry, sum-cut}
 use Rattle.hx_quota.proofs.Deltas.{in_place, shift_in}
 use Rattle.hx_quota.proofs.Ended.{ends_below, ends_chain}
-use Rattle.hx_quota.proofs.Entries.{ascends, ascends-entries}
 use Rattle.hx_quota.proofs.Fitting.{used_within}
 use Rattle.hx_quota.proofs.Placed.{entry_in, entry_at, changed_places, adjusted_entries}
 use Rattle.hx_quota.proofs.UsedSums.{in_tree, same_tree, used_shifted}
@@ -82,7 +83,7 @@ module _ (old mid : Places) (n : List ℕ) (deltas : List Delta) (change : Chang
   then = with_changed n (shift_in deltas) es
 
   moves : (q : List ℕ) (r : Resource) → used_in then q r + cond (is_in q chain) (slice_index change.take (place_of r)) 0 ≡ used_in es q r + cond (is_in q chain) (slice_index change.give (place_of r)) 0
-  moves q r = by (is_in q chain) (used_shifted es n deltas place.entry (ascends-entries (entries_in old)) there q r)
+  moves q r = by (is_in q chain) (used_shifted es n deltas place.entry (ascends-values (entries_in old)) there q r)
     where
       by : (b : Bool) → used_in then q r + cond b (own_of r place.entry) 0 ≡ used_in es q r + cond b (own_of r (shift_in deltas place.entry)) 0
           → used_in then q r + cond b (slice_index change.take (place_of r)) 0 ≡ used_in es q r + cond b (slice_index change.give (place_of r)) 0
@@ -91,7 +92,7 @@ module _ (old mid : Places) (n : List ℕ) (deltas : List Delta) (change : Chang
 
   own_within : (q : List ℕ) (r : Resource) → is_in q chain ≡ true → slice_index change.take (place_of r) ≤ used_in es q r
   own_within q r mem =
-      let own : own_of r place.entry ≤ used_in es q r = subst (λ (k : ℕ). k ≤ used_in es q r) (ap (λ b. cond b (own_of r place.entry) 0) mem) (part_within (part_of (tree_of es) q r) n place.entry es (ascends-entries (entries_in old)) there) in
+      let own : own_of r place.entry ≤ used_in es q r = subst (λ (k : ℕ). k ≤ used_in es q r) (ap (λ b. cond b (own_of r place.entry) 0) mem) (part_within (part_of (tree_of es) q r) n place.entry es (ascends-values (entries_in old)) there) in
       omega (arith, own, (has.2 r).0)
 
   within_then : (q : List ℕ) (r : Resource) → used_in then q r < 2 ^ 128

@@ -18,7 +18,7 @@ use Rattle.hx_object.specs.declared.object.Object.{Object}
 use Rattle.hx_forest.specs.Kept.{changed_by, changed_by_all, MayChange as MayChangeTree}
 use Rattle.hx_forest.specs.declared.change.Change.{Change as TreeChange}
 use Rattle.hx_forest.specs.declared.change.Change.TheVariants as tree
-use Rattle.hx_forest.proofs.Named.{lookup-without_value as node_of-without_node}
+use Rattle.hx_forest.proofs.Named.{lookup-without_value}
 use Rattle.hx_model.specs.Cases.{same_name}
 use Rattle.hx_model.specs.Charges.{charge_of, resources_for}
 use Rattle.hx_model.specs.Forest.{Forest, is_there, node_of, parent_of}
@@ -104,7 +104,7 @@ emptied : (objects : Objects) (f : Forest) (c : TreeChange) → IsHoused objects
 emptied objects f (tree.Add name node) housed = tt
 emptied objects f (tree.SetParent name parent) housed = tt
 emptied objects f (tree.SetTerminating name) housed = tt
-emptied objects f (tree.Remove name) housed = λ r. housed name r (ap is_some (node_of-without_node name f name ∙ ap (λ b. cond b None (node_of f name)) (same_itself name)))
+emptied objects f (tree.Remove name) housed = λ r. housed name r (ap is_some (lookup-without_value name f name ∙ ap (λ b. cond b None (node_of f name)) (same_itself name)))
 
 pub tells_tree : (objects : Objects) (f : Forest) (c : TreeChange) (es : Entries) → MayChangeTree c f → AreOnce f c → IsHoused objects (changed_by c f) → Tells objects f es → IsMade objects (changed_by c f) (changes_of_tree f c) es
 tells_tree objects f c es may once housed tells =

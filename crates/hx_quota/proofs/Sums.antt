@@ -1,22 +1,22 @@
 -- Sums over entries.
 --     sum-with_entry, sum-entries      with an entry more, and of entries in any order
 --     sum-without_entry                with an entry less
---     sum-with_changed                 where one is changed
---     length-entries                   as many entries as there are in any order
-use Rattle.std.proofs.Common.{◌≡◌, ℕ, ◌+◌, ◌≤◌, Bool, true, false, cond, not, Option, Some, None, List, [], ◌∷◌, length, Less, Equal, Greater, is_eq, is_some, refl, sym, ap, ◌∙◌, arith, true≢false}
+--     sum-same, part-le                where one is changed in what isn't added up, and of one alone
+use Rattle.std.proofs.Common.{◌≡◌, ℕ, ◌+◌, ◌≤◌, Bool, true, false, cond, not, Option, Some, None, List, [], ◌∷◌, Less, Equal, Greater, is_eq, is_some, refl, sym, ap, ◌∙◌, arith, true≢false}
 use Rattle.std.specs.Prelude.{sum_by}
-use Rattle.std.specs.List.{AllByRecursion, IsDistinct}
-use Rattle.std.specs.Map.{keys_of, lookup}
+use Rattle.std.specs.List.{IsDistinct}
+use Rattle.std.specs.Map.{keys_of}
 use Rattle.std.specs.Str.{bytes_eq}
 use Rattle.std.specs.FinMap.Entries.{by_order}
 use Rattle.std.proofs.lemmas.List.Sums.{sum_by-cons}
 use Rattle.std.proofs.lemmas.Option.{same_Some}
 use Rattle.std.proofs.lemmas.Map.Keys.{IsDistinct-head, IsDistinct-tail}
 use Rattle.hx_object.specs.Texts.{bytes_cmp}
+use Rattle.hx_forest.specs.Named.{with_changed}
+use Rattle.hx_forest.proofs.Named.{same_name-cmp, lookup-values, none_among}
 use Rattle.hx_quota.specs.Counters.{Entry}
-use Rattle.hx_quota.specs.Counters.{Entries, entry_of, with_entry, without_entry, with_changed}
+use Rattle.hx_quota.specs.Counters.{Entries, entry_of, with_entry, without_entry}
 use Rattle.hx_quota.specs.Inside.{entries_from}
-use Rattle.hx_quota.proofs.Entries.{same_name-cmp, entry_of-entries}
 
 abbrev pub Pair : Type 0
 Pair = List ℕ × Entry
@@ -30,7 +30,7 @@ module _ (g : Pair → ℕ) where
   pub sum-with_entry : (n : List ℕ) (entry : Entry) (es : Entries) → entry_of es n ≡ None → sum_by g (with_entry n entry es) ≡ sum_by g es + g (n, entry)
   sum-with_entry n entry [] none = omega (arith, sum_by-cons g (n, entry) [])
   sum-with_entry n entry (y ∷ es) none =
-      elim (bytes_cmp n y.0) as (λ o. bytes_cmp n y.0 ≡ o → sum_by g (by_order o ((n, entry) ∷ y ∷ es) ((n, entry) ∷ es) (y ∷ with_entry n entry es)) ≡ sum_by g (y ∷ es) + g (n, entry)) [
+      elim (bytes_cmp n y.0) as (λ o. bytes_cmp n y.0 ≡ o → sum_by g (by_order o ((n, entry) ∷ y ∷ es) ((y.0, entry) ∷ es) (y ∷ with_entry n entry es)) ≡ sum_by g (y ∷ es) + g (n, entry)) [
         | Less ↦ λ e. omega (arith, sum_by-cons g (n, entry) (y ∷ es))
         | Equal ↦ λ e. absurd (true≢false (ap is_some (sym (ap (λ b. cond b (Some y.1) (entry_of es n)) (same_name-cmp n y.0 ∙ ap is_eq e)) ∙ none)))
         | Greater ↦ λ e.
@@ -70,32 +70,10 @@ part-le g n entry (y ∷ es) is =
 
 -- ---- entries in any order
 
-none_among : (n : List ℕ) (es : List Pair) → AllByRecursion (λ y. bytes_eq n y ≡ false) (keys_of es) → lookup (bytes_eq n) es ≡ None
-none_among n [] apart = refl
-none_among n (e ∷ es) apart = ap (λ b. cond b (Some e.1) (lookup (bytes_eq n) es)) apart.0 ∙ none_among n es apart.1
-
 pub sum-entries : (g : Pair → ℕ) (es : List Pair) → IsDistinct bytes_eq (keys_of es) → sum_by g (entries_from es) ≡ sum_by g es
 sum-entries g [] distinct = refl
 sum-entries g (e ∷ es) distinct =
     let none = none_among e.0 es (IsDistinct-head bytes_eq e.0 (keys_of es) distinct) in
-    let more = sum-with_entry g e.0 e.1 (entries_from es) (entry_of-entries es e.0 ∙ none) in
+    let more = sum-with_entry g e.0 e.1 (entries_from es) (lookup-values es e.0 ∙ none) in
     let rest = sum-entries g es (IsDistinct-tail bytes_eq e.0 (keys_of es) distinct) in
     omega (arith, more, rest, sum_by-cons g e es)
-
-length-with_entry : (n : List ℕ) (entry : Entry) (es : Entries) → entry_of es n ≡ None → length (with_entry n entry es) ≡ length es + 1
-length-with_entry n entry [] none = refl
-length-with_entry n entry (y ∷ es) none =
-    elim (bytes_cmp n y.0) as (λ o. bytes_cmp n y.0 ≡ o → length (by_order o ((n, entry) ∷ y ∷ es) ((n, entry) ∷ es) (y ∷ with_entry n entry es)) ≡ length (y ∷ es) + 1) [
-      | Less ↦ λ e. omega arith
-      | Equal ↦ λ e. absurd (true≢false (ap is_some (sym (ap (λ b. cond b (Some y.1) (entry_of es n)) (same_name-cmp n y.0 ∙ ap is_eq e)) ∙ none)))
-      | Greater ↦ λ e. let more : length (with_entry n entry es) ≡ length es + 1 = length-with_entry n entry es (past (bytes_eq n y.0) (entry_of es n) y.1 (same_name-cmp n y.0 ∙ ap is_eq e) none) in omega arith
-    ] refl
-
--- as many as there are in any order
-pub length-entries : (es : List Pair) → IsDistinct bytes_eq (keys_of es) → length (entries_from es) ≡ length es
-length-entries [] distinct = refl
-length-entries (e ∷ es) distinct =
-    let none = none_among e.0 es (IsDistinct-head bytes_eq e.0 (keys_of es) distinct) in
-    let more = length-with_entry e.0 e.1 (entries_from es) (entry_of-entries es e.0 ∙ none) in
-    let rest = length-entries es (IsDistinct-tail bytes_eq e.0 (keys_of es) distinct) in
-    omega (arith, more, rest)

@@ -15,14 +15,15 @@ use Rattle.hx_model.specs.Forest.{Forest, is_in, names_of, node_of, is_there, pa
 use Rattle.hx_model.proofs.Climbing.{Above, itself, through, above_chain, is_same, same_itself}
 use Rattle.hx_model.proofs.Parents.{in_below, swap_same}
 use Rattle.hx_model.proofs.Walking.{chain_there}
+use Rattle.hx_forest.specs.Named.{with_changed}
+use Rattle.hx_forest.proofs.Named.{ascends, lookup-with_value, lookup-without_value}
 use Rattle.hx_quota.specs.declared.entry.Delta.{Delta}
 use Rattle.hx_quota.specs.Counters.{Entry}
-use Rattle.hx_quota.specs.Counters.{Entries, entry_of, node_for, tree_of, own_of, own_in, part_of, used_in, with_entry, new_entry, without_entry, with_changed}
+use Rattle.hx_quota.specs.Counters.{Entries, entry_of, node_for, tree_of, own_of, own_in, part_of, used_in, with_entry, new_entry, without_entry}
 use Rattle.hx_quota.specs.Inside.{AreClosed}
 use Rattle.hx_quota.proofs.Attaching.{IsNew, chain_new}
 use Rattle.hx_quota.proofs.Cutting.{of_entry, sum-cut, sum-changed, sum-alike}
 use Rattle.hx_quota.proofs.Deltas.{shift_in}
-use Rattle.hx_quota.proofs.Entries.{ascends, entry_of-with_entry, entry_of-without_entry}
 use Rattle.hx_quota.proofs.Fitting.{has_nothing}
 use Rattle.hx_quota.proofs.Sums.{Pair, sum-with_entry}
 use Rattle.hx_quota.proofs.Trees.{node_of-tree}
@@ -57,7 +58,7 @@ used_absent es n r none =
 
 pub added_new : (es : Entries) (n : List ℕ) → entry_of es n ≡ None → AreClosed es → IsNew (tree_of (with_entry n new_entry es)) (tree_of es) n
 added_new es n none closed = record {
-  others = λ m out. node_of-tree (with_entry n new_entry es) m ∙ ap (option_map node_for) (entry_of-with_entry n new_entry es m ∙ ap (λ b. cond b (Some new_entry) (entry_of es m)) (swap_same n m out)) ∙ sym (node_of-tree es m);
+  others = λ m out. node_of-tree (with_entry n new_entry es) m ∙ ap (option_map node_for) (lookup-with_value n new_entry es m ∙ ap (λ b. cond b (Some new_entry) (entry_of es m)) (swap_same n m out)) ∙ sym (node_of-tree es m);
   absent = out_of_tree es n none;
   closed = closed;
 }
@@ -82,7 +83,7 @@ closed_added es n none closed m q is = at (bytes_eq n m) refl
     f = tree_of (with_entry n new_entry es)
 
     node : (k : List ℕ) → node_of f k ≡ option_map node_for (cond (bytes_eq k n) (Some new_entry) (entry_of es k))
-    node k = node_of-tree (with_entry n new_entry es) k ∙ ap (option_map node_for) (entry_of-with_entry n new_entry es k)
+    node k = node_of-tree (with_entry n new_entry es) k ∙ ap (option_map node_for) (lookup-with_value n new_entry es k)
 
     still : (k : List ℕ) → is_there (tree_of es) k ≡ true → is_there f k ≡ true
     still k h = ap is_some (node k) ∙ either (bytes_eq k n) (entry_of es k) (sym (in_tree es k) ∙ h)
@@ -119,7 +120,7 @@ module _ (es : Entries) (n : List ℕ) (alone : subtree_of (tree_of es) n ≡ n 
   less = without_entry n es
 
   node_less : (k : List ℕ) → node_of (tree_of less) k ≡ option_map node_for (cond (bytes_eq k n) None (entry_of es k))
-  node_less k = node_of-tree less k ∙ ap (option_map node_for) (entry_of-without_entry n es k)
+  node_less k = node_of-tree less k ∙ ap (option_map node_for) (lookup-without_value n es k)
 
   others_less : (m : List ℕ) → bytes_eq n m ≡ false → node_of (tree_of es) m ≡ node_of (tree_of less) m
   others_less m out = sym (node_less m ∙ ap (λ b. option_map node_for (cond b None (entry_of es m))) (swap_same n m out) ∙ sym (node_of-tree es m))

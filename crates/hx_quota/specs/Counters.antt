@@ -16,18 +16,17 @@
 --     sums_of es chain             the own sums of the first of a chain
 --     IsChain, IsBehind, IsAbove   names are a chain, what is behind its first member, and the chain of a parent
 --     AreApart, HaveOld            no two deltas are of one resource, and what they replace is there
-use Rattle.std.specs.Prelude.{◌≡◌, ℕ, ◌+◌, ◌-◌, ◌<◌, ◌≤◌, ◌^◌, Bool, false, not, nat_eq, List, [], ◌∷◌, map, filter, replicate, sum_by, slice_index, slice_set, Option, Some, None, if◌then◌else◌, refl}
+use Rattle.std.specs.Prelude.{◌≡◌, ℕ, ◌+◌, ◌-◌, ◌<◌, ◌≤◌, ◌^◌, Bool, false, nat_eq, List, [], ◌∷◌, map, replicate, sum_by, slice_index, slice_set, Option, Some, None, if◌then◌else◌, refl}
 use Rattle.std.specs.Coded.{Coded, code_by, coded×, coded_list, coded_option, coded_ℕ}
 use Rattle.std.specs.List.{list_any, AllByRecursion}
 use Rattle.std.specs.Option.{option_map_or}
 use Rattle.std.specs.Map.{lookup}
 use Rattle.std.specs.Str.{bytes_eq}
-use Rattle.std.specs.FinMap.Entries.{by_order}
-use Rattle.hx_object.specs.Texts.{bytes_cmp}
 use Rattle.hx_model.specs.Forest.{Forest, chain_of, in_chain}
 use Rattle.hx_model.specs.declared.node.Node.{Node}
 use Rattle.hx_model.specs.declared.resource.Resource.{Resource}
 use Rattle.hx_model.specs.declared.resource.Resource.TheVariants.{Pods, RequestsCpu, RequestsMemory, LimitsCpu, LimitsMemory, RequestsStorage, CountRoles, CountRoleBindings, CountConfigMaps, CountSecrets, CountNetworkPolicies, CountLimitRanges, CountPods, CountServices, CountClaims}
+use Rattle.hx_forest.specs.Named.{Named, with_value, without_value, with_changed}
 use Rattle.hx_quota.specs.declared.entry.Delta.{Delta}
 
 -- a namespace's parent, and what it has of each resource by itself, in the order of the resources
@@ -41,7 +40,7 @@ entry_code = code_by (Option (List ℕ) × List ℕ) (coded× (coded_option (cod
     (λ e. (e.parent, e.own)) (λ p. record { parent = p.0; own = p.1 }) (λ _. refl)
 
 abbrev pub Entries : Type 0
-Entries = List (List ℕ × Entry)
+Entries = Named Entry
 
 -- the entries, and how many more fit without taking memory
 pub record CountersView : Type 0 where
@@ -130,8 +129,7 @@ AllFit es = (r : Resource) → total_of es r < 2 ^ 128
 
 -- with an entry in its place, instead of one of its name
 abbrev pub with_entry : List ℕ → Entry → Entries → Entries
-with_entry n entry [] = (n, entry) ∷ []
-with_entry n entry (e ∷ es) = by_order (bytes_cmp n e.0) ((n, entry) ∷ e ∷ es) ((n, entry) ∷ es) (e ∷ with_entry n entry es)
+with_entry n entry es = with_value n entry es
 
 -- a namespace without a parent that has nothing
 abbrev pub new_entry : Entry
@@ -139,11 +137,7 @@ new_entry = record { parent = None; own = replicate 15 0 }
 
 -- without a namespace
 abbrev pub without_entry : List ℕ → Entries → Entries
-without_entry n es = filter (λ e. not (bytes_eq n e.0)) es
-
--- with the entry of a namespace changed, where it is there
-abbrev pub with_changed : List ℕ → (Entry → Entry) → Entries → Entries
-with_changed n change es = map (λ e. (e.0, if bytes_eq n e.0 then change e.1 else e.1)) es
+without_entry n es = without_value n es
 
 -- where a namespace has another parent, or none
 abbrev pub with_parent : List ℕ → Option (List ℕ) → Entries → Entries

@@ -22,16 +22,16 @@ use Rattle.std.specs.Option.{option_map_or}
 use Rattle.std.specs.Str.{bytes_eq}
 use Rattle.hx_model.specs.Forest.{Forest, is_there, parent_of, in_chain}
 use Rattle.hx_model.specs.declared.resource.Resource.{Resource}
+use Rattle.hx_forest.specs.Named.{values_from}
 use Rattle.hx_quota.specs.declared.entry.Delta.{Delta}
 use Rattle.hx_quota.specs.declared.places.Change.{Change}
 use Rattle.hx_quota.specs.declared.ledger.Ledger.{Ledger}
 pub use Rattle.hx_quota.specs.PlaceRows.{Place, Places, place_at}
-use Rattle.hx_quota.specs.Counters.{Entry, Entries, tree_of, with_entry, place_of, used_in, shifted}
+use Rattle.hx_quota.specs.Counters.{Entry, Entries, tree_of, place_of, used_in, shifted}
 
 -- the entries in order: of two with one name the first one counts
 abbrev pub entries_from : List (List ℕ × Entry) → Entries
-entries_from [] = []
-entries_from (e ∷ es) = with_entry e.0 e.1 (entries_from es)
+entries_from es = values_from es
 
 -- the entries of places
 abbrev pub entries_in : Places → List (List ℕ × Entry)
