@@ -192,13 +192,7 @@ fn spread_of(state: &IndexedState, writes: &[Change]) -> Result<Option<SpreadMar
     ensures named { IfOk result (λ o. IfSome o (λ spread. (k : key_of) → is_among k (all_marks state.now.state writes.now) ≡ (is_among k spread.others.items || is_among k (place_keys (open_below (forest_of state.now.state) spread.id.ns) spread.id)))) }
     ensures tree { IfOk result (λ o. IfSome o (λ spread. forest_of (state_after state.now.state writes.now) ≡ forest_of state.now.state)) }
 {
-    spread_marks(
-        state.store(),
-        state.forest(),
-        state.owners(),
-        state.config(),
-        writes,
-    )
+    spread_marks(state.store(), state.forest(), state.config(), writes)
 }
 
 /// Whether the keys of an object may be marked as a whole. There is room for them then, and for so many others.

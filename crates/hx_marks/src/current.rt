@@ -1,23 +1,18 @@
 // The state that is read.
 ghost use Rattle.std.specs.Prelude.{◌≡◌};
-ghost use Rattle.std.proofs.Props.{props};
 ghost use Rattle.hx_model.specs.Tree.{forest_of};
 ghost use Rattle.hx_marks.specs.Before.{state_of};
-ghost use Rattle.hx_marks.specs.Owners.{TellOwners};
 
 use hx_forest::Forest;
 use hx_model::RunConfig;
 use hx_store::Store;
 
-/// The state before a write, with the trees that are kept of it.
+/// The state before a write, with the tree that is kept of it.
 #[derive(Drop)]
 pub(crate) struct Current<'a> {
     pub(crate) store: &'a Store,
     pub(crate) forest: &'a Forest,
-    /// All namespaces, each under the parent that its annotation names.
-    pub(crate) owners: &'a Forest,
     /// The settings of the run. Only contracts speak of them.
     pub(crate) config: &'a RunConfig,
     ghost tree: { forest.now.nodes ≡ forest_of (state_of store.now config.now) },
-    ghost owned: { TellOwners store.now.objects owners.now.nodes } by { Prim.hlevel props },
 }

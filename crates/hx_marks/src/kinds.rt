@@ -8,6 +8,7 @@ ghost use Rattle.hx_model.specs.Tree.{forest_of, named_parent, parent_with};
 ghost use Rattle.hx_model.specs.declared.key.Key.TheVariants as key;
 ghost use Rattle.hx_marks.specs.Before.{hierarchy_marks, hierarchy_reports_by, marks_before_by, move_marks_to, namespace_marks_by, namespace_reports_by, place_reports_to};
 ghost use Rattle.hx_marks.specs.Moving.{moved_marks_to};
+ghost use Rattle.hx_marks.specs.Owners.{TellOwners};
 ghost use Rattle.hx_marks.specs.Reads.{state_in};
 ghost use Rattle.hx_marks.specs.Law.{anchor_keys, begins_to_end, created_marks, ending_marks, label_marks, leaving_keys, mode_marks, object_marks, removed_marks};
 ghost use Rattle.hx_marks.specs.Reports.{anchored_reports, created_reports, ending_reports, removed_reports, report_keys};
@@ -34,16 +35,18 @@ use hx_object::{Id, Kind, NoMemory, Object, Text};
 /// Marks what a write can change by itself.
 pub(crate) fn marks_by(
     current: &Current,
+    owners: &Forest,
     id: &Id,
     old: Option<&Object>,
     new: Option<&Object>,
     keys: &mut Vec<Key>,
 ) -> Result<(), NoMemory>
+    requires owners { TellOwners current.now.store.now.objects owners.now.nodes }
     ensures { OnOk result (keys.new.items ≡ keys.old.items ++ marks_before_by (state_in current.now) id.now (option_copied old.entry) (option_copied new.entry)) }
 {
     match id.kind {
         Kind::Namespace => namespace_marks(current, &id.name, old, new, keys),
-        Kind::HierarchyConfiguration => hierarchy_marks(current, id, new, keys),
+        Kind::HierarchyConfiguration => hierarchy_marks(current, owners, id, new, keys),
         Kind::SubnamespaceAnchor => anchor_marks(current, id, old, new, keys),
         Kind::HncConfiguration => config_marks(current, id, old, new, keys),
         Kind::HierarchicalResourceQuota => quota_marks(current.forest, id, keys),
@@ -125,30 +128,35 @@ fn made_marks(
 /// Marks what a HierarchyConfiguration touches that is written or removed. One of another name gives no parent.
 fn hierarchy_marks(
     current: &Current,
+    owners: &Forest,
     id: &Id,
     new: Option<&Object>,
     keys: &mut Vec<Key>,
 ) -> Result<(), NoMemory>
+    requires owners { TellOwners current.now.store.now.objects owners.now.nodes }
     ensures { OnOk result (keys.new.items ≡ keys.old.items ++ ((hierarchy_marks (state_in current.now) id.now (option_copied new.entry) ++ leaving_keys (forest_of (state_in current.now)) id.now.ns) ++ (hierarchy_reports_by (state_in current.now) id.now (option_copied new.entry) ++ hierarchy_usage (state_in current.now) id.now (option_copied new.entry)))) }
 {
     if id.name.as_str() != HIERARCHY {
         return leaving_keys(current.forest, &id.ns, keys);
     }
-    placed_marks(current, &id.ns, parent_under(current, &id.ns, new), keys)
+    let parent = parent_under(current, owners, &id.ns, new);
+    placed_marks(current, &id.ns, parent, keys)
 }
 
 /// The parent of a namespace once its HierarchyConfiguration is `new`, or is gone. None where there is no namespace.
 ///
 /// The owners tell it. They have a namespace where the tree has it, so that no name is hashed in both, and no object is read.
 fn parent_under<'a>(
-    current: &'a Current<'a>,
+    current: &Current,
+    owners: &'a Forest,
     name: &Text,
     new: Option<&'a Object>,
 ) -> Option<&'a Text>
+    requires owners { TellOwners current.now.store.now.objects owners.now.nodes }
     ensures { option_copied result ≡ option_and_then (parent_with (option_copied new.entry)) (object_at (state_in current.now).objects (namespace_id name.now)) }
 {
     let hint = current.forest.place_of(name);
-    match current.owners.node_near(hint, name) {
+    match owners.node_near(hint, name) {
         Some(node) => parent_beside(node.parent.as_ref(), new),
         None => None,
     }

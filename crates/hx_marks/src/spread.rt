@@ -9,7 +9,6 @@ ghost use Rattle.hx_model.specs.Valid.{IsValid};
 ghost use Rattle.hx_model.specs.Writes.{MayWriteAll};
 ghost use Rattle.hx_marks.specs.Before.{state_of};
 ghost use Rattle.hx_marks.specs.Law.{all_marks, open_below};
-ghost use Rattle.hx_marks.specs.Owners.{TellOwners};
 ghost use Rattle.hx_marks.specs.Reads.{state_in};
 ghost use Rattle.hx_marks.specs.Spread.{IsSpread, is_beside_tree, spread_keys};
 
@@ -37,12 +36,10 @@ pub struct SpreadMarks {
 pub fn spread_marks(
     store: &Store,
     forest: &Forest,
-    owners: &Forest,
     config: &RunConfig,
     writes: &[Change],
 ) -> Result<Option<SpreadMarks>, NoMemory>
     requires tree { forest.now.nodes ≡ forest_of (state_of store.now config.now) }
-    requires owners { TellOwners store.now.objects owners.now.nodes }
     requires valid { IsValid (state_of store.now config.now) }
     requires may { MayWriteAll (state_of store.now config.now) writes.now }
     ensures named { IfOk result (λ o. IfSome o (λ spread. (k : Key) → is_among k (all_marks (state_of store.now config.now) writes.now) ≡ (is_among k spread.others.items || is_among k (spread_keys (open_below forest.now.nodes spread.id.ns) spread.id)))) }
@@ -56,7 +53,6 @@ pub fn spread_marks(
     let current = Current {
         store,
         forest,
-        owners,
         config,
     };
     spread_of(&current, write)

@@ -42,23 +42,24 @@ pub fn marks(
     let current = Current {
         store,
         forest,
-        owners,
         config,
     };
-    marks_of_all(&current, &endings, writes, &mut keys)?;
+    marks_of_all(&current, owners, &endings, writes, &mut keys)?;
     Ok(keys)
 }
 
 fn marks_of_all(
     current: &Current,
+    owners: &Forest,
     endings: &Endings,
     writes: &[Change],
     keys: &mut Vec<Key>,
 ) -> Result<(), NoMemory>
+    requires owners { TellOwners current.now.store.now.objects owners.now.nodes }
     ensures { OnOk result (keys.new.items ≡ keys.old.items ++ flat_map (marks_before_among (state_in current.now) endings.now) writes.now) }
 {
     for write in writes {
-        marks_among(current, endings, write, keys)?;
+        marks_among(current, owners, endings, write, keys)?;
     }
     Ok(())
 }
@@ -66,10 +67,12 @@ fn marks_of_all(
 /// Marks what a write can change, among others: where its namespace leaves together with its parent, that one marks what took part below both.
 fn marks_among(
     current: &Current,
+    owners: &Forest,
     endings: &Endings,
     write: &Change,
     keys: &mut Vec<Key>,
 ) -> Result<(), NoMemory>
+    requires owners { TellOwners current.now.store.now.objects owners.now.nodes }
     ensures { OnOk result (keys.new.items ≡ keys.old.items ++ marks_before_among (state_in current.now) endings.now write.now) }
 {
     let id = write.id();
@@ -78,5 +81,5 @@ fn marks_among(
     if endings.lead_out(current.forest, id, old, new) {
         return following_marks(current, &id.name, keys);
     }
-    marks_by(current, id, old, new, keys)
+    marks_by(current, owners, id, old, new, keys)
 }

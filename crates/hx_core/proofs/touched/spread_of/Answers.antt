@@ -1,19 +1,15 @@
-use Rattle.std.proofs.Common.{◌≡◌, ◌||◌, sym, subst}
+use Rattle.std.proofs.Common.{◌≡◌, ◌||◌, subst}
 use Rattle.std.specs.Prelude.{IfOk, IfSome}
 use Rattle.hx_model.specs.Forest.{Forest}
 use Rattle.hx_model.specs.Keys.{is_among}
-use Rattle.hx_model.specs.State.{State, Objects}
+use Rattle.hx_model.specs.State.{State}
 use Rattle.hx_model.specs.Tree.{forest_of}
 use Rattle.hx_model.specs.declared.key.Key.{Key}
 use Rattle.hx_marks.specs.Before.{state_of}
 use Rattle.hx_marks.specs.Law.{all_marks, open_below}
-use Rattle.hx_marks.specs.Owners.{TellOwners}
 use Rattle.hx_queue.specs.Spread.{place_keys}
 use Rattle.hx_core.proofs.Marked.{state_is}
 use Rattle.hx_core.proofs.touched.spread_of.Goals as goal
-
-pub spread_marks-requires-clause-owners : goal.spread_marks-requires-clause-owners
-spread_marks-requires-clause-owners c = subst (λ (objects : Objects). TellOwners objects c.owners.result.now.nodes) (sym c.store.ensures.objects) c.owners.ensures.tells
 
 pub returns-clause-named : goal.returns-clause-named
 returns-clause-named c =
