@@ -510,8 +510,14 @@ fn letters(alloc: Global, selector: &Selector, lists: &[Pairs]) -> Result<String
     Ok(letters)
 }
 
-/// What a row tells of how its text is read.
-fn told(
+/// What is told of how a text is read as a selector.
+fn told(alloc: Global, text: &str, lists: &[Pairs]) -> Result<String, NoMemory> {
+    let read = Selector::read(alloc, text);
+    words(alloc, &read, lists)
+}
+
+/// The words for what was read.
+fn words(
     alloc: Global,
     read: &Result<Selector, SelectFault>,
     lists: &[Pairs],
@@ -530,8 +536,7 @@ fn selectors_are_as_documented(rt: HostRuntime) -> Result<(), Fail> {
     let lists = labels(rt.alloc())?;
     for index in 0..COUNT {
         let (text, wanted) = cut(row(index));
-        let read = Selector::read(rt.alloc(), text);
-        let told = told(rt.alloc(), &read, lists.as_slice())?;
+        let told = told(rt.alloc(), text, lists.as_slice())?;
         assert_eq!(rt; told.as_str(), wanted, "{text}");
     }
     Ok(())
@@ -546,8 +551,14 @@ fn tree_letters(alloc: Global, select: &TreeSelect, lists: &[Pairs]) -> Result<S
     Ok(letters)
 }
 
-/// What a row tells of how its text is read as a tree selector.
-fn tree_told(
+/// What is told of how a text is read as a tree selector.
+fn tree_told(alloc: Global, text: &str, lists: &[Pairs]) -> Result<String, NoMemory> {
+    let read = TreeSelect::read(alloc, text);
+    tree_words(alloc, &read, lists)
+}
+
+/// The words for what was read as a tree selector.
+fn tree_words(
     alloc: Global,
     read: &Result<TreeSelect, TreeFault>,
     lists: &[Pairs],
@@ -566,8 +577,7 @@ fn tree_selectors_are_as_documented(rt: HostRuntime) -> Result<(), Fail> {
     let lists = tree_labels(rt.alloc())?;
     for row in TREE_ROWS {
         let (text, wanted) = cut(row);
-        let read = TreeSelect::read(rt.alloc(), text);
-        let told = tree_told(rt.alloc(), &read, lists.as_slice())?;
+        let told = tree_told(rt.alloc(), text, lists.as_slice())?;
         assert_eq!(rt; told.as_str(), wanted, "{text}");
     }
     Ok(())
