@@ -32,9 +32,9 @@ use Rattle.hx_model.specs.declared.key.Key.{Key}
 use Rattle.hx_model.specs.declared.key.Key.TheVariants as key
 use Rattle.hx_model.specs.declared.key.Write.TheVariants.{Put, Cut}
 use Rattle.hx_model.specs.declared.node.Node.{Node}
-use Rattle.hx_model.proofs.Climbing.{is_same, same_itself}
+use Rattle.hx_model.proofs.Climbing.{is_same}
 use Rattle.hx_model.proofs.Conflicting.{other_at}
-use Rattle.hx_model.proofs.Objects.{is_same_id, found_again, found_id}
+use Rattle.hx_model.proofs.Objects.{is_same_id, found_id}
 use Rattle.hx_model.proofs.Parents.{is_in_filter}
 use Rattle.hx_model.proofs.Planting.{namespace_is_homed, node_of-objects}
 use Rattle.hx_model.proofs.Storing.{All-put, All-found}
@@ -45,11 +45,12 @@ use Rattle.hx_marks.proofs.Among.{same_key_is, among_append, among_flat_map, fou
 use Rattle.hx_marks.proofs.Asking.{asking_known, anchor_key, child_of_anchor, status_of_anchor}
 use Rattle.hx_marks.proofs.CreatedChains.{made_not_open, made_below, made_tail}
 use Rattle.hx_marks.proofs.CreatedReports.{report_made, reports_within}
-use Rattle.hx_marks.proofs.Frames.{none_in_both, closed_wants, shut_child, put_least}
+use Rattle.hx_marks.proofs.Frames.{none_in_both, closed_wants, shut_child}
 use Rattle.hx_marks.proofs.Growing.{wants_grow, wants_put}
 use Rattle.hx_marks.proofs.Keeping.{without_child, without_status, staying_both}
 use Rattle.hx_marks.proofs.MoveStates.{none_from}
-use Rattle.hx_marks.proofs.OneMore.{HasOneMore, one_more, lies_nowhere, keeps_put, apart_copy, apart_tree, apart_child, apart_status, apart_purge, unasked}
+use Rattle.hx_marks.proofs.OneMore.{HasOneMore, apart_copy, apart_tree, apart_child, apart_status, apart_purge, unasked}
+use Rattle.hx_marks.proofs.OneMoreWrites.{found_put, put_more}
 use Rattle.hx_marks.proofs.Parts.{UsedSame, marks_beside}
 use Rattle.hx_marks.proofs.Replacing.{valid_served}
 use Rattle.hx_marks.proofs.Wanting.{any_flat_map, wants_known, child_known, child_among, all_tree, all_wants, all_children, all_parts}
@@ -68,22 +69,6 @@ module _ (s : State) (x : Object) (valid : IsValid s) (may : MayPut s x) (is : i
   abbrev g : Forest
   g = forest_of t
 
-  home : x.id ≡ namespace_id n
-  home = namespace_is_homed x may.served is
-
-  -- identities of other kinds, and of other namespaces, are found as before
-  other_kind : (q : Id) → is_namespace q.kind ≡ false → object_at t.objects q ≡ object_at s.objects q
-  other_kind q leaf = other_at x s.objects q (false_from_ne_true (same_id q x.id) (λ h. true≢false (sym is ∙ sym (ap (λ (p : Id). is_namespace p.kind) (is_same_id q x.id h)) ∙ leaf)))
-
-  other_name : (m : List ℕ) → bytes_eq n m ≡ false → object_at t.objects (namespace_id m) ≡ object_at s.objects (namespace_id m)
-  other_name m off = other_at x s.objects (namespace_id m) (false_from_ne_true (same_id (namespace_id m) x.id) (λ h. true≢false (sym (subst (λ (q : List ℕ). bytes_eq n q ≡ true) (sym (ap (λ (p : Id). p.name) (is_same_id (namespace_id m) x.id h))) (same_itself n)) ∙ off)))
-
-  absent_there : object_at s.objects (namespace_id n) ≡ None
-  absent_there = ap (object_at s.objects) (sym home) ∙ absent
-
-  found_there : object_at t.objects (namespace_id n) ≡ Some x
-  found_there = ap (object_at t.objects) (sym home) ∙ found_again x s.objects
-
   served : AllByRecursion IsServed s.objects
   served = valid_served s valid
 
@@ -92,7 +77,10 @@ module _ (s : State) (x : Object) (valid : IsValid s) (may : MayPut s x) (is : i
 
   -- the state has one namespace more
   more : HasOneMore s t n
-  more = one_more s t n served served_then refl other_kind other_name (ap is_some absent_there) (ap is_some found_there) (λ m. put_least x s.objects m (lies_nowhere m x.id is)) (keeps_put s.config.excluded x s.objects)
+  more = put_more s x valid may is absent
+
+  absent_there : object_at s.objects (namespace_id n) ≡ None
+  absent_there = ap (object_at s.objects) (sym (namespace_is_homed x may.served is)) ∙ absent
 
   -- what is found has a home
   homed : (q : Id) (y : Object) → object_at s.objects q ≡ Some y → has_home s.objects q ≡ true
@@ -118,7 +106,7 @@ module _ (s : State) (x : Object) (valid : IsValid s) (may : MayPut s x) (is : i
 
   stays : is_leaving g n ≡ false
   stays =
-      ap (λ o. option_map_or (λ (node : Node). node.terminating) o false) (node_of-objects s.config.excluded t.objects n served_then ∙ ap (option_map (node_in s.config.excluded t.objects)) found_there)
+      ap (λ o. option_map_or (λ (node : Node). node.terminating) o false) (node_of-objects s.config.excluded t.objects n served_then ∙ ap (option_map (node_in s.config.excluded t.objects)) (found_put s.objects x may.served is))
       ∙ subst (λ (o : Option Object). HasPlace o x) absent (may.place is)
 
   -- ---- namespaces whose chain has n
@@ -137,13 +125,13 @@ module _ (s : State) (x : Object) (valid : IsValid s) (may : MayPut s x) (is : i
   copy_marked m kind name has wants =
       let k = key.Copy m kind name in
       let known = (wants_known t.objects (chain_of g m) m kind name (is_open g m) (object_at t.objects (namespace_id m)) wants).2 in
-      let kept = wants_put s.objects x (ap can_be_copied (namespace_kind x.id.kind is)) absent (other_kind config_id refl) (chain_of g m) m k known in
+      let kept = wants_put s.objects x (ap can_be_copied (namespace_kind x.id.kind is)) absent (more.others config_id refl) (chain_of g m) m k known in
       marked m k has (all_wants s.objects (whole m) m k (wants_grow s.objects (chain_of g m) (whole m) (λ a. made_tail f g n more.made m a) m k kept))
 
   child_marked : (m name : List ℕ) → in_chain g m n ≡ true → wanted_child t m name ≢ None → is_among (key.Child m name) opened ≡ true
   child_marked m name has wants =
       let known = child_known (is_open g m) (object_at t.objects (anchor_id m name)) (is_in name s.config.excluded) (is_some (object_at t.objects (namespace_id name))) m name wants in
-      marked m (key.Child m name) has (all_children s.objects (whole m) m (key.Child m name) (child_among s.objects m name known.1 (sym (other_kind (anchor_id m name) refl) ∙ known.2)))
+      marked m (key.Child m name) has (all_children s.objects (whole m) m (key.Child m name) (child_among s.objects m name known.1 (sym (more.others (anchor_id m name) refl) ∙ known.2)))
 
   abbrev reports : List Key
   reports = created_reports f n (parent_of g n)
@@ -161,14 +149,14 @@ module _ (s : State) (x : Object) (valid : IsValid s) (may : MayPut s x) (is : i
   by_made (key.Child m name) out unnamed untouched used = elim (cases_Bool (in_chain g m n)) [
     | inl has ↦ none_in_both s t (key.Child m name) (shut_child s m name (made_not_open f g n more.made m has)) (none_from (wanted_child t m name) (λ wants. true≢false (sym (child_marked m name has wants) ∙ out)))
     | inr hasnt ↦ elim (cases_Bool (bytes_eq n name)) [
-      | inl same ↦ let none = unasked s.objects n m name (key.Child m name) (child_of_anchor m name) unnamed same in without_child s t m name none (other_kind (anchor_id m name) refl ∙ none)
+      | inl same ↦ let none = unasked s.objects n m name (key.Child m name) (child_of_anchor m name) unnamed same in without_child s t m name none (more.others (anchor_id m name) refl ∙ none)
       | inr off ↦ apart_child s t n more m name hasnt off
     ]
   ]
   by_made (key.Anchor m name) out unnamed untouched used = elim (cases_Bool (bytes_eq n m)) [
-    | inl here ↦ let none = ap (λ (q : List ℕ). object_at s.objects (anchor_id q name)) (sym (is_same n m here)) ∙ bare name in without_status s t m name none (other_kind (anchor_id m name) refl ∙ none)
+    | inl here ↦ let none = ap (λ (q : List ℕ). object_at s.objects (anchor_id q name)) (sym (is_same n m here)) ∙ bare name in without_status s t m name none (more.others (anchor_id m name) refl ∙ none)
     | inr off ↦ elim (cases_Bool (bytes_eq n name)) [
-      | inl same ↦ let none = unasked s.objects n m name (key.Anchor m name) (status_of_anchor m name) unnamed same in without_status s t m name none (other_kind (anchor_id m name) refl ∙ none)
+      | inl same ↦ let none = unasked s.objects n m name (key.Anchor m name) (status_of_anchor m name) unnamed same in without_status s t m name none (more.others (anchor_id m name) refl ∙ none)
       | inr other ↦ apart_status s t n more m name off other
     ]
   ]

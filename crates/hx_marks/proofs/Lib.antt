@@ -34,6 +34,7 @@ pub mod Asking
 pub mod Keeping
 pub mod OneMoreHalting
 pub mod OneMore
+pub mod OneMoreWrites
 pub mod CreatedReports
 pub mod RemovedReports
 pub mod UsageTree

@@ -1,13 +1,12 @@
 -- The law of marks where a namespace goes that is on its way out, and in which nothing lies.
 --     removed_law        a key that isn't marked wants what it wanted
 --     within_removed     only keys of the state are marked
-use Rattle.std.proofs.Common.{◌≡◌, ℕ, Bool, true, false, cond, not, ◌&&◌, Option, Some, None, List, [], ◌∷◌, ◌++◌, option_map, refl, sym, ap, ◌∙◌, subst, inl, inr, true≢false}
-use Rattle.std.specs.Prelude.{is_some, if◌then◌else◌, IsSomeAnd, is_none}
-use Rattle.std.specs.Cmp.{tied_itself}
+use Rattle.std.proofs.Common.{◌≡◌, ℕ, Bool, true, false, not, ◌&&◌, Option, Some, None, List, [], ◌∷◌, ◌++◌, option_map, refl, sym, ap, ◌∙◌, subst, inl, inr, true≢false}
+use Rattle.std.specs.Prelude.{if◌then◌else◌, IsSomeAnd, is_none}
 use Rattle.std.specs.List.{AllByRecursion}
 use Rattle.std.specs.Option.{option_map_or}
 use Rattle.std.specs.Str.{bytes_eq}
-use Rattle.std.proofs.lemmas.Bool.{or_cases, or_left, cases_Bool, false_from_ne_true}
+use Rattle.std.proofs.lemmas.Bool.{or_cases, or_left, cases_Bool}
 use Rattle.hx_object.specs.Kinds.{is_namespace, is_plain}
 use Rattle.hx_object.specs.declared.object.Id.{Id}
 use Rattle.hx_object.specs.declared.object.Object.{Object}
@@ -16,7 +15,7 @@ use Rattle.hx_model.specs.Covered.{IsSameFor}
 use Rattle.hx_model.specs.Forest.{Forest, is_live, is_excluded, halt_of, in_chain}
 use Rattle.hx_model.specs.Keys.{same_key, is_among, is_key, touches, may_mark}
 use Rattle.hx_model.specs.Serving.{IsServed}
-use Rattle.hx_model.specs.State.{State, object_at, same_id, state_after, namespace_id}
+use Rattle.hx_model.specs.State.{State, object_at, state_after, namespace_id}
 use Rattle.hx_model.specs.Subnamespaces.{anchor_id}
 use Rattle.hx_model.specs.Tree.{forest_of, is_terminating, node_in}
 use Rattle.hx_model.specs.TreeLabels.{is_open}
@@ -26,20 +25,17 @@ use Rattle.hx_model.specs.declared.key.Key.{Key}
 use Rattle.hx_model.specs.declared.key.Key.TheVariants as key
 use Rattle.hx_model.specs.declared.key.Write.TheVariants.{Cut}
 use Rattle.hx_model.specs.declared.node.Node.{Node}
-use Rattle.hx_model.proofs.Climbing.{is_same, same_itself}
-use Rattle.hx_model.proofs.Displacing.{cut_keeps}
-use Rattle.hx_model.proofs.Objects.{id_total, is_same_id, same_from_Equal, found_id, object_at-cut}
+use Rattle.hx_model.proofs.Climbing.{is_same}
 use Rattle.hx_model.proofs.Opening.{not_live}
-use Rattle.hx_model.proofs.Planting.{namespace_is_homed, node_of-objects}
-use Rattle.hx_model.proofs.Storing.{All-cut, All-found}
+use Rattle.hx_model.proofs.Planting.{node_of-objects}
 use Rattle.hx_marks.specs.Law.{asking_keys, removed_marks, marks_by, namespace_marks, namespace_reports, report_marks}
 use Rattle.hx_marks.specs.Reports.{removed_reports}
 use Rattle.hx_marks.proofs.Among.{among_append, among_here, out_left, out_right}
 use Rattle.hx_marks.proofs.Asking.{asking_known, anchor_key, child_of_anchor, status_of_anchor}
 use Rattle.hx_marks.proofs.CreatedChains.{made_not_open}
-use Rattle.hx_marks.proofs.Frames.{cut_least}
 use Rattle.hx_marks.proofs.Keeping.{turned, closed_copy, closed_labels, closed_children, without_child, without_status, waiting_both}
-use Rattle.hx_marks.proofs.OneMore.{HasOneMore, one_more, lies_nowhere, keeps_cut, apart_copy, apart_tree, apart_child, apart_status, apart_purge, unasked}
+use Rattle.hx_marks.proofs.OneMore.{HasOneMore, apart_copy, apart_tree, apart_child, apart_status, apart_purge, unasked}
+use Rattle.hx_marks.proofs.OneMoreWrites.{cut_more}
 use Rattle.hx_marks.proofs.Parts.{UsedSame, marks_beside}
 use Rattle.hx_marks.proofs.RemovedReports.{report_gone, gone_within}
 use Rattle.hx_marks.proofs.Replacing.{valid_served}
@@ -70,26 +66,9 @@ module _ (s : State) (id : Id) (valid : IsValid s) (may : MayCut s id) (is : is_
   served : AllByRecursion IsServed s.objects
   served = valid_served s valid
 
-  served_then : AllByRecursion IsServed t.objects
-  served_then = All-cut IsServed id s.objects served
-
-  home : id ≡ namespace_id n
-  home =
-      let same : id ≡ may.there.0.id = found_id s.objects id may.there.0 may.there.1 in
-      same ∙ namespace_is_homed may.there.0 (All-found IsServed id may.there.0 s.objects served may.there.1) (ap (λ (q : Id). is_namespace q.kind) (sym same) ∙ is) ∙ ap (λ (q : Id). namespace_id q.name) (sym same)
-
-  gone : object_at t.objects (namespace_id n) ≡ None
-  gone = ap (object_at t.objects) (sym home) ∙ object_at-cut id s.objects id ∙ ap (λ b. cond b None (object_at s.objects id)) (same_from_Equal id id (tied_itself id_total id))
-
-  other_kind : (q : Id) → is_namespace q.kind ≡ false → object_at s.objects q ≡ object_at t.objects q
-  other_kind q leaf = sym (cut_keeps id s.objects q (false_from_ne_true (same_id q id) (λ h. true≢false (sym is ∙ sym (ap (λ (p : Id). is_namespace p.kind) (is_same_id q id h)) ∙ leaf))))
-
-  other_name : (m : List ℕ) → bytes_eq n m ≡ false → object_at s.objects (namespace_id m) ≡ object_at t.objects (namespace_id m)
-  other_name m off = sym (cut_keeps id s.objects (namespace_id m) (false_from_ne_true (same_id (namespace_id m) id) (λ h. true≢false (sym (subst (λ (q : List ℕ). bytes_eq n q ≡ true) (sym (ap (λ (p : Id). p.name) (is_same_id (namespace_id m) id h))) (same_itself n)) ∙ off))))
-
   -- the state before it has one namespace more
   more : HasOneMore t s n
-  more = one_more t s n served_then served refl other_kind other_name (ap is_some gone) (ap is_some (ap (object_at s.objects) (sym home) ∙ may.there.1)) (λ m. sym (cut_least id s.objects m (lies_nowhere m id is))) (keeps_cut s.config.excluded id s.objects)
+  more = cut_more s id valid may is
 
   -- it is on its way out before, and isn't there then
   dead : is_live f n ≡ false
@@ -123,14 +102,14 @@ module _ (s : State) (id : Id) (valid : IsValid s) (may : MayCut s id) (is : is_
   by_removed (key.Child m name) out untouched used = elim (cases_Bool (in_chain f m n)) [
     | inl has ↦ closed_children s t m name (shut m has) (shut_then m has)
     | inr hasnt ↦ elim (cases_Bool (bytes_eq n name)) [
-      | inl same ↦ let none = unasked s.objects n m name (key.Child m name) (child_of_anchor m name) (out_right (same_key (key.Child m name) (key.Purge n)) _ out) same in without_child s t m name none (sym (other_kind (anchor_id m name) refl) ∙ none)
+      | inl same ↦ let none = unasked s.objects n m name (key.Child m name) (child_of_anchor m name) (out_right (same_key (key.Child m name) (key.Purge n)) _ out) same in without_child s t m name none (sym (more.others (anchor_id m name) refl) ∙ none)
       | inr off ↦ turned t s (key.Child m name) (apart_child t s n more m name hasnt off)
     ]
   ]
   by_removed (key.Anchor m name) out untouched used = elim (cases_Bool (bytes_eq n m)) [
     | inl here ↦ subst (λ (q : List ℕ). IsSameFor s t (key.Anchor q name)) (is_same n m here) (waiting_both s t n name dead missing)
     | inr off ↦ elim (cases_Bool (bytes_eq n name)) [
-      | inl same ↦ let none = unasked s.objects n m name (key.Anchor m name) (status_of_anchor m name) (out_right (same_key (key.Anchor m name) (key.Purge n)) _ out) same in without_status s t m name none (sym (other_kind (anchor_id m name) refl) ∙ none)
+      | inl same ↦ let none = unasked s.objects n m name (key.Anchor m name) (status_of_anchor m name) (out_right (same_key (key.Anchor m name) (key.Purge n)) _ out) same in without_status s t m name none (sym (more.others (anchor_id m name) refl) ∙ none)
       | inr other ↦ turned t s (key.Anchor m name) (apart_status t s n more m name off other)
     ]
   ]

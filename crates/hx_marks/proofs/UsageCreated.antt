@@ -20,7 +20,7 @@ use Rattle.hx_model.specs.Forest.{Forest, is_in, is_there, names_of, parent_of, 
 use Rattle.hx_model.specs.Keys.{is_among}
 use Rattle.hx_model.specs.Moves.{chain_from}
 use Rattle.hx_model.specs.Serving.{IsServed}
-use Rattle.hx_model.specs.State.{State, object_at, same_id, namespace_id, ascends, state_after}
+use Rattle.hx_model.specs.State.{State, object_at, namespace_id, ascends, state_after}
 use Rattle.hx_model.specs.Tree.{forest_of, hierarchy_id, parent_with, node_in}
 use Rattle.hx_model.specs.Valid.{AreHoused, IsValid}
 use Rattle.hx_model.specs.Wanted.{quota_id}
@@ -30,18 +30,16 @@ use Rattle.hx_model.specs.declared.key.Key.TheVariants as key
 use Rattle.hx_model.specs.declared.key.Write.TheVariants.{Put}
 use Rattle.hx_model.specs.declared.node.Node.{Node}
 use Rattle.hx_model.proofs.Climbing.{Above, itself, through, chain_above, above_chain, is_same, same_itself}
-use Rattle.hx_model.proofs.Conflicting.{other_at}
-use Rattle.hx_model.proofs.Objects.{is_same_id, found_again}
 use Rattle.hx_model.proofs.Parents.{is_in_filter}
-use Rattle.hx_model.proofs.Planting.{namespace_is_homed, node_of-objects, there-objects}
+use Rattle.hx_model.proofs.Planting.{node_of-objects, there-objects}
 use Rattle.hx_model.proofs.Storing.{All-put}
 use Rattle.hx_model.proofs.Walking.{both, chain_there, names_have}
 use Rattle.hx_model.proofs.Writes.{ascends_after}
 use Rattle.hx_marks.specs.Reports.{has_any}
 use Rattle.hx_marks.specs.Usage.{usage_of, created_usage, namespace_usage, hierarchy_usage, charged_usage, usage_marks}
 use Rattle.hx_marks.proofs.CreatedChains.{IsMade, AboveOne, parent_same, live_same, made_chain_same, made_comes_to, made_members}
-use Rattle.hx_marks.proofs.Frames.{put_least}
-use Rattle.hx_marks.proofs.OneMore.{HasOneMore, one_more, lies_nowhere, keeps_put}
+use Rattle.hx_marks.proofs.OneMore.{HasOneMore}
+use Rattle.hx_marks.proofs.OneMoreWrites.{found_put, put_more}
 use Rattle.hx_marks.proofs.Replacing.{valid_served}
 use Rattle.hx_marks.proofs.UsageFrames.{without_used}
 use Rattle.hx_marks.proofs.UsageTree.{unmarked_apart, kept_alike, used_alike, found_home, plain_inside}
@@ -127,34 +125,18 @@ module _ (s : State) (x : Object) (valid : IsValid s) (may : MayPut s x) (is : i
   abbrev n : List ℕ
   n = x.id.name
 
-  home : x.id ≡ namespace_id n
-  home = namespace_is_homed x may.served is
-
-  other_kind : (q : Id) → is_namespace q.kind ≡ false → object_at t.objects q ≡ object_at s.objects q
-  other_kind q leaf = other_at x s.objects q (false_from_ne_true (same_id q x.id) (λ h. true≢false (sym is ∙ sym (ap (λ (p : Id). is_namespace p.kind) (is_same_id q x.id h)) ∙ leaf)))
-
-  other_name : (m : List ℕ) → bytes_eq n m ≡ false → object_at t.objects (namespace_id m) ≡ object_at s.objects (namespace_id m)
-  other_name m off = other_at x s.objects (namespace_id m) (false_from_ne_true (same_id (namespace_id m) x.id) (λ h. true≢false (sym (subst (λ (q : List ℕ). bytes_eq n q ≡ true) (sym (ap (λ (p : Id). p.name) (is_same_id (namespace_id m) x.id h))) (same_itself n)) ∙ off)))
-
   served : AllByRecursion IsServed s.objects
   served = valid_served s valid
 
-  served_then : AllByRecursion IsServed t.objects
-  served_then = All-put IsServed x s.objects may.served served
-
-  found_there : object_at t.objects (namespace_id n) ≡ Some x
-  found_there = ap (object_at t.objects) (sym home) ∙ found_again x s.objects
-
   more : HasOneMore s t n
-  more =
-      one_more s t n served served_then refl other_kind other_name (ap is_some (ap (object_at s.objects) (sym home) ∙ absent)) (ap is_some found_there)
-      (λ m. put_least x s.objects m (lies_nowhere m x.id is)) (keeps_put s.config.excluded x s.objects)
+  more = put_more s x valid may is absent
 
   -- its parent, by the objects that are there
   parent_is : parent_of (forest_of t) n ≡ parent_with (object_at s.objects (hierarchy_id n)) x
   parent_is =
-      ap (λ o. option_and_then (λ (node : Node). node.parent) o) (node_of-objects s.config.excluded t.objects n served_then ∙ ap (option_map (node_in s.config.excluded t.objects)) found_there)
-      ∙ ap (λ o. parent_with o x) (other_kind (hierarchy_id n) refl)
+      ap (λ o. option_and_then (λ (node : Node). node.parent) o)
+      (node_of-objects s.config.excluded t.objects n (All-put IsServed x s.objects may.served served) ∙ ap (option_map (node_in s.config.excluded t.objects)) (found_put s.objects x may.served is))
+      ∙ ap (λ o. parent_with o x) (more.others (hierarchy_id n) refl)
 
   marks_are : usage_marks s x.id (object_at s.objects x.id) (Some x) ≡ created_usage s n (parent_of (forest_of t) n)
   marks_are =

@@ -1,8 +1,7 @@
 -- What quotas tell where a namespace goes that is on its way out, and in which nothing lies.
 --     usage_of_removed     the key of a quota that isn't marked wants the same
-use Rattle.std.proofs.Common.{◌≡◌, ℕ, true, false, cond, Option, Some, None, List, [], ◌∷◌, refl, sym, ap, ◌∙◌, subst, true≢false}
-use Rattle.std.specs.Prelude.{is_some, if◌then◌else◌}
-use Rattle.std.specs.Cmp.{tied_itself}
+use Rattle.std.proofs.Common.{◌≡◌, ℕ, true, false, Option, Some, None, List, [], ◌∷◌, refl, sym, ap, ◌∙◌, true≢false}
+use Rattle.std.specs.Prelude.{if◌then◌else◌}
 use Rattle.std.specs.List.{AllByRecursion}
 use Rattle.std.specs.Str.{bytes_eq}
 use Rattle.std.proofs.lemmas.Bool.{false_from_ne_true}
@@ -13,7 +12,7 @@ use Rattle.hx_model.specs.Forest.{Forest, is_in, parent_of, chain_of, tail_of}
 use Rattle.hx_model.specs.Keys.{is_among}
 use Rattle.hx_model.specs.Moves.{chain_from}
 use Rattle.hx_model.specs.Serving.{IsServed}
-use Rattle.hx_model.specs.State.{State, object_at, same_id, namespace_id, ascends, state_after}
+use Rattle.hx_model.specs.State.{State, object_at, ascends, state_after}
 use Rattle.hx_model.specs.Tree.{forest_of}
 use Rattle.hx_model.specs.Valid.{AreHoused, IsValid}
 use Rattle.hx_model.specs.Wanted.{quota_id}
@@ -21,20 +20,17 @@ use Rattle.hx_model.specs.Writes.{MayCut, MayWriteAll}
 use Rattle.hx_model.specs.declared.key.Key.{Key}
 use Rattle.hx_model.specs.declared.key.Key.TheVariants as key
 use Rattle.hx_model.specs.declared.key.Write.TheVariants.{Cut}
-use Rattle.hx_model.proofs.Climbing.{through, chain_above, above_chain, same_itself}
-use Rattle.hx_model.proofs.Displacing.{cut_keeps}
+use Rattle.hx_model.proofs.Climbing.{through, chain_above, above_chain}
 use Rattle.hx_model.proofs.Homes.{housed_gone}
-use Rattle.hx_model.proofs.Objects.{id_total, is_same_id, same_from_Equal, found_id, object_at-cut}
 use Rattle.hx_model.proofs.Opening.{chain_first}
 use Rattle.hx_model.proofs.Parents.{swap_same}
-use Rattle.hx_model.proofs.Planting.{namespace_is_homed}
-use Rattle.hx_model.proofs.Storing.{All-cut, All-found}
+use Rattle.hx_model.proofs.Storing.{All-cut}
 use Rattle.hx_model.proofs.Writes.{ascends_after}
 use Rattle.hx_marks.specs.Usage.{usage_of, removed_usage, namespace_usage, hierarchy_usage, charged_usage, usage_marks}
 use Rattle.hx_marks.proofs.CreatedChains.{IsMade, in_rest}
-use Rattle.hx_marks.proofs.Frames.{cut_least}
 use Rattle.hx_marks.proofs.Keeping.{turned}
-use Rattle.hx_marks.proofs.OneMore.{HasOneMore, one_more, lies_nowhere, keeps_cut}
+use Rattle.hx_marks.proofs.OneMore.{HasOneMore}
+use Rattle.hx_marks.proofs.OneMoreWrites.{cut_more}
 use Rattle.hx_marks.proofs.Replacing.{valid_served}
 use Rattle.hx_marks.proofs.UsageCreated.{child_any, there_then, named_then, above_then, lies_apart, more_used}
 use Rattle.hx_marks.proofs.UsageTree.{unmarked_apart, found_home}
@@ -56,31 +52,12 @@ module _ (s : State) (id : Id) (valid : IsValid s) (may : MayCut s id) (is : is_
   abbrev n : List ℕ
   n = id.name
 
-  served : AllByRecursion IsServed s.objects
-  served = valid_served s valid
-
   served_then : AllByRecursion IsServed t.objects
-  served_then = All-cut IsServed id s.objects served
-
-  home : id ≡ namespace_id n
-  home =
-      let same : id ≡ may.there.0.id = found_id s.objects id may.there.0 may.there.1 in
-      same ∙ namespace_is_homed may.there.0 (All-found IsServed id may.there.0 s.objects served may.there.1) (ap (λ (q : Id). is_namespace q.kind) (sym same) ∙ is) ∙ ap (λ (q : Id). namespace_id q.name) (sym same)
-
-  gone : object_at t.objects (namespace_id n) ≡ None
-  gone = ap (object_at t.objects) (sym home) ∙ object_at-cut id s.objects id ∙ ap (λ b. cond b None (object_at s.objects id)) (same_from_Equal id id (tied_itself id_total id))
-
-  other_kind : (q : Id) → is_namespace q.kind ≡ false → object_at s.objects q ≡ object_at t.objects q
-  other_kind q leaf = sym (cut_keeps id s.objects q (false_from_ne_true (same_id q id) (λ h. true≢false (sym is ∙ sym (ap (λ (p : Id). is_namespace p.kind) (is_same_id q id h)) ∙ leaf))))
-
-  other_name : (m : List ℕ) → bytes_eq n m ≡ false → object_at s.objects (namespace_id m) ≡ object_at t.objects (namespace_id m)
-  other_name m off = sym (cut_keeps id s.objects (namespace_id m) (false_from_ne_true (same_id (namespace_id m) id) (λ h. true≢false (sym (subst (λ (q : List ℕ). bytes_eq n q ≡ true) (sym (ap (λ (p : Id). p.name) (is_same_id (namespace_id m) id h))) (same_itself n)) ∙ off))))
+  served_then = All-cut IsServed id s.objects (valid_served s valid)
 
   -- the state before it has one namespace more
   more : HasOneMore t s n
-  more =
-      one_more t s n served_then served refl other_kind other_name (ap is_some gone) (ap is_some (ap (object_at s.objects) (sym home) ∙ may.there.1))
-      (λ m. sym (cut_least id s.objects m (lies_nowhere m id is))) (keeps_cut s.config.excluded id s.objects)
+  more = cut_more s id valid may is
 
   -- nothing lay in it
   housed_then : AreHoused t.objects
@@ -98,7 +75,7 @@ module _ (s : State) (id : Id) (valid : IsValid s) (may : MayCut s id) (is : is_
   used_gone a name out = turned t s (key.Used a name) (more_used t s n more served_then housed_then high valid.in_order a name (λ q at p there names.
       let off : bytes_eq n a ≡ false = lies_apart t s n more served_then housed_then high valid.in_order a (found_home t.objects (quota_id a name) q housed_then at refl) in
       let outside : is_in a (tail_of (chain_of (forest_of s) n)) ≡ false =
-      unmarked_apart s.objects a name q (tail_of (chain_of (forest_of s) n)) (other_kind (quota_id a name) refl ∙ at)
+      unmarked_apart s.objects a name q (tail_of (chain_of (forest_of s) n)) (more.others (quota_id a name) refl ∙ at)
       (sym (ap (λ b. is_among (key.Used a name) (if b then usage_of s.objects (tail_of (chain_of (forest_of s) n)) else [])) (child_any (forest_of s) n p (there_then (forest_of t) (forest_of s) n more.made p there) (named_then (forest_of t) (forest_of s) n more.made p there ∙ names))) ∙ out) in
       false_from_ne_true (is_in a (chain_from (forest_of t) (parent_of (forest_of s) n))) (λ mem. true≢false (sym (behind_gone (forest_of t) (forest_of s) n more.made a (swap_same n a off) mem) ∙ outside))))
 
