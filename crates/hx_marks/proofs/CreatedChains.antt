@@ -1,5 +1,6 @@
 -- Chains where a namespace is made: n isn't there in the forest f, is there in g, and all else is as before.
 --     there_same, parent_same, live_same, excluded_same   the node of another is as before
+--     own_by                the reasons of a namespace by itself, by what it names as its parent
 --     made_chain_same       a chain without n is as before
 --     made_own_same         so are the reasons that its members have by themselves
 --     made_open_same        one whose chain doesn't have n takes part as before

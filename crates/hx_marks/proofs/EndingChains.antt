@@ -1,15 +1,12 @@
 -- Trees of which more is on its way out: the names, the parents and what is excluded stay, and only fewer are live.
---     own_by           the reasons of a namespace by itself, by what it names as its parent
 --     quiet_chain      chains stay
 --     quiet_above      of one that takes part all of its chain are live
 --     quiet_or         a member of a chain isn't live any more, or who takes part stays
 use Rattle.std.specs.Prelude.{is_none}
 use Rattle.std.proofs.Common.{◌≡◌, ℕ, Bool, true, false, not, ◌&&◌, Option, Some, None, List, [], ◌∷◌, ◌++◌, ◌⊎◌, refl, sym, ap, ◌∙◌, subst, inl, inr, true≢false}
 use Rattle.std.specs.List.{list_all, list_any}
-use Rattle.std.specs.Option.{option_map_or}
 use Rattle.std.specs.Str.{bytes_eq}
 use Rattle.std.proofs.lemmas.Bool.{and_parts, cases_Bool, or_left, or_right}
-use Rattle.hx_model.specs.declared.node.Halt.{Halt}
 use Rattle.hx_model.specs.declared.node.Halt.TheVariants.{InCycle, ParentMissing, IllegalParent}
 use Rattle.hx_model.specs.First.{so, first}
 use Rattle.hx_model.specs.Forest.{Forest, is_in, is_there, is_live, is_excluded, parent_of, chain_of, in_chain, own_halt_of, halt_of}
@@ -19,16 +16,9 @@ use Rattle.hx_model.proofs.Climbing.{Climbs, at_top, stopped, onward, chain-Clim
 use Rattle.hx_model.proofs.Opening.{halts_by_members, not_live}
 use Rattle.hx_model.proofs.Walking.{chain_there}
 use Rattle.hx_marks.proofs.Among.{found_name, passing_name}
+use Rattle.hx_marks.proofs.CreatedChains.{own_by}
 use Rattle.hx_marks.proofs.OpenBelow.{in_own_chain}
 use Rattle.hx_marks.proofs.TakingPart.{open_under}
-
--- the reasons that a has by itself, by what it names as its parent
-abbrev pub own_by : Forest → List ℕ → Option (List ℕ) → Option Halt
-own_by f a next = first (
-    so (option_map_or (λ p. in_chain f p a) next false) InCycle
-    ∷ so (option_map_or (λ p. not (is_live f p)) next false) ParentMissing
-    ∷ so (option_map_or (λ p. is_excluded f p) next false) IllegalParent
-    ∷ [])
 
 all_alike : (t u : List ℕ → Bool) (xs : List (List ℕ)) → ((a : List ℕ) → is_in a xs ≡ true → t a ≡ u a) → list_all t xs ≡ list_all u xs
 all_alike t u [] same = refl

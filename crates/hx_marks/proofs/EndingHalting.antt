@@ -28,7 +28,8 @@ use Rattle.hx_model.proofs.Opening.{not_live}
 use Rattle.hx_model.proofs.Planting.{namespace_is_homed}
 use Rattle.hx_forest.proofs.Changing.{same_children}
 use Rattle.hx_forest.proofs.Named.{ascends, is_below_all}
-use Rattle.hx_marks.proofs.EndingChains.{IsQuieter, own_by, quiet_chain}
+use Rattle.hx_marks.proofs.CreatedChains.{own_by}
+use Rattle.hx_marks.proofs.EndingChains.{IsQuieter, quiet_chain}
 
 -- ---- reasons
 

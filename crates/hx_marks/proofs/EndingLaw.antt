@@ -1,8 +1,8 @@
 -- The law of marks where namespaces begin to leave, and anchors go.
 --     leaving_law, ending_law          a key that isn't marked wants what it wanted
 --     within_leaving, within_ending    only keys of the state are marked
-use Rattle.std.proofs.Common.{◌≡◌, ℕ, Bool, true, false, not, ◌||◌, Option, Some, None, option_map, List, [], ◌∷◌, ◌++◌, ◌⊎◌, refl, sym, ap, ◌∙◌, subst, inl, inr, true≢false}
-use Rattle.std.specs.Prelude.{◌&&◌, is_some, is_none, flat_map, option_and_then, if◌then◌else◌}
+use Rattle.std.proofs.Common.{◌≡◌, ℕ, Bool, true, false, not, ◌||◌, Option, Some, None, List, [], ◌∷◌, ◌++◌, ◌⊎◌, refl, sym, ap, ◌∙◌, subst, inl, inr, true≢false}
+use Rattle.std.specs.Prelude.{◌&&◌, is_some, is_none, flat_map, if◌then◌else◌}
 use Rattle.std.specs.List.{AllByRecursion}
 use Rattle.std.specs.Option.{option_map_or}
 use Rattle.std.proofs.lemmas.Bool.{or_cases, or_left, or_right, cases_Bool, false_from_ne_true}
@@ -15,8 +15,7 @@ use Rattle.hx_object.proofs.KindTests.{namespace_kind}
 use Rattle.hx_object.specs.declared.object.AnchorStatus.TheVariants.{Ok, Conflict, Forbidden}
 use Rattle.hx_model.specs.Cases.{is_leaving, same_name}
 use Rattle.hx_model.specs.Covered.{IsSameFor}
-use Rattle.hx_model.specs.First.{or_else}
-use Rattle.hx_model.specs.Forest.{Forest, is_in, node_of, is_there, is_live, is_excluded, parent_of, chain_of, in_chain, halt_of}
+use Rattle.hx_model.specs.Forest.{Forest, is_in, is_there, is_live, is_excluded, parent_of, chain_of, in_chain, halt_of}
 use Rattle.hx_model.specs.Keys.{is_among, has_named, is_key, may_mark}
 use Rattle.hx_model.specs.Modes.{config_id}
 use Rattle.hx_model.specs.Moves.{is_calm}
@@ -25,7 +24,7 @@ use Rattle.hx_model.specs.Reports.{misses_anchor, conditions_by}
 use Rattle.hx_model.specs.Serving.{IsServed}
 use Rattle.hx_model.specs.State.{State, Objects, ascends, object_at, namespace_id, state_after}
 use Rattle.hx_model.specs.Subnamespaces.{anchor_id}
-use Rattle.hx_model.specs.Tree.{forest_of, hierarchy_id, is_terminating, named_parent, node_in, parent_with, subnamespace_parent}
+use Rattle.hx_model.specs.Tree.{forest_of, hierarchy_id, subnamespace_parent}
 use Rattle.hx_model.specs.TreeLabels.{is_open}
 use Rattle.hx_model.specs.Valid.{IsValid}
 use Rattle.hx_model.specs.Wanted.{wanted_copy, wanted_child, status_by, anchor_status}
@@ -36,8 +35,7 @@ use Rattle.hx_model.specs.declared.key.Write.{Write}
 use Rattle.hx_model.specs.declared.key.Write.TheVariants.{Put, Cut}
 use Rattle.hx_model.specs.declared.node.Node.{Node}
 use Rattle.hx_model.proofs.Climbing.{chain_trans}
-use Rattle.hx_model.proofs.Objects.{found_id}
-use Rattle.hx_model.proofs.Planting.{node_of-objects, there-objects, namespace_is_homed}
+use Rattle.hx_model.proofs.Planting.{there-objects, namespace_is_homed}
 use Rattle.hx_marks.specs.Halves.{IsEndingWrite}
 use Rattle.hx_marks.specs.Law.{all_of, status_keys, anchor_keys, leaving_keys, open_below, ending_marks, marks_of, ending_names, marks_among, all_marks}
 use Rattle.hx_marks.specs.Reports.{ending_reports, anchored_reports}
@@ -50,13 +48,14 @@ use Rattle.hx_marks.proofs.EndingReports.{near_reports, near_own, near_child, en
 use Rattle.hx_marks.proofs.EndingWrites.{IsLeavingWrite, AreMarked, HasBegun, HasEnded, has_ended, put_marks, cut_marks, among_within, all_leave}
 use Rattle.hx_marks.proofs.Frames.{none_in_both, closed_wants, shut_child}
 use Rattle.hx_marks.proofs.Keeping.{Stands, closed_labels, kept_copy, kept_tree, kept_child, kept_anchor, kept_purge, without_status, staying_both}
+use Rattle.hx_marks.proofs.KeptTree.{KeepsTree, kept_live, kept_node, kept_quieter, node_before, node_then}
 use Rattle.hx_marks.proofs.MoveChains.{open_above}
 use Rattle.hx_marks.proofs.MoveStates.{none_from}
 use Rattle.hx_marks.proofs.OpenBelow.{open_is_there, in_own_chain, in_open_below, open_below_has}
 use Rattle.hx_marks.proofs.Replacing.{valid_served, copied_leaf}
 use Rattle.hx_marks.proofs.Reporting.{same_report, silent_report}
 use Rattle.hx_marks.proofs.Topmost.{topmost}
-use Rattle.hx_marks.proofs.UsageEndings.{usage_of_ended}
+use Rattle.hx_marks.proofs.UsageEndings.{begun_stays, ended_keeps, usage_of_ended}
 use Rattle.hx_marks.proofs.UsageKeys.{usage_is_key}
 use Rattle.hx_marks.proofs.Wanting.{wants_known, child_known, child_among, status_among, all_tree, all_wants, all_children}
 use Rattle.hx_marks.proofs.Within.{all_keys, status_key, removal_key, leaving_key}
@@ -87,52 +86,27 @@ module _ (s t : State) (names : List (List ℕ)) (keys : List Key) (before : All
 
   -- ---- the tree
 
-  found_alike : (m : List ℕ) → object_at t.objects (namespace_id m) ≡ object_at s.objects (namespace_id m) → node_of g m ≡ node_of f m
-  found_alike m same =
-      node_of-objects t.config.excluded t.objects m has.served
-      ∙ ap (option_map (node_in t.config.excluded t.objects)) same
-      ∙ ap (λ (node : Object → Node). option_map node (object_at s.objects (namespace_id m))) (λ i y. record { parent = parent_with (has.others (hierarchy_id y.id.name) refl refl i) y; terminating = is_terminating y.payload; excluded = is_in y.id.name (has.excluded i) })
-      ∙ sym (node_of-objects s.config.excluded s.objects m before)
-
-  node_before : (m : List ℕ) (begun : HasBegun s t names keys m) → node_of f m ≡ Some (node_in s.config.excluded s.objects begun.old)
-  node_before m begun = node_of-objects s.config.excluded s.objects m before ∙ ap (option_map (node_in s.config.excluded s.objects)) begun.there
-
-  node_then : (m : List ℕ) (begun : HasBegun s t names keys m) → node_of g m ≡ Some (record (node_in s.config.excluded s.objects begun.old) { terminating = true })
-  node_then m begun =
-      let same : begun.new.id ≡ begun.old.id = sym (found_id t.objects (namespace_id m) begun.new begun.ends) ∙ found_id s.objects (namespace_id m) begun.old begun.there in
-      let config : object_at t.objects (hierarchy_id begun.new.id.name) ≡ object_at s.objects (hierarchy_id begun.old.id.name) = has.others (hierarchy_id begun.new.id.name) refl refl ∙ ap (λ (q : Id). object_at s.objects (hierarchy_id q.name)) same in
-      node_of-objects t.config.excluded t.objects m has.served
-      ∙ ap (option_map (node_in t.config.excluded t.objects)) begun.ends
-      ∙ (λ i. Some (record { parent = or_else (begun.annotation i) (option_and_then named_parent (config i)); terminating = begun.leaves i; excluded = is_in ((same i).name) (has.excluded i) }))
-
-  was_live : (m : List ℕ) → HasBegun s t names keys m → is_live f m ≡ true
-  was_live m begun = ap (λ o. option_map_or (λ (node : Node). not node.terminating) o false) (node_before m begun) ∙ ap not begun.stood
+  keeps : KeepsTree s t
+  keeps = ended_keeps s t names keys before up has
 
   quieter : IsQuieter f g
-  quieter = record {
-    there = λ m. elim (has.homes m) [ inl same ↦ ap is_some (found_alike m same) | inr begun ↦ ap is_some (node_then m begun) ∙ sym (ap is_some (node_before m begun)) ];
-    parent = λ m. elim (has.homes m) [
-      | inl same ↦ ap (λ o. option_and_then (λ (node : Node). node.parent) o) (found_alike m same)
-      | inr begun ↦ ap (λ o. option_and_then (λ (node : Node). node.parent) o) (node_then m begun) ∙ sym (ap (λ o. option_and_then (λ (node : Node). node.parent) o) (node_before m begun))
-    ];
-    excluded = λ m. elim (has.homes m) [
-      | inl same ↦ ap (λ o. option_map_or (λ (node : Node). node.excluded) o false) (found_alike m same)
-      | inr begun ↦ ap (λ o. option_map_or (λ (node : Node). node.excluded) o false) (node_then m begun) ∙ sym (ap (λ o. option_map_or (λ (node : Node). node.excluded) o false) (node_before m begun))
-    ];
-    live = λ m lives. elim (has.homes m) [
-      | inl same ↦ sym (ap (λ o. option_map_or (λ (node : Node). not node.terminating) o false) (found_alike m same)) ∙ lives
-      | inr begun ↦ was_live m begun
-    ];
-  }
+  quieter = kept_quieter s t keeps
 
   same_live : (m : List ℕ) → object_at t.objects (namespace_id m) ≡ object_at s.objects (namespace_id m) → is_live g m ≡ is_live f m
-  same_live m same = ap (λ o. option_map_or (λ (node : Node). not node.terminating) o false) (found_alike m same)
+  same_live m same = kept_live s t keeps m same
 
   same_leaving : (m : List ℕ) → object_at t.objects (namespace_id m) ≡ object_at s.objects (namespace_id m) → is_leaving g m ≡ is_leaving f m
-  same_leaving m same = ap (λ o. option_map_or (λ (node : Node). node.terminating) o false) (found_alike m same)
+  same_leaving m same = ap (λ o. option_map_or (λ (node : Node). node.terminating) o false) (kept_node s t keeps m same)
+
+  -- one that began to leave was there and live, and isn't live any more
+  was_there : (m : List ℕ) → HasBegun s t names keys m → is_there f m ≡ true
+  was_there m begun = ap is_some (node_before s t keeps m (begun_stays s t names keys m begun))
+
+  was_live : (m : List ℕ) → HasBegun s t names keys m → is_live f m ≡ true
+  was_live m begun = ap (λ o. option_map_or (λ (node : Node). not node.terminating) o false) (node_before s t keeps m (begun_stays s t names keys m begun)) ∙ ap not begun.stood
 
   dead_then : (m : List ℕ) → HasBegun s t names keys m → is_live g m ≡ false
-  dead_then m begun = ap (λ o. option_map_or (λ (node : Node). not node.terminating) o false) (node_then m begun)
+  dead_then m begun = ap (λ o. option_map_or (λ (node : Node). not node.terminating) o false) (node_then s t keeps m (begun_stays s t names keys m begun)) ∙ ap not begun.leaves
 
   -- ---- below one that began to leave
 
@@ -177,7 +151,7 @@ module _ (s t : State) (names : List (List ℕ)) (keys : List Key) (before : All
       chain = quiet_chain f g quieter m;
       home = elim (has.homes m) [
         | inl same ↦ same
-        | inr begun ↦ absurd (true≢false (sym (was_live m begun) ∙ sym (lives m (in_own_chain f m (ap is_some (node_before m begun)))) ∙ dead_then m begun))
+        | inr begun ↦ absurd (true≢false (sym (was_live m begun) ∙ sym (lives m (in_own_chain f m (was_there m begun))) ∙ dead_then m begun))
       ];
     })
   ]

@@ -4,6 +4,7 @@ pub mod Within
 pub mod UsageKeys
 pub mod Parts
 pub mod UsageCharges
+pub mod KeptTree
 pub mod UsageFrames
 pub mod UsageNamespaces
 pub mod UsageEndings

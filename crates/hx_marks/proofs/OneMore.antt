@@ -32,7 +32,7 @@ use Rattle.hx_model.specs.Reports.{conditions_by, misses_anchor}
 use Rattle.hx_model.specs.Serving.{IsServed}
 use Rattle.hx_model.specs.State.{State, Objects, object_at, same_id, put, cut, namespace_id, lies_in, least_in}
 use Rattle.hx_model.specs.Subnamespaces.{anchor_id}
-use Rattle.hx_model.specs.Tree.{forest_of, forest_in, namespaces_in, hierarchy_id, is_terminating, named_parent, node_in, parent_with, subnamespace_parent}
+use Rattle.hx_model.specs.Tree.{forest_of, forest_in, namespaces_in, hierarchy_id, named_parent, node_in, subnamespace_parent}
 use Rattle.hx_model.specs.Wanted.{status_by, anchor_status}
 use Rattle.hx_model.specs.declared.key.Key.{Key}
 use Rattle.hx_model.specs.declared.key.Key.TheVariants as key
@@ -44,6 +44,7 @@ use Rattle.hx_model.proofs.Walking.{no_parent}
 use Rattle.hx_marks.proofs.Asking.{asking_among}
 use Rattle.hx_marks.proofs.CreatedChains.{IsMade, another, parent_same, made_chain_same, made_open_same}
 use Rattle.hx_marks.proofs.Keeping.{Stands, kept_copy, kept_tree, kept_child, kept_anchor, kept_purge}
+use Rattle.hx_marks.proofs.KeptTree.{node_alike}
 use Rattle.hx_marks.proofs.OneMoreHalting.{calm_same}
 use Rattle.hx_marks.proofs.Replacing.{copied_leaf}
 use Rattle.hx_marks.proofs.Reporting.{same_report, silent_report}
@@ -88,11 +89,7 @@ one_more s t n before after excluded others names absent there least order = rec
   made = record {
     absent = there-objects s.config.excluded s.objects n before ∙ absent;
     made = there-objects t.config.excluded t.objects n after ∙ there;
-    others = λ m off.
-        node_of-objects t.config.excluded t.objects m after
-        ∙ ap (option_map (node_in t.config.excluded t.objects)) (names m off)
-        ∙ ap (λ (node : Object → Node). option_map node (object_at s.objects (namespace_id m))) (λ i y. record { parent = parent_with (others (hierarchy_id y.id.name) refl i) y; terminating = is_terminating y.payload; excluded = is_in y.id.name (excluded i) })
-        ∙ sym (node_of-objects s.config.excluded s.objects m before);
+    others = λ m off. node_alike s t before after excluded (λ name. others (hierarchy_id name) refl) m (names m off);
   };
   others = others;
   names = names;

@@ -4,14 +4,12 @@
 --     sums_stay           what is used of its limits stays where what is used of each resource does
 --     nothing_there       nothing is charged at a place of a kind that isn't kept as it is given
 --     map_same_where      what two functions make of a list is the same, where they agree on what a test doesn't hold for
---     StaysThere          a namespace is there before and then, and keeps its place
---     KeepsTree           all namespaces stay or keep their places, and all else but anchors stays
---     chains_stay         so do the chains
+--     chains_stay         where the tree is kept, so are the chains
 --     keeps_used          the quotas of a namespace that stays tell the same
 --     left_used           and so do those of another one that aren't among its keys
-use Rattle.std.proofs.Common.{◌≡◌, ℕ, Bool, true, false, not, Option, Some, None, option_map, List, [], ◌∷◌, ◌⊎◌, map, inl, inr, refl, sym, ap, ◌∙◌, true≢false}
-use Rattle.std.specs.Prelude.{is_some, option_and_then, if◌then◌else◌}
-use Rattle.std.specs.List.{AllByRecursion, list_any}
+use Rattle.std.proofs.Common.{◌≡◌, ℕ, Bool, true, false, Option, Some, None, List, [], ◌∷◌, map, inl, inr, refl, sym, ap, ◌∙◌, true≢false}
+use Rattle.std.specs.Prelude.{if◌then◌else◌}
+use Rattle.std.specs.List.{list_any}
 use Rattle.std.specs.Option.{option_map_or}
 use Rattle.std.proofs.lemmas.Bool.{cases_Bool, or_parts}
 use Rattle.hx_object.specs.Kinds.{is_plain, is_namespace, is_anchor}
@@ -22,26 +20,22 @@ use Rattle.hx_object.specs.declared.object.Limit.{Limit}
 use Rattle.hx_object.specs.declared.object.Object.{Object}
 use Rattle.hx_model.specs.Charges.{charge_of, hard_of, resource_named}
 use Rattle.hx_model.specs.Covered.{IsSameFor}
-use Rattle.hx_model.specs.First.{or_else}
-use Rattle.hx_model.specs.Forest.{Forest, is_in, node_of, is_live, chain_of}
+use Rattle.hx_model.specs.Forest.{Forest, is_in, is_live, chain_of}
 use Rattle.hx_model.specs.Keys.{is_among}
 use Rattle.hx_model.specs.Limits.{part_of}
 use Rattle.hx_model.specs.Quotas.{charge_below, used}
-use Rattle.hx_model.specs.Serving.{IsServed}
-use Rattle.hx_model.specs.State.{State, ascends, object_at, namespace_id}
-use Rattle.hx_model.specs.Tree.{forest_of, hierarchy_id, is_terminating, named_parent, node_in, parent_with}
+use Rattle.hx_model.specs.State.{State, object_at, namespace_id}
+use Rattle.hx_model.specs.Tree.{forest_of}
 use Rattle.hx_model.specs.Wanted.{quota_id, used_of, sums_of, used_write, wanted_used, wanted_write}
-use Rattle.hx_model.specs.Writes.{KeepsItsPlace}
 use Rattle.hx_model.specs.declared.key.Key.TheVariants as key
-use Rattle.hx_model.specs.declared.node.Node.{Node}
 use Rattle.hx_model.specs.declared.resource.Resource.{Resource}
 use Rattle.hx_model.proofs.Objects.{found_id}
-use Rattle.hx_model.proofs.Planting.{node_of-objects}
 use Rattle.hx_model.proofs.Rising.{used_same}
 use Rattle.hx_marks.specs.Usage.{usage_keys}
-use Rattle.hx_marks.proofs.EndingChains.{IsQuieter, quiet_chain}
+use Rattle.hx_marks.proofs.EndingChains.{quiet_chain}
 use Rattle.hx_marks.proofs.Frames.{none_in_both, same_in_both}
 use Rattle.hx_marks.proofs.Keeping.{guard_same}
+use Rattle.hx_marks.proofs.KeptTree.{KeepsTree, kept_live, kept_quieter}
 use Rattle.hx_marks.proofs.UsageCharges.{uncharged_kind}
 use Rattle.hx_marks.proofs.Wanting.{usage_among}
 
@@ -108,25 +102,7 @@ nothing_there s f a r q other = by (object_at s.objects q) refl
     by None at = refl
     by (Some x) at = nothing_either (is_in a (chain_of f x.id.ns)) (charge_of x r) (uncharged_kind x r (ap (λ (i : Id). is_plain i.kind) (sym (found_id s.objects q x at)) ∙ other))
 
--- ---- namespaces that keep their places
-
--- one that is there before and then
-pub record StaysThere (s t : State) (m : List ℕ) : Type 0 where
-  pub old : Object
-  pub new : Object
-  pub before : object_at s.objects (namespace_id m) ≡ Some old
-  pub after : object_at t.objects (namespace_id m) ≡ Some new
-  pub keeps : KeepsItsPlace old new
-
--- all of them, and all else but anchors stays
-pub record KeepsTree (s t : State) : Type 0 where
-  pub excluded : t.config.excluded ≡ s.config.excluded
-  pub served : AllByRecursion IsServed s.objects
-  pub serves : AllByRecursion IsServed t.objects
-  pub up : ascends s.objects ≡ true
-  pub ascending : ascends t.objects ≡ true
-  pub others : (q : Id) → is_namespace q.kind ≡ false → is_anchor q.kind ≡ false → object_at t.objects q ≡ object_at s.objects q
-  pub homes : (m : List ℕ) → (object_at t.objects (namespace_id m) ≡ object_at s.objects (namespace_id m)) ⊎ StaysThere s t m
+-- ---- a tree that is kept
 
 module _ (s t : State) (all : KeepsTree s t) where
   abbrev f : Forest
@@ -135,53 +111,8 @@ module _ (s t : State) (all : KeepsTree s t) where
   abbrev g : Forest
   g = forest_of t
 
-  found_alike : (m : List ℕ) → object_at t.objects (namespace_id m) ≡ object_at s.objects (namespace_id m) → node_of g m ≡ node_of f m
-  found_alike m same =
-      node_of-objects t.config.excluded t.objects m all.serves
-      ∙ ap (option_map (node_in t.config.excluded t.objects)) same
-      ∙ ap (λ (node : Object → Node). option_map node (object_at s.objects (namespace_id m))) (λ i y. record { parent = parent_with (all.others (hierarchy_id y.id.name) refl refl i) y; terminating = is_terminating y.payload; excluded = is_in y.id.name (all.excluded i) })
-      ∙ sym (node_of-objects s.config.excluded s.objects m all.served)
-
-  node_before : (m : List ℕ) (stays : StaysThere s t m) → node_of f m ≡ Some (node_in s.config.excluded s.objects stays.old)
-  node_before m stays = node_of-objects s.config.excluded s.objects m all.served ∙ ap (option_map (node_in s.config.excluded s.objects)) stays.before
-
-  node_then : (m : List ℕ) (stays : StaysThere s t m) → node_of g m ≡ Some (record (node_in s.config.excluded s.objects stays.old) { terminating = is_terminating stays.new.payload })
-  node_then m stays =
-      let same : stays.new.id ≡ stays.old.id = sym (found_id t.objects (namespace_id m) stays.new stays.after) ∙ found_id s.objects (namespace_id m) stays.old stays.before in
-      let config : object_at t.objects (hierarchy_id stays.new.id.name) ≡ object_at s.objects (hierarchy_id stays.old.id.name) = all.others (hierarchy_id stays.new.id.name) refl refl ∙ ap (λ (q : Id). object_at s.objects (hierarchy_id q.name)) same in
-      node_of-objects t.config.excluded t.objects m all.serves
-      ∙ ap (option_map (node_in t.config.excluded t.objects)) stays.after
-      ∙ (λ i. Some (record { parent = or_else (stays.keeps.annotation i) (option_and_then named_parent (config i)); terminating = is_terminating stays.new.payload; excluded = is_in ((same i).name) (all.excluded i) }))
-
-  live_same : (m : List ℕ) → object_at t.objects (namespace_id m) ≡ object_at s.objects (namespace_id m) → is_live g m ≡ is_live f m
-  live_same m same = ap (λ o. option_map_or (λ (node : Node). not node.terminating) o false) (found_alike m same)
-
-  -- one that isn't on its way out then wasn't before
-  live_before : (m : List ℕ) (stays : StaysThere s t m) → is_live g m ≡ true → is_live f m ≡ true
-  live_before m stays lives =
-      ap (λ o. option_map_or (λ (node : Node). not node.terminating) o false) (node_before m stays)
-      ∙ by (is_terminating stays.old.payload) (is_terminating stays.new.payload) stays.keeps.phase (sym (ap (λ o. option_map_or (λ (node : Node). not node.terminating) o false) (node_then m stays)) ∙ lives)
-    where
-      by : (old new : Bool) → (old ≡ true → new ≡ true) → not new ≡ true → not old ≡ true
-      by false new phase lives = refl
-      by true new phase lives = sym (ap not (phase refl)) ∙ lives
-
-  quieter : IsQuieter f g
-  quieter = record {
-    there = λ m. elim (all.homes m) [ inl same ↦ ap is_some (found_alike m same) | inr stays ↦ ap is_some (node_then m stays) ∙ sym (ap is_some (node_before m stays)) ];
-    parent = λ m. elim (all.homes m) [
-      | inl same ↦ ap (λ o. option_and_then (λ (node : Node). node.parent) o) (found_alike m same)
-      | inr stays ↦ ap (λ o. option_and_then (λ (node : Node). node.parent) o) (node_then m stays) ∙ sym (ap (λ o. option_and_then (λ (node : Node). node.parent) o) (node_before m stays))
-    ];
-    excluded = λ m. elim (all.homes m) [
-      | inl same ↦ ap (λ o. option_map_or (λ (node : Node). node.excluded) o false) (found_alike m same)
-      | inr stays ↦ ap (λ o. option_map_or (λ (node : Node). node.excluded) o false) (node_then m stays) ∙ sym (ap (λ o. option_map_or (λ (node : Node). node.excluded) o false) (node_before m stays))
-    ];
-    live = λ m lives. elim (all.homes m) [ inl same ↦ sym (live_same m same) ∙ lives | inr stays ↦ live_before m stays lives ];
-  }
-
   pub chains_stay : (m : List ℕ) → chain_of g m ≡ chain_of f m
-  chains_stay m = quiet_chain f g quieter m
+  chains_stay m = quiet_chain f g (kept_quieter s t all) m
 
   -- each place is charged the same in each subtree
   place_stays : (a : List ℕ) (r : Resource) (q : Id) → part_of (charge_below f a r) (object_at s.objects q) ≡ part_of (charge_below g a r) (object_at t.objects q)
@@ -199,7 +130,7 @@ module _ (s t : State) (all : KeepsTree s t) where
 
   -- the quotas of a namespace that stays tell the same
   pub keeps_used : (n name : List ℕ) → object_at t.objects (namespace_id n) ≡ object_at s.objects (namespace_id n) → IsSameFor s t (key.Used n name)
-  keeps_used n name home = kept_used s t n name (live_same n home) home (all.others (quota_id n name) refl refl) (sums_stay s t n (used_stays n) (object_at s.objects (quota_id n name)))
+  keeps_used n name home = kept_used s t n name (kept_live s t all n home) home (all.others (quota_id n name) refl refl) (sums_stay s t n (used_stays n) (object_at s.objects (quota_id n name)))
 
   -- and so do those of another one that aren't among its keys
   pub left_used : (n name : List ℕ) → is_among (key.Used n name) (usage_keys s.objects n) ≡ false → IsSameFor s t (key.Used n name)

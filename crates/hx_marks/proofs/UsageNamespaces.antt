@@ -20,8 +20,9 @@ use Rattle.hx_model.proofs.Displacing.{put_keeps}
 use Rattle.hx_model.proofs.Objects.{is_same_id, found_again, ascends-put}
 use Rattle.hx_model.proofs.Storing.{All-put}
 use Rattle.hx_marks.specs.Usage.{usage_keys}
+use Rattle.hx_marks.proofs.KeptTree.{KeepsTree}
 use Rattle.hx_marks.proofs.Replacing.{valid_served}
-use Rattle.hx_marks.proofs.UsageFrames.{KeepsTree, keeps_used, left_used}
+use Rattle.hx_marks.proofs.UsageFrames.{keeps_used, left_used}
 
 module _ (s : State) (x old : Object) (valid : IsValid s) (may : MayWriteAll s (Put x ∷ [])) (is : is_namespace x.id.kind ≡ true) (there : object_at s.objects x.id ≡ Some old) where
   abbrev t : State
