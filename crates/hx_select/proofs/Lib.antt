@@ -1,5 +1,9 @@
+pub mod Asking
 pub mod Beginnings
+pub mod Counting
 pub mod Examples
 pub mod Labels
 pub mod Lexing
+pub mod Members
+pub mod Selecting
 pub mod Stripping

@@ -108,7 +108,7 @@ impl Selector {
         }
     }
 
-    /// Whether it holds for the labels.
+    /// Whether it holds for the labels. Asked of many, a [`Matcher`](crate::Matcher) of it is quicker.
     pub fn matches(&self, labels: &Pairs) -> bool
         ensures { result ≡ selects self.now labels.now }
     {

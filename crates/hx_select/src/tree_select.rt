@@ -1,11 +1,14 @@
 // Tree selectors.
-ghost use Rattle.std.specs.Prelude.{◌≡◌, ◌⊎◌, ◌++◌, IfErr, IfOk, Ok, Err, not};
+ghost use Rattle.std.specs.Prelude.{◌≡◌, ◌⊎◌, ◌++◌, ℕ, List, IfErr, IfOk, OnOk, Ok, Err, not};
 ghost use Rattle.std.specs.List.{list_all, list_any};
 ghost use Rattle.std.specs.Str.{bytes_eq};
 ghost use Rattle.hx_object.specs.WellKnown.{tree_suffix};
+ghost use Rattle.hx_select.specs.Selectors.{selects};
+ghost use Rattle.hx_select.specs.TreeLabels.{absent_needs, plain_needs, tree_need};
 ghost use Rattle.hx_select.specs.TreeSelects.{in_tree, is_under, is_under_plain, stripped, tree_select_of, with_negated, with_piece, with_plain};
 
 use crate::pieces::{cut_piece, stripped};
+use crate::selector::{Requirement, Selector, Test};
 use hx_object::well_known::TREE_SUFFIX;
 use hx_object::{List, NoMemory, Pairs, Text, is_dns_label};
 use std::alloc::{AllocFailed, Global};
@@ -75,6 +78,17 @@ impl TreeSelect {
     {
         is_under_plain(labels, &self.plain) && is_under_none(labels, self.not.as_slice())
     }
+
+    /// The label selector that holds for the same namespaces: the tree label of the plain name is there, and none of the others'.
+    pub fn to_selector(&self, alloc: Global) -> Result<Selector, NoMemory>
+        ensures { IfOk result (λ selector. (labels : List (List ℕ × List ℕ)) → selects selector labels ≡ in_tree self.now labels) }
+    {
+        let mut needs = plain_needs(alloc, &self.plain)?;
+        push_absent(alloc, &mut needs, self.not.as_slice())?;
+        Ok(Selector {
+            needs: List::of(needs),
+        })
+    }
 }
 
 /// The selector with one more piece.
@@ -120,6 +134,40 @@ fn with_plain(alloc: Global, select: TreeSelect, name: &str) -> Result<TreeSelec
     Ok(TreeSelect {
         plain: Some(Text::of(alloc, name)?),
         not: select.not,
+    })
+}
+
+/// The tree label of a plain name has to be there.
+fn plain_needs(alloc: Global, plain: &Option<Text>) -> Result<Vec<Requirement>, NoMemory>
+    ensures { IfOk result (λ needs. needs.items ≡ plain_needs plain.now) }
+{
+    let mut needs = Vec::new(alloc);
+    let Some(name) = plain else {
+        return Ok(needs);
+    };
+    needs.push(tree_need(alloc, name, Test::There)?)?;
+    Ok(needs)
+}
+
+/// The tree labels of names may not be there.
+fn push_absent(alloc: Global, needs: &mut Vec<Requirement>, names: &[Text]) -> Result<(), NoMemory>
+    ensures { OnOk result (needs.new.items ≡ needs.old.items ++ absent_needs names.now) }
+{
+    for name in names {
+        needs.push(tree_need(alloc, name, Test::Absent)?)?;
+    }
+    Ok(())
+}
+
+/// A requirement on the tree label of a name.
+fn tree_need(alloc: Global, name: &Text, test: Test) -> Result<Requirement, NoMemory>
+    ensures { IfOk result (λ need. need ≡ tree_need name.now test) }
+{
+    let mut key = String::from_str(alloc, name.as_str())?;
+    key.push_str(TREE_SUFFIX)?;
+    Ok(Requirement {
+        key: Text::of_string(key),
+        test,
     })
 }
 
