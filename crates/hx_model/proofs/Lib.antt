@@ -25,6 +25,7 @@ pub mod PropagationExamples
 pub mod NextParents
 pub mod Displacing
 pub mod TurnExamples
+pub mod KeyExamples
 pub mod DeletionExamples
 pub mod ChargeExamples
 pub mod QuotaExamples
@@ -34,3 +35,13 @@ pub mod Rising
 pub mod Admitting
 pub mod Overrunning
 pub mod Tearing
+pub mod Lists
+pub mod Writing
+pub mod Wanting
+pub mod Knowing
+pub mod Staying
+pub mod Limiting
+pub mod Beginning
+pub mod Housing
+pub mod Others
+pub mod HistoryExamples

@@ -3,8 +3,9 @@
 --     is_among k keys      a key is among keys
 --     is_name s n          a namespace has the name, or an anchor asks for one of it
 --     is_key s k           a key of the state: of a name, and for copies of a kind and a name that some object has; of an anchor; of a quota
+--     touches s id k       a write of one such object may change what the key wants
 --     may_mark s ws k      a commit of these writes may make the key wait
-use Rattle.std.specs.Prelude.{ℕ, Bool, false, ◌&&◌, ◌||◌, ◌==◌, List, [], ◌∷◌, is_some, if◌then◌else◌}
+use Rattle.std.specs.Prelude.{ℕ, Bool, true, false, ◌&&◌, ◌||◌, ◌==◌, List, [], ◌∷◌, is_some, if◌then◌else◌}
 use Rattle.std.specs.List.{list_any}
 use Rattle.std.specs.Str.{bytes_eq}
 use Rattle.hx_object.specs.Kinds.{number_of, can_be_copied, is_plain}
@@ -57,11 +58,16 @@ touches s id (key.Used n name) = in_chain (forest_of s) id.ns n
 touches s id (key.Purge n) = bytes_eq n id.ns
 touches s id _ = false
 
--- a write of such an object makes no other keys wait, and any other write makes none wait but those of the states before and after it
-abbrev pub may_mark_by : State → State → Write → Key → Bool
-may_mark_by s t write k = if is_plain (id_written write).kind then touches s (id_written write) k else is_key s k || is_key t k
+-- a key of one of two states
+abbrev pub is_key_of_either : State → State → Key → Bool
+is_key_of_either s t k = is_key s k || is_key t k
 
+-- a write makes no key wait but those of the states before and after it, and one of such an object only those of them that it touches
+abbrev pub may_mark_by : State → State → Write → Key → Bool
+may_mark_by s t write k = is_key_of_either s t k && (if is_plain (id_written write).kind then touches s (id_written write) k else true)
+
+-- so does a commit of several writes, none of which is of such an object
 abbrev pub may_mark : State → List Write → Key → Bool
 may_mark s [] k = false
 may_mark s (write ∷ []) k = may_mark_by s (state_after s (write ∷ [])) write k
-may_mark s writes k = is_key s k || is_key (state_after s writes) k
+may_mark s writes k = is_key_of_either s (state_after s writes) k

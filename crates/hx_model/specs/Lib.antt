@@ -42,3 +42,5 @@ pub mod Machine
 pub mod Requests
 pub mod Parents
 pub mod Overruns
+pub mod Known
+pub mod Excess

@@ -23,7 +23,7 @@ pub use ask::{Answer, Ask};
 pub use config::RunConfig;
 pub use denial::Denial;
 pub use key::{Finish, Guard, Key, Write};
-pub use law::{law_of_parents, law_of_quotas};
+pub use law::{law_of_excess, law_of_known_keys, law_of_parents, law_of_quotas};
 pub use mode::{entries_of, mode_in, names_kind};
 pub use node::{Halt, Node};
 pub use reason::Reason;
