@@ -23,7 +23,7 @@ use hx_forest::{Ancestors, Forest};
 use hx_model::{COPIED_KINDS, is_same_name, is_source, mode_in};
 use hx_object::well_known::{CONFIG, NONE_EXCEPTION, SELECT_EXCEPTION, TREE_SELECT_EXCEPTION};
 use hx_object::{Id, Kind, Mode, NoMemory, Object, Pairs, Shared, Text};
-use hx_rules::{exception, goes_to, stays_home};
+use hx_rules::{Reach, exception, stays_home};
 use std::alloc::Global;
 
 impl IndexedState {
@@ -326,6 +326,22 @@ fn is_source_in(found: Option<&Object>) -> bool
         Some(object) => is_source(object),
         None => false,
     }
+}
+
+/// Whether a source of a kind in this mode goes to a namespace of these labels below its own.
+pub(crate) fn goes_to(
+    alloc: Global,
+    mode: Mode,
+    source: &Object,
+    labels: &Pairs,
+) -> Result<bool, NoMemory>
+    ensures { IfOk result (λ goes. goes ≡ goes_to mode source.now labels.now) }
+{
+    if !is_propagated(mode) {
+        return Ok(false);
+    }
+    let reach = Reach::of(alloc, source)?;
+    Ok(reach.has(labels))
 }
 
 /// Whether an exception of the source is judged by the labels of a namespace.

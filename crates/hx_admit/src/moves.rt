@@ -12,14 +12,14 @@ ghost use Rattle.hx_model.specs.Tree.{forest_of};
 ghost use Rattle.hx_model.specs.TreeLabels.{prescribed_labels};
 ghost use Rattle.hx_admit.specs.Moves.{open_way, is_later, is_gone_to, CanMove, IsMovedBy};
 
-use crate::conflicts::{is_propagated, looks_at_labels};
+use crate::conflicts::{goes_to, is_propagated, looks_at_labels};
 use crate::indexed_state::IndexedState;
 use crate::plan::object_in;
 use hx_forest::Forest;
 use hx_model::{COPIED_KINDS, is_same_name, is_source, mode_in};
 use hx_object::well_known::CONFIG;
 use hx_object::{Kind, Mode, NoMemory, Object, Pairs, Shared, Text};
-use hx_rules::{goes_to, prescribed_labels};
+use hx_rules::prescribed_labels;
 use hx_store::Store;
 use std::alloc::Global;
 

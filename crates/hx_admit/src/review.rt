@@ -16,7 +16,7 @@ use crate::reviewed::Reviewed;
 use crate::update::replaced_by;
 use hx_model::{Answer, Ask, Denial, Refusal};
 use hx_object::{Id, Kind, List, NoMemory, Object, Shared, Text};
-use hx_select::Selector;
+use hx_select::{Matcher, Selector};
 use hx_store::Change;
 
 impl IndexedState {
@@ -29,7 +29,7 @@ impl IndexedState {
     {
         match ask {
             Ask::Get { id } => self.review_get(&id),
-            Ask::List { kind, ns, selector } => self.review_list(kind, ns.as_ref(), &selector),
+            Ask::List { kind, ns, selector } => self.review_list(kind, ns.as_ref(), selector),
             Ask::Create { object, skip } => self.review_create(object, skip),
             Ask::Replace {
                 object,
@@ -55,14 +55,15 @@ impl IndexedState {
         &self,
         kind: Kind,
         ns: Option<&Text>,
-        selector: &Selector,
+        selector: Selector,
     ) -> Result<Reviewed, Refusal>
-        ensures refused { IfErr result (IsRefusal self.now.state (Ask.List kind (option_copied ns.entry) selector.now)) }
-        ensures passes { IfOk result (λ r. Passes self.now.state (Ask.List kind (option_copied ns.entry) selector.now) r.writes.items r.answer) }
+        ensures refused { IfErr result (IsRefusal self.now.state (Ask.List kind (option_copied ns.entry) selector)) }
+        ensures passes { IfOk result (λ r. Passes self.now.state (Ask.List kind (option_copied ns.entry) selector) r.writes.items r.answer) }
         ensures may { IfOk result (λ r. MayWriteAll self.now.state r.writes.items) }
     {
+        let matcher = Matcher::of(self.store.allocator(), selector)?;
         let mut objects = self.store.list(kind, ns)?;
-        objects.retain(|object| selector.matches(&object.object().labels));
+        objects.retain(|object| matcher.matches(&object.object().labels));
         Ok(self.unchanged(Answer::Many {
             kind,
             objects: List::of(objects),

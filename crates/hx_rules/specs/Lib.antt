@@ -1,2 +1,3 @@
 pub mod Briefs
+pub mod Reaches
 pub mod Sharing

@@ -12,9 +12,9 @@ use Rattle.hx_admit.proofs.indexed_state.IndexedState.review_list.Goals as goal
 
 pub returns-clause-passes : goal.returns-clause-passes
 returns-clause-passes c =
-    let selector = c.args.selector.now in
+    let selector = c.args.selector in
     let holds = λ (x : Object). selects selector x.labels in
     let kept = filter_same _ holds _ (λ x b f k. search rules) _ _ c.retain.ensures.filtered in
-    let listed : c.of.result ≡ selected c.args.kind (option_copied c.args.ns) selector c.self.inside.store.objects = c.of.ensures ∙ kept ∙ ap (filter holds) c.in_ok-objects.ensures in
+    let listed : c.of-2.result ≡ selected c.args.kind (option_copied c.args.ns) selector c.self.inside.store.objects = c.of-2.ensures ∙ kept ∙ ap (filter holds) c.in_ok-objects.ensures in
     rw (← c.self.view_is) (passes_list (state_in c.self.inside.config c.self.inside.store.objects c.self.inside.store.version) c.args.kind (option_copied c.args.ns) selector _ _ (legal_listed {staged = []} refl c.self.invariant.now c.args.kind (option_copied c.args.ns) selector) c.unchanged.ensures.writing
     (c.unchanged.ensures.answers ∙ (λ i. Many c.args.kind (listed i) (c.version.ensures i))))
