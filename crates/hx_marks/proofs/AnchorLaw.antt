@@ -41,7 +41,7 @@ use Rattle.hx_marks.proofs.Frames.{put_least, cut_least}
 use Rattle.hx_marks.proofs.Parts.{UsedSame, marks_beside}
 use Rattle.hx_marks.proofs.Reporting.{own_report, report_key, same_report, silent_report}
 use Rattle.hx_marks.proofs.Keeping.{Stands, kept_copy, kept_tree, kept_child, kept_anchor, kept_purge, staying_both}
-use Rattle.hx_marks.proofs.Within.{leaving_key}
+use Rattle.hx_marks.proofs.Within.{leaving_key, unplain_within}
 
 -- what kinds of anchors are not
 anchor_leaf : (id : Id) → is_anchor id.kind ≡ true → is_namespace id.kind ≡ false
@@ -221,15 +221,10 @@ within_anchors s w may is k mem =
     let own = anchor_keys id ++ leaving_keys (forest_of s) id.ns in
     let reports = anchored_reports s id (object_at s.objects id) (object_written w) in
     let shows = differ (is_some (object_at s.objects id)) (is_some (object_written w)) && owns_named s id in
-    not_plain (is_plain id.kind) _ (ap (λ (q : Id). is_plain q.kind) (is_anchor_place id is))
-    (elim (or_cases (is_among k own) (is_among k reports) (sym (among_append k own reports) ∙ sym (ap (is_among k) (anchor_marked s w is)) ∙ mem)) [
+    unplain_within s w k (elim (or_cases (is_among k own) (is_among k reports) (sym (among_append k own reports) ∙ sym (ap (is_among k) (anchor_marked s w is)) ∙ mem)) [
       | inr told ↦ or_left (is_key s k) _ (report_key s id.name k (and_parts shows _ (sym (among_cond k shows (report_keys (forest_of s) id.name)) ∙ told)).1)
       | inl first ↦ elim (or_cases (is_among k (anchor_keys id)) (is_among k (leaving_keys (forest_of s) id.ns)) (sym (among_append k (anchor_keys id) (leaving_keys (forest_of s) id.ns)) ∙ first)) [
         | inl one ↦ own_keys s w may is k one
         | inr leaves ↦ or_left (is_key s k) _ (leaving_key s id.ns k leaves)
       ]
-    ])
-  where
-    not_plain : (b u : Bool) {v : Bool} → b ≡ false → v ≡ true → (if b then u else v) ≡ true
-    not_plain true u e h = absurd (true≢false e)
-    not_plain false u e h = h
+    ]) (ap (λ (q : Id). is_plain q.kind) (is_anchor_place id is))

@@ -16,7 +16,7 @@ use Rattle.hx_object.proofs.KindTests.{hierarchy_kind, namespace_kind}
 use Rattle.hx_model.specs.Covered.{IsCovered, IsSameFor}
 use Rattle.hx_model.specs.Forest.{is_in, parent_of}
 use Rattle.hx_model.specs.Hands.{Hand}
-use Rattle.hx_model.specs.Keys.{same_key, is_among, is_key, touches, may_mark}
+use Rattle.hx_model.specs.Keys.{same_key, is_among, is_key, may_mark}
 use Rattle.hx_model.specs.State.{State, object_at, state_after}
 use Rattle.hx_model.specs.Tree.{forest_of, is_terminating}
 use Rattle.hx_model.specs.Valid.{IsValid}
@@ -47,6 +47,7 @@ use Rattle.hx_marks.proofs.UsageCreated.{usage_of_created}
 use Rattle.hx_marks.proofs.UsageMoved.{usage_of_moved}
 use Rattle.hx_marks.proofs.UsageObjects.{usage_of_object, usage_within_object}
 use Rattle.hx_marks.proofs.UsageRemoved.{usage_of_removed}
+use Rattle.hx_marks.proofs.Within.{unplain_within}
 
 -- the marks of one write
 pub all_one : (s : State) (write : Write) → all_marks s (write ∷ []) ≡ marks_of s write
@@ -109,13 +110,13 @@ namespace_law s (Put x) valid may is (Some old) there k out = elim (cases_Bool (
 -- what is marked on account of what quotas tell are keys of the state
 namespace_usage_within : (s : State) (write : Write) → is_namespace (id_written write).kind ≡ true → (k : Key) → is_among k (usage_by s write) ≡ true → may_mark s (write ∷ []) k ≡ true
 namespace_usage_within s write is k mem =
-    ap (λ kind. if is_plain kind then touches s (id_written write) k else (is_key s k || is_key (state_after s (write ∷ [])) k)) (namespace_kind (id_written write).kind is)
-    ∙ or_left (is_key s k) (is_key (state_after s (write ∷ [])) k) (namespace_usage_key s k (id_written write) (object_at s.objects (id_written write)) (object_written write) is mem)
+    unplain_within s write k (or_left (is_key s k) (is_key (state_after s (write ∷ [])) k) (namespace_usage_key s k (id_written write) (object_at s.objects (id_written write)) (object_written write) is mem))
+    (ap is_plain (namespace_kind (id_written write).kind is))
 
 hierarchy_usage_within : (s : State) (write : Write) → is_hierarchy (id_written write).kind ≡ true → (k : Key) → is_among k (usage_by s write) ≡ true → may_mark s (write ∷ []) k ≡ true
 hierarchy_usage_within s write is k mem =
-    ap (λ kind. if is_plain kind then touches s (id_written write) k else (is_key s k || is_key (state_after s (write ∷ [])) k)) (hierarchy_kind (id_written write).kind is)
-    ∙ or_left (is_key s k) (is_key (state_after s (write ∷ [])) k) (hierarchy_usage_key s k (id_written write) (object_at s.objects (id_written write)) (object_written write) is mem)
+    unplain_within s write k (or_left (is_key s k) (is_key (state_after s (write ∷ [])) k) (hierarchy_usage_key s k (id_written write) (object_at s.objects (id_written write)) (object_written write) is mem))
+    (ap is_plain (hierarchy_kind (id_written write).kind is))
 
 -- a key that is marked is so either way
 either_within : (s : State) (write : Write) (k : Key) → (is_among k (marks_beside s write) ≡ true → may_mark s (write ∷ []) k ≡ true) → (is_among k (usage_by s write) ≡ true → may_mark s (write ∷ []) k ≡ true)

@@ -17,7 +17,7 @@ use Rattle.hx_object.proofs.KindTests.{namespace_kind}
 use Rattle.hx_model.specs.Cases.{is_leaving}
 use Rattle.hx_model.specs.Covered.{IsSameFor}
 use Rattle.hx_model.specs.Forest.{Forest, is_in, names_of, is_there, parent_of, chain_of, in_chain, subtree_of, is_child}
-use Rattle.hx_model.specs.Keys.{is_among, has_named, is_name, is_key, touches, may_mark}
+use Rattle.hx_model.specs.Keys.{is_among, has_named, is_name, is_key, may_mark}
 use Rattle.hx_model.specs.Modes.{config_id}
 use Rattle.hx_model.specs.Moves.{chain_from}
 use Rattle.hx_model.specs.Serving.{IsServed}
@@ -54,7 +54,7 @@ use Rattle.hx_marks.proofs.OneMoreWrites.{found_put, put_more}
 use Rattle.hx_marks.proofs.Parts.{UsedSame, marks_beside}
 use Rattle.hx_marks.proofs.Replacing.{valid_served}
 use Rattle.hx_marks.proofs.Wanting.{any_flat_map, wants_known, child_known, child_among, all_tree, all_wants, all_children, all_parts}
-use Rattle.hx_marks.proofs.Within.{wants_named, child_key}
+use Rattle.hx_marks.proofs.Within.{wants_named, child_key, unplain_within}
 
 module _ (s : State) (x : Object) (valid : IsValid s) (may : MayPut s x) (is : is_namespace x.id.kind ≡ true) (absent : object_at s.objects x.id ≡ None) where
   abbrev t : State
@@ -233,11 +233,7 @@ module _ (s : State) (x : Object) (valid : IsValid s) (may : MayPut s x) (is : i
   ]
 
   marked_within : (k : Key) → is_among k (marks_beside s (Put x)) ≡ true → may_mark s (Put x ∷ []) k ≡ true
-  marked_within k mem = not_plain (is_plain x.id.kind) (touches s x.id k) (ap is_plain (namespace_kind x.id.kind is)) (all_within k (ap (is_among k) (sym marks_are) ∙ mem))
-    where
-      not_plain : (b u : Bool) {v : Bool} → b ≡ false → v ≡ true → (if b then u else v) ≡ true
-      not_plain true u e h = absurd (true≢false e)
-      not_plain false u e h = h
+  marked_within k mem = unplain_within s (Put x) k (all_within k (ap (is_among k) (sym marks_are) ∙ mem)) (ap is_plain (namespace_kind x.id.kind is))
 
   put_law : (k : Key) → is_among k (marks_beside s (Put x)) ≡ false → UsedSame s t k → IsSameFor s t k
   put_law k out used =

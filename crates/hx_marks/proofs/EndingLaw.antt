@@ -58,7 +58,7 @@ use Rattle.hx_marks.proofs.Topmost.{topmost}
 use Rattle.hx_marks.proofs.UsageEndings.{begun_stays, ended_keeps, usage_of_ended}
 use Rattle.hx_marks.proofs.UsageKeys.{usage_is_key}
 use Rattle.hx_marks.proofs.Wanting.{wants_known, child_known, child_among, status_among, all_tree, all_wants, all_children}
-use Rattle.hx_marks.proofs.Within.{all_keys, status_key, removal_key, leaving_key}
+use Rattle.hx_marks.proofs.Within.{all_keys, status_key, removal_key, leaving_key, unplain_within}
 
 -- the statuses of the anchors in a namespace, its quotas, and its removal
 abbrev own_keys : State → List ℕ → List Key
@@ -377,11 +377,7 @@ ending_kind s (Cut id) ends = ap (λ (q : Id). is_plain q.kind) (is_anchor_place
 pub within_leaving : (s : State) (ws : List Write) → IsValid s → MayWriteAll s ws → AllByRecursion (IsLeavingWrite s) ws → (k : Key) → is_among k (all_marks s ws) ≡ true → may_mark s ws k ≡ true
 within_leaving s [] valid may ends k mem = absurd (true≢false (sym mem))
 within_leaving s (w ∷ []) valid may ends k mem =
-    not_plain (is_plain (id_written w).kind) _ (ending_kind s w ends.0) (or_left (is_key s k) (is_key (state_after s (w ∷ [])) k) (each_keys s (ending_names (w ∷ [])) (w ∷ []) valid may.each ends k mem))
-  where
-    not_plain : (b u : Bool) {v : Bool} → b ≡ false → v ≡ true → (if b then u else v) ≡ true
-    not_plain true u e h = absurd (true≢false e)
-    not_plain false u e h = h
+    unplain_within s w k (or_left (is_key s k) (is_key (state_after s (w ∷ [])) k) (each_keys s (ending_names (w ∷ [])) (w ∷ []) valid may.each ends k mem)) (ending_kind s w ends.0)
 within_leaving s (w ∷ v ∷ ws) valid may ends k mem = or_left (is_key s k) (is_key (state_after s (w ∷ v ∷ ws)) k) (each_keys s (ending_names (w ∷ v ∷ ws)) (w ∷ v ∷ ws) valid may.each ends k mem)
 
 -- ---- the writes of endings

@@ -5,7 +5,7 @@
 --     kept_node, kept_live     then one that is found alike has the node that it had, and is live as before
 --     node_before, node_then   the nodes of one that keeps its place
 --     kept_quieter             the names and the parents stay, and only fewer are live
-use Rattle.std.proofs.Common.{◌≡◌, ℕ, Bool, true, false, not, Some, option_map, List, [], ◌⊎◌, inl, inr, refl, sym, ap, ◌∙◌}
+use Rattle.std.proofs.Common.{◌≡◌, ℕ, Bool, true, false, not, Some, option_map, List, ◌⊎◌, inl, inr, refl, sym, ap, ◌∙◌}
 use Rattle.std.specs.Prelude.{is_some, option_and_then}
 use Rattle.std.specs.List.{AllByRecursion}
 use Rattle.std.specs.Option.{option_map_or}

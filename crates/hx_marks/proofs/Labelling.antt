@@ -17,7 +17,7 @@ use Rattle.hx_object.specs.declared.object.AnchorStatus.TheVariants.{Ok, Conflic
 use Rattle.hx_model.specs.Cases.{same_name, is_leaving}
 use Rattle.hx_model.specs.Covered.{IsSameFor}
 use Rattle.hx_model.specs.Forest.{Forest, node_of, is_there, is_live, chain_of, children_of, halt_of, is_in}
-use Rattle.hx_model.specs.Keys.{is_among, is_key, may_mark, has_named, touches}
+use Rattle.hx_model.specs.Keys.{is_among, is_key, may_mark, has_named}
 use Rattle.hx_model.specs.Modes.{mode_of}
 use Rattle.hx_model.specs.Moves.{is_calm}
 use Rattle.hx_model.specs.Propagation.{id_in, sources_above}
@@ -46,7 +46,7 @@ use Rattle.hx_marks.proofs.Replacing.{valid_served, uncopied, copied_leaf, no_na
 use Rattle.hx_marks.proofs.UsageKeys.{usage_is_key}
 use Rattle.hx_marks.proofs.UsageNamespaces.{usage_of_namespace}
 use Rattle.hx_marks.proofs.Wanting.{wants_known, all_wants, all_tree, all_children, child_among, status_among}
-use Rattle.hx_marks.proofs.Within.{all_keys, status_key, leaving_key}
+use Rattle.hx_marks.proofs.Within.{all_keys, status_key, leaving_key, unplain_within}
 use Rattle.hx_marks.specs.Law.{all_of, label_marks, namespace_marks, namespace_reports, hierarchy_reports, marks_of, begins_to_end, inner_marks, ending_marks, mode_marks, is_modes, status_keys, leaving_keys}
 use Rattle.hx_marks.specs.Usage.{usage_keys}
 
@@ -347,5 +347,5 @@ module _ (s : State) (x old : Object) (valid : IsValid s) (may : MayWriteAll s (
   -- those that are marked may be
   pub within_labels : is_among k (marks_of s (Put x)) ≡ true → may_mark s (Put x ∷ []) k ≡ true
   within_labels mem =
-      ap (λ kind. if is_plain kind then touches s x.id k else (is_key s k || is_key (state_after s (Put x ∷ [])) k)) (namespace_kind x.id.kind is)
-      ∙ or_left (is_key s k) (is_key (state_after s (Put x ∷ [])) k) (label_keys s x.id.name k (sym (ap (is_among k) (marks_are s x old is there stays)) ∙ mem))
+      unplain_within s (Put x) k (or_left (is_key s k) (is_key (state_after s (Put x ∷ [])) k) (label_keys s x.id.name k (sym (ap (is_among k) (marks_are s x old is there stays)) ∙ mem)))
+      (ap is_plain (namespace_kind x.id.kind is))

@@ -10,6 +10,7 @@ pub mod UsageNamespaces
 pub mod UsageEndings
 pub mod UsageObjects
 pub mod Settling
+pub mod Knowing
 pub mod Frames
 pub mod Reporting
 pub mod Going

@@ -1,8 +1,7 @@
 -- A write of the HNCConfiguration marks keys of the state alone.
 --     within_modes     a key that is marked is one that the write may make wait
-use Rattle.std.proofs.Common.{◌≡◌, ℕ, ◌==◌, Bool, true, false, cond, not, ◌&&◌, ◌||◌, Option, Some, None, List, [], ◌∷◌, ◌++◌, map, filter, refl, sym, ap, ◌∙◌, inl, inr, true≢false, eq-eqb, eqb-true}
-use Rattle.std.specs.Str.{bytes_eq}
-use Rattle.std.proofs.lemmas.Bool.{and_parts, and_from, or_cases, or_left}
+use Rattle.std.proofs.Common.{◌≡◌, ◌==◌, Bool, true, false, cond, not, ◌&&◌, ◌||◌, Option, Some, None, [], ◌∷◌, ◌++◌, map, filter, refl, sym, ap, ◌∙◌, inl, inr, true≢false, eqb-true}
+use Rattle.std.proofs.lemmas.Bool.{and_parts, or_cases, or_left}
 use Rattle.hx_object.specs.Kinds.{can_be_copied, is_namespace, is_hierarchy, is_plain, number_of}
 use Rattle.hx_object.specs.declared.kind.Kind.{Kind}
 use Rattle.hx_object.specs.declared.kind.Kind.TheVariants as of
@@ -10,34 +9,26 @@ use Rattle.hx_object.specs.declared.object.Id.{Id}
 use Rattle.hx_object.specs.declared.object.Mode.{Mode}
 use Rattle.hx_object.specs.declared.object.Object.{Object}
 use Rattle.hx_model.specs.Answers.{is_listed}
-use Rattle.hx_model.specs.Forest.{is_in, is_there}
-use Rattle.hx_model.specs.Keys.{same_key, is_among, is_name, is_key, touches, may_mark}
+use Rattle.hx_model.specs.Forest.{is_in}
+use Rattle.hx_model.specs.Keys.{same_key, is_among, is_key, may_mark}
 use Rattle.hx_model.specs.Limits.{is_copy}
 use Rattle.hx_model.specs.Modes.{mode_in}
 use Rattle.hx_model.specs.Moves.{copied_kinds}
-use Rattle.hx_model.specs.State.{State, ascends, object_at, state_after}
+use Rattle.hx_model.specs.State.{State, ascends, object_at}
 use Rattle.hx_model.specs.Tree.{forest_of}
 use Rattle.hx_model.specs.TreeLabels.{is_open}
 use Rattle.hx_model.specs.Valid.{IsValid}
 use Rattle.hx_model.specs.Writes.{id_written, MayWriteAll}
 use Rattle.hx_model.specs.declared.key.Key.{Key}
 use Rattle.hx_model.specs.declared.key.Write.{Write}
-use Rattle.hx_model.proofs.Climbing.{same_itself}
 use Rattle.hx_model.proofs.Objects.{same_kind}
 use Rattle.hx_model.proofs.Parents.{is_in_filter}
 use Rattle.hx_marks.specs.Law.{key_for, open_below, apart, differ, is_ignored, is_sent, copy_marks, source_marks, kind_marks, mode_marks, is_config_kind, is_modes, object_written}
-use Rattle.hx_marks.proofs.Among.{same_key_is, among_append, among_flat_map, among_map, among_cond, any_filter, passing_object, found_object, found_name, found_kind}
+use Rattle.hx_marks.proofs.Among.{same_key_is, among_append, among_flat_map, among_map, among_cond, any_filter, found_object, found_name, found_kind}
 use Rattle.hx_marks.proofs.OpenBelow.{open_is_there, open_below_has}
 use Rattle.hx_marks.proofs.Leaving.{marks_by_modes}
 use Rattle.hx_marks.proofs.Parts.{marks_beside}
-
--- the copies of an object in a namespace that takes part have a key
-copy_key : (s : State) (x : Object) (m : List ℕ) → object_at s.objects x.id ≡ Some x → can_be_copied x.id.kind ≡ true → is_open (forest_of s) m ≡ true → is_key s (key_for m x) ≡ true
-copy_key s x m at copied acts =
-    and_from (is_name s m) _ (or_left (is_there (forest_of s) m) _ (open_is_there (forest_of s) m acts))
-    (and_from (can_be_copied x.id.kind) _ copied
-    (passing_object (λ (y : Object). (number_of x.id.kind == number_of y.id.kind) && bytes_eq x.id.name y.id.name) s.objects x.id x at
-    (and_from (number_of x.id.kind == number_of x.id.kind) _ (eq-eqb (number_of x.id.kind) (number_of x.id.kind) refl) (same_itself x.id.name))))
+use Rattle.hx_marks.proofs.Within.{copy_key, unplain_within}
 
 only : (b : Bool) → (b || false) ≡ true → b ≡ true
 only true e = refl
@@ -48,7 +39,7 @@ module _ (s : State) (x : Object) (at : object_at s.objects x.id ≡ Some x) (co
   of_copy b c h =
       let acts = b && (c && is_open (forest_of s) x.id.ns) in
       let parts = and_parts acts (is_among k (key_for x.id.ns x ∷ [])) (sym (among_cond k acts (key_for x.id.ns x ∷ [])) ∙ h) in
-      ap (is_key s) (same_key_is k (key_for x.id.ns x) (only (same_key k (key_for x.id.ns x)) parts.1)) ∙ copy_key s x x.id.ns at copied (and_parts c (is_open (forest_of s) x.id.ns) (and_parts b _ parts.0).1).1
+      ap (is_key s) (same_key_is k (key_for x.id.ns x) (only (same_key k (key_for x.id.ns x)) parts.1)) ∙ copy_key s x x.id.ns at copied (open_is_there (forest_of s) x.id.ns (and_parts c (is_open (forest_of s) x.id.ns) (and_parts b _ parts.0).1).1)
 
   of_source : (b : Bool) → is_among k (cond b (map (λ m. key_for m x) (apart (open_below (forest_of s) x.id.ns) (x.id.ns ∷ []))) []) ≡ true → is_key s k ≡ true
   of_source b h =
@@ -56,7 +47,7 @@ module _ (s : State) (x : Object) (at : object_at s.objects x.id ≡ Some x) (co
       let parts = and_parts b (is_among k (map (λ m. key_for m x) places)) (sym (among_cond k b (map (λ m. key_for m x) places)) ∙ h) in
       let found = found_name (λ m. same_key k (key_for m x)) places (sym (among_map k (λ m. key_for m x) places) ∙ parts.1) in
       let below = (and_parts (is_in found.0 (open_below (forest_of s) x.id.ns)) _ (sym (is_in_filter (λ a. not (is_in a (x.id.ns ∷ []))) found.0 (open_below (forest_of s) x.id.ns)) ∙ found.1)).0 in
-      ap (is_key s) (same_key_is k (key_for found.0 x) found.2) ∙ copy_key s x found.0 at copied (open_below_has (forest_of s) x.id.ns found.0 below).0
+      ap (is_key s) (same_key_is k (key_for found.0 x) found.2) ∙ copy_key s x found.0 at copied (open_is_there (forest_of s) found.0 (open_below_has (forest_of s) x.id.ns found.0 below).0)
 
   of_object : (a b : Mode) → is_among k (copy_marks (forest_of s) a b x ++ source_marks (forest_of s) a b x) ≡ true → is_key s k ≡ true
   of_object a b h = elim (or_cases _ _ (sym (among_append k (copy_marks (forest_of s) a b x) (source_marks (forest_of s) a b x)) ∙ h)) [
@@ -93,5 +84,5 @@ config_not_plain id is = by id.kind (and_parts (is_config_kind id.kind) _ is).0
 pub within_modes : (s : State) (write : Write) → IsValid s → MayWriteAll s (write ∷ []) → is_namespace (id_written write).kind ≡ false → is_hierarchy (id_written write).kind ≡ false → is_modes (id_written write) ≡ true
     → (k : Key) → is_among k (marks_beside s write) ≡ true → may_mark s (write ∷ []) k ≡ true
 within_modes s write valid may namespace hierarchical modes k h =
-    ap (λ b. cond b (touches s (id_written write) k) (is_key s k || is_key (state_after s (write ∷ [])) k)) (config_not_plain (id_written write) modes)
-    ∙ or_left (is_key s k) _ (mode_keys s (object_at s.objects (id_written write)) (object_written write) k valid.in_order (ap (is_among k) (sym (marks_by_modes s write namespace hierarchical modes)) ∙ h))
+    let mem = ap (is_among k) (sym (marks_by_modes s write namespace hierarchical modes)) ∙ h in
+    unplain_within s write k (or_left (is_key s k) _ (mode_keys s (object_at s.objects (id_written write)) (object_written write) k valid.in_order mem)) (config_not_plain (id_written write) modes)

@@ -1,12 +1,11 @@
 -- A HierarchyConfiguration that is written marks keys of the state before it alone.
---     object_key         the key of an object's copies, in a namespace that is there
 --     all_sent_key       what marks its tree labels, and the places of what is sent
 --     within_moves       what is marked may be marked
-use Rattle.std.proofs.Common.{◌≡◌, ℕ, Bool, true, false, ◌&&◌, ◌||◌, ◌==◌, Option, Some, List, [], ◌∷◌, map, filter, flat_map, refl, sym, ap, ◌∙◌, inl, inr, true≢false, eq-eqb, eqb-true}
+use Rattle.std.proofs.Common.{◌≡◌, ℕ, Bool, true, false, ◌&&◌, ◌||◌, ◌==◌, Option, Some, List, [], ◌∷◌, map, filter, flat_map, sym, ap, ◌∙◌, inl, inr, true≢false, eqb-true}
 use Rattle.std.specs.Prelude.{if◌then◌else◌}
 use Rattle.std.specs.List.{list_any, list_all}
 use Rattle.std.specs.Str.{bytes_eq}
-use Rattle.std.proofs.lemmas.Bool.{and_parts, and_from, or_cases, or_left}
+use Rattle.std.proofs.lemmas.Bool.{and_parts, or_cases, or_left}
 use Rattle.hx_object.specs.Kinds.{can_be_copied, is_hierarchy, is_plain, number_of}
 use Rattle.hx_object.specs.declared.kind.Kind.{Kind}
 use Rattle.hx_object.specs.declared.kind.Kind.TheVariants.{SubnamespaceAnchor}
@@ -15,7 +14,7 @@ use Rattle.hx_object.proofs.KindTests.{hierarchy_kind}
 use Rattle.hx_model.specs.Answers.{is_listed}
 use Rattle.hx_model.specs.Cases.{same_name}
 use Rattle.hx_model.specs.Forest.{Forest, is_in, is_there, parent_of, chain_of, in_chain, names_of, subtree_of}
-use Rattle.hx_model.specs.Keys.{same_key, is_among, is_key, has_named, touches, may_mark}
+use Rattle.hx_model.specs.Keys.{same_key, is_among, is_key, has_named, may_mark}
 use Rattle.hx_model.specs.Moves.{up_to, is_calm, moved_chain_of, chain_from, mode_at, copied_kinds}
 use Rattle.hx_model.specs.State.{State, object_at, state_after}
 use Rattle.hx_model.specs.Tree.{hierarchy, forest_of}
@@ -25,30 +24,22 @@ use Rattle.hx_model.specs.Writes.{id_written, MayWriteAll}
 use Rattle.hx_model.specs.declared.key.Key.{Key}
 use Rattle.hx_model.specs.declared.key.Key.TheVariants as key
 use Rattle.hx_model.specs.declared.key.Write.{Write}
-use Rattle.hx_model.proofs.Climbing.{same_itself}
 use Rattle.hx_model.proofs.Objects.{same_kind}
 use Rattle.hx_model.proofs.Parents.{is_in_filter}
 use Rattle.hx_model.proofs.Walking.{names_have}
 use Rattle.hx_marks.specs.Law.{is_sent, listed_in, sent_from, key_for, all_of, live_below, in_one, all_sent, sent_marks, moved_by, move_marks, object_written, leaving_keys, hierarchy_reports}
-use Rattle.hx_marks.proofs.Among.{same_key_is, among_flat_map, among_map, any_filter, found_object, passing_object, found_name, found_kind}
+use Rattle.hx_marks.proofs.Among.{same_key_is, among_flat_map, among_map, any_filter, found_object, found_name, found_kind}
 use Rattle.hx_marks.proofs.MoveLaw.{hierarchy_among}
 use Rattle.hx_marks.proofs.MoveReports.{placed_known}
 use Rattle.hx_marks.proofs.Parts.{marks_beside}
 use Rattle.hx_marks.proofs.Wanting.{any_flat_map}
-use Rattle.hx_marks.proofs.Within.{all_keys, leaving_key}
+use Rattle.hx_marks.proofs.Within.{all_keys, copy_key, leaving_key, unplain_within}
 
 -- ---- keys of objects
 
 module _ (s : State) (m : List ℕ) (there : is_there (forest_of s) m ≡ true) where
   tree_key : (k : Key) → same_key k (key.Tree m) ≡ true → is_key s k ≡ true
   tree_key k same = ap (is_key s) (same_key_is k (key.Tree m) same) ∙ or_left (is_there (forest_of s) m) (has_named s.objects SubnamespaceAnchor m) there
-
-  pub object_key : (k : Key) (x : Object) → can_be_copied x.id.kind ≡ true → object_at s.objects x.id ≡ Some x → same_key k (key_for m x) ≡ true → is_key s k ≡ true
-  object_key k x copied at same =
-      ap (is_key s) (same_key_is k (key_for m x) same)
-      ∙ and_from (is_there (forest_of s) m || has_named s.objects SubnamespaceAnchor m) _ (or_left (is_there (forest_of s) m) (has_named s.objects SubnamespaceAnchor m) there)
-      (and_from (can_be_copied x.id.kind) (has_named s.objects x.id.kind x.id.name) copied
-      (passing_object (λ (y : Object). (number_of x.id.kind == number_of y.id.kind) && bytes_eq x.id.name y.id.name) s.objects x.id x at (and_from _ _ (eq-eqb (number_of x.id.kind) (number_of x.id.kind) refl) (same_itself x.id.name))))
 
   module _ (valid : IsValid s) (k : Key) where
     -- of objects that are listed
@@ -58,7 +49,7 @@ module _ (s : State) (m : List ℕ) (there : is_there (forest_of s) m ≡ true) 
         (sym (any_filter (λ x. t x && same_key k (key_for m x)) (is_listed kind (Some a)) s.objects) ∙ sym (any_filter (λ x. same_key k (key_for m x)) t (listed_in s.objects kind a)) ∙ h) in
         let parts = and_parts (is_listed kind (Some a) found.0) _ found.2 in
         let same : kind ≡ found.0.id.kind = same_kind kind found.0.id.kind (eqb-true _ _ (and_parts (number_of kind == number_of found.0.id.kind) _ parts.0).0) in
-        object_key k found.0 (sym (ap can_be_copied same) ∙ copied) found.1 (and_parts (t found.0) _ parts.1).1
+        ap (is_key s) (same_key_is k (key_for m found.0) (and_parts (t found.0) _ parts.1).1) ∙ copy_key s found.0 m found.1 (sym (ap can_be_copied same) ∙ copied) there
 
     sent_key : (kind : Kind) → can_be_copied kind ≡ true → (names : List (List ℕ)) → list_any (λ x. same_key k (key_for m x)) (sent_from s.objects kind names) ≡ true → is_key s k ≡ true
     sent_key kind copied names h =
@@ -112,14 +103,13 @@ told_key s t k n h =
 -- what is marked may be marked
 pub within_moves : (s : State) (write : Write) → IsValid s → MayWriteAll s (write ∷ []) → is_hierarchy (id_written write).kind ≡ true → (k : Key) → is_among k (marks_beside s write) ≡ true → may_mark s (write ∷ []) k ≡ true
 within_moves s write valid may is k marked =
-    ap (λ kind. if is_plain kind then touches s (id_written write) k else (is_key s k || is_key (state_after s (write ∷ [])) k)) (hierarchy_kind (id_written write).kind is)
-    ∙ or_left (is_key s k) (is_key (state_after s (write ∷ [])) k) (elim (or_cases (moves || leaves) told (sym (hierarchy_among s (state_after s (write ∷ [])) (id_written write) (object_at s.objects (id_written write)) (object_written write) is k) ∙ marked)) [
+    unplain_within s write k (or_left (is_key s k) (is_key (state_after s (write ∷ [])) k) (elim (or_cases (moves || leaves) told (sym (hierarchy_among s (state_after s (write ∷ [])) (id_written write) (object_at s.objects (id_written write)) (object_written write) is k) ∙ marked)) [
       | inl placed ↦ elim (or_cases moves leaves placed) [
         | inl moved ↦ moving (bytes_eq (id_written write).name hierarchy) moved
         | inr left ↦ leaving_key s (id_written write).ns k left
       ]
       | inr report ↦ telling (bytes_eq (id_written write).name hierarchy) report
-    ])
+    ])) (ap is_plain (hierarchy_kind (id_written write).kind is))
   where
     moves : Bool
     moves = is_among k (if bytes_eq (id_written write).name hierarchy then move_marks s (state_after s (write ∷ [])) (id_written write).ns else [])

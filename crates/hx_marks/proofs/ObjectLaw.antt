@@ -2,24 +2,24 @@
 --     marked_below, marked_place      a namespace below the object's that takes part is marked where it is sent, and its own always is
 --     marks_by_object                 what such a write marks
 --     object_law                      a key that isn't marked wants the same before and after the write
---     leaving_within                  the removal of its namespace is one that it may make wait
+--     copied_key                      the copies of what is written or removed have a key before or after it
+--     object_within, leaving_within   its copies in its subtree, and the removal of its namespace, are keys that it may make wait
 --     within_objects                  a key that is marked is one that the write may make wait
 use Rattle.std.proofs.Common.{◌≡◌, ℕ, ◌==◌, Bool, true, false, cond, not, ◌&&◌, ◌||◌, Option, Some, None, List, [], ◌∷◌, refl, sym, ap, ◌∙◌, inl, inr, true≢false, eq-eqb, ◌++◌}
 use Rattle.std.specs.Option.{option_map_or}
 use Rattle.std.specs.Str.{bytes_eq}
 use Rattle.std.proofs.lemmas.List.{append-nil}
-use Rattle.std.proofs.lemmas.Bool.{and_parts, and_from, or_parts, cases_Bool, not_from_false, false_from_ne_true, or_cases, or_left}
-use Rattle.hx_object.specs.Kinds.{can_be_copied, is_namespace, is_hierarchy, is_plain, number_of, is_anchor}
+use Rattle.std.proofs.lemmas.Bool.{and_parts, and_from, or_parts, cases_Bool, not_from_false, false_from_ne_true, or_cases, or_left, or_right}
+use Rattle.hx_object.specs.Kinds.{can_be_copied, is_namespace, is_hierarchy, number_of, is_anchor}
 use Rattle.hx_object.specs.declared.kind.Kind.{Kind}
-use Rattle.hx_object.specs.declared.kind.Kind.TheVariants as of
 use Rattle.hx_object.specs.declared.object.Id.{Id}
 use Rattle.hx_object.specs.declared.object.Mode.{Mode}
 use Rattle.hx_object.specs.declared.object.Object.{Object}
 use Rattle.hx_model.specs.Cases.{is_leaving}
 use Rattle.hx_model.specs.Covered.{IsSameFor}
 use Rattle.hx_model.specs.First.{so}
-use Rattle.hx_model.specs.Forest.{is_in, chain_of, in_chain, tail_of}
-use Rattle.hx_model.specs.Keys.{same_key, is_among, is_key, touches, may_mark}
+use Rattle.hx_model.specs.Forest.{is_in, is_there, chain_of, in_chain, tail_of}
+use Rattle.hx_model.specs.Keys.{same_key, is_among, is_key, is_key_of_either, touches, may_mark}
 use Rattle.hx_model.specs.Modes.{config_id, mode_in, mode_of}
 use Rattle.hx_model.specs.Moves.{mode_at}
 use Rattle.hx_model.specs.Propagation.{id_in}
@@ -28,14 +28,15 @@ use Rattle.hx_model.specs.Tree.{forest_of}
 use Rattle.hx_model.specs.TreeLabels.{is_open}
 use Rattle.hx_model.specs.Valid.{IsValid}
 use Rattle.hx_model.specs.Wanted.{copied_in}
-use Rattle.hx_model.specs.Writes.{id_written, MayWriteAll}
+use Rattle.hx_model.specs.Writes.{id_written, MayWrite, MayWriteAll}
 use Rattle.hx_model.specs.declared.key.Key.{Key}
 use Rattle.hx_model.specs.declared.key.Key.TheVariants as key
 use Rattle.hx_model.specs.declared.key.Write.{Write}
+use Rattle.hx_model.specs.declared.key.Write.TheVariants.{Put, Cut}
 use Rattle.hx_model.proofs.Climbing.{same_itself}
 use Rattle.hx_model.proofs.Conflicting.{tail_chain}
-use Rattle.hx_model.proofs.Objects.{is_same_id}
-use Rattle.hx_marks.specs.Law.{is_ignored, is_sent, open_below, is_any_sent, place_marks, object_marks, is_modes, object_written, anchor_marks, leaving_keys}
+use Rattle.hx_model.proofs.Objects.{is_same_id, found_id}
+use Rattle.hx_marks.specs.Law.{is_ignored, is_sent, key_for, open_below, is_any_sent, place_marks, object_marks, is_modes, object_written, anchor_marks, leaving_keys}
 use Rattle.hx_marks.proofs.Among.{same_key_is, same_key_itself, among_map, among_here, among_cond, passing_name, found_name, among_append, out_left, out_right}
 use Rattle.hx_marks.proofs.OpenBelow.{open_is_there, in_own_chain, in_open_below, open_below_has}
 use Rattle.hx_marks.proofs.Frames.{none_in_both, ignored_wants, uncopied_wants, same_tree, same_closed, same_copied, removal_beside}
@@ -43,7 +44,7 @@ use Rattle.hx_marks.proofs.Going.{unsent_stays, going, top_along}
 use Rattle.hx_marks.specs.Reports.{anchored_reports}
 use Rattle.hx_marks.proofs.Leaving.{Leaves, leaves, namespaces_stay, marks_by_kept, child_stays, anchored_stays, leaving_stay, report_stays}
 use Rattle.hx_marks.proofs.Parts.{UsedSame, marks_beside}
-use Rattle.hx_marks.proofs.Within.{leaving_key}
+use Rattle.hx_marks.proofs.Within.{copy_key, leaving_key, touched_within}
 
 -- ---- what is marked
 
@@ -159,47 +160,60 @@ object_law s write valid may namespace hierarchical modes other k out used =
 
 -- ---- and nothing else is marked
 
-copied_plain : (kind : Kind) → can_be_copied kind ≡ true → is_plain kind ≡ true
-copied_plain of.Namespace is = absurd (true≢false (sym is))
-copied_plain of.HncConfiguration is = absurd (true≢false (sym is))
-copied_plain of.HierarchyConfiguration is = absurd (true≢false (sym is))
-copied_plain of.SubnamespaceAnchor is = absurd (true≢false (sym is))
-copied_plain of.HierarchicalResourceQuota is = absurd (true≢false (sym is))
-copied_plain _ is = refl
+-- the copies of what is written or removed have a key before or after it, in a namespace that is there
+copied_key : (s : State) (write : Write) → MayWrite s write → Leaves s (state_after s (write ∷ [])) (id_written write) (object_written write) → can_be_copied (id_written write).kind ≡ true → (m : List ℕ) → is_there (forest_of s) m ≡ true
+    → is_key_of_either s (state_after s (write ∷ [])) (key.Copy m (id_written write).kind (id_written write).name) ≡ true
+copied_key s (Put x) may left copied m there =
+    let t = state_after s (Put x ∷ []) in
+    or_right (is_key s (key_for m x)) (is_key t (key_for m x)) (copy_key t x m left.here copied (ap (λ f. is_there f m) left.tree ∙ there))
+copied_key s (Cut id) may left copied m there =
+    let old = may.there.0 in
+    let is : id ≡ old.id = found_id s.objects id old may.there.1 in
+    let here = copy_key s old m (ap (object_at s.objects) (sym is) ∙ may.there.1) (ap (λ (q : Id). can_be_copied q.kind) (sym is) ∙ copied) there in
+    or_left (is_key s (key.Copy m id.kind id.name)) _ (ap (λ (q : Id). is_key s (key.Copy m q.kind q.name)) is ∙ here)
 
-touched : (s : State) (id : Id) (k : Key) (m : List ℕ) → same_key k (key.Copy m id.kind id.name) ≡ true → in_chain (forest_of s) m id.ns ≡ true → touches s id k ≡ true
-touched s id k m same has =
-    ap (touches s id) (same_key_is k (key.Copy m id.kind id.name) same)
-    ∙ and_from (number_of id.kind == number_of id.kind) _ (eq-eqb (number_of id.kind) (number_of id.kind) refl) (and_from (bytes_eq id.name id.name) (in_chain (forest_of s) m id.ns) (same_itself id.name) has)
+module _ (s : State) (write : Write) (may : MayWrite s write) (left : Leaves s (state_after s (write ∷ [])) (id_written write) (object_written write)) (k : Key) where
+  abbrev place : Id
+  place = id_written write
 
-place_touched : (s : State) (id : Id) (k : Key) (b : Bool) → is_among k (place_marks (forest_of s) b id) ≡ true → touches s id k ≡ true
-place_touched s id k true h =
-    let at = found_name (λ m. same_key k (key.Copy m id.kind id.name)) (open_below (forest_of s) id.ns) (sym (among_map k (λ m. key.Copy m id.kind id.name) (open_below (forest_of s) id.ns)) ∙ h) in
-    touched s id k at.0 at.2 (open_below_has (forest_of s) id.ns at.0 at.1).1
-place_touched s id k false h =
-    let parts = and_parts (is_open (forest_of s) id.ns) (is_among k (key.Copy id.ns id.kind id.name ∷ [])) (sym (among_cond k (is_open (forest_of s) id.ns) (key.Copy id.ns id.kind id.name ∷ [])) ∙ h) in
-    touched s id k id.ns (only (same_key k (key.Copy id.ns id.kind id.name)) parts.1) (in_own_chain (forest_of s) id.ns (open_is_there (forest_of s) id.ns parts.0))
-  where
-    only : (b : Bool) → (b || false) ≡ true → b ≡ true
-    only true e = refl
-    only false e = absurd (true≢false (sym e))
+  -- a copy in its subtree
+  copy_within : can_be_copied place.kind ≡ true → (m : List ℕ) → is_open (forest_of s) m ≡ true → in_chain (forest_of s) m place.ns ≡ true → same_key k (key.Copy m place.kind place.name) ≡ true → may_mark s (write ∷ []) k ≡ true
+  copy_within copied m acts above same =
+      let is = same_key_is k (key.Copy m place.kind place.name) same in
+      touched_within s write k (ap (is_key_of_either s (state_after s (write ∷ []))) is ∙ copied_key s write may left copied m (open_is_there (forest_of s) m acts))
+      (ap (touches s place) is
+      ∙ and_from (number_of place.kind == number_of place.kind) _ (eq-eqb (number_of place.kind) (number_of place.kind) refl) (and_from (bytes_eq place.name place.name) (in_chain (forest_of s) m place.ns) (same_itself place.name) above))
 
-object_within : (s : State) (id : Id) (old new : Option Object) (k : Key) → is_among k (object_marks s id old new) ≡ true → (is_plain id.kind ≡ true) × (touches s id k ≡ true)
-object_within s id old new k h =
-    let acts = can_be_copied id.kind && not (is_ignored (mode_at s.objects id.kind)) in
-    let sent = is_any_sent (mode_at s.objects id.kind) old new in
-    let parts = and_parts acts (is_among k (place_marks (forest_of s) sent id)) (sym (among_cond k acts (place_marks (forest_of s) sent id)) ∙ h) in
-    (copied_plain id.kind (and_parts (can_be_copied id.kind) _ parts.0).0, place_touched s id k sent parts.1)
+  place_within : can_be_copied place.kind ≡ true → (sent : Bool) → is_among k (place_marks (forest_of s) sent place) ≡ true → may_mark s (write ∷ []) k ≡ true
+  place_within copied true h =
+      let at = found_name (λ m. same_key k (key.Copy m place.kind place.name)) (open_below (forest_of s) place.ns) (sym (among_map k (λ m. key.Copy m place.kind place.name) (open_below (forest_of s) place.ns)) ∙ h) in
+      let below = open_below_has (forest_of s) place.ns at.0 at.1 in
+      copy_within copied at.0 below.0 below.1 at.2
+  place_within copied false h =
+      let own = key.Copy place.ns place.kind place.name in
+      let parts = and_parts (is_open (forest_of s) place.ns) (is_among k (own ∷ [])) (sym (among_cond k (is_open (forest_of s) place.ns) (own ∷ [])) ∙ h) in
+      copy_within copied place.ns parts.0 (in_own_chain (forest_of s) place.ns (open_is_there (forest_of s) place.ns parts.0)) (only (same_key k own) parts.1)
+    where
+      only : (b : Bool) → (b || false) ≡ true → b ≡ true
+      only true e = refl
+      only false e = absurd (true≢false (sym e))
+
+  object_within : (old : Option Object) → is_among k (object_marks s place old (object_written write)) ≡ true → may_mark s (write ∷ []) k ≡ true
+  object_within old h =
+      let acts = can_be_copied place.kind && not (is_ignored (mode_at s.objects place.kind)) in
+      let sent = is_any_sent (mode_at s.objects place.kind) old (object_written write) in
+      let parts = and_parts acts (is_among k (place_marks (forest_of s) sent place)) (sym (among_cond k acts (place_marks (forest_of s) sent place)) ∙ h) in
+      place_within (and_parts (can_be_copied place.kind) _ parts.0).0 sent parts.1
 
 -- the removal of the namespace that an object lies in, where it is on its way out
-pub leaving_within : (s : State) (id : Id) (k : Key) → is_among k (leaving_keys (forest_of s) id.ns) ≡ true → (is_key s k ≡ true) × (touches s id k ≡ true)
-leaving_within s id k h = (
-  leaving_key s id.ns k h,
-  elim (or_cases (same_key k (key.Purge id.ns)) false (and_parts (is_leaving (forest_of s) id.ns) _ (sym (among_cond k (is_leaving (forest_of s) id.ns) (key.Purge id.ns ∷ [])) ∙ h)).1) [
-    | inl same ↦ ap (touches s id) (same_key_is k (key.Purge id.ns) same) ∙ same_itself id.ns
-    | inr never ↦ absurd (true≢false (sym never))
-  ],
-)
+leaving_within : (s : State) (write : Write) (k : Key) → is_among k (leaving_keys (forest_of s) (id_written write).ns) ≡ true → may_mark s (write ∷ []) k ≡ true
+leaving_within s write k h =
+    let home = (id_written write).ns in
+    touched_within s write k (or_left (is_key s k) _ (leaving_key s home k h))
+    (elim (or_cases (same_key k (key.Purge home)) false (and_parts (is_leaving (forest_of s) home) _ (sym (among_cond k (is_leaving (forest_of s) home) (key.Purge home ∷ [])) ∙ h)).1) [
+      | inl same ↦ ap (touches s (id_written write)) (same_key_is k (key.Purge home) same) ∙ same_itself home
+      | inr never ↦ absurd (true≢false (sym never))
+    ])
 
 -- a key that is marked is one that the write may make wait
 pub within_objects : (s : State) (write : Write) → IsValid s → MayWriteAll s (write ∷ []) → is_namespace (id_written write).kind ≡ false → is_hierarchy (id_written write).kind ≡ false → is_modes (id_written write) ≡ false → is_anchor (id_written write).kind ≡ false
@@ -209,14 +223,6 @@ within_objects s write valid may namespace hierarchical modes other k h =
     let marks = object_marks s id (object_at s.objects id) (object_written write) in
     let keys = leaving_keys (forest_of s) id.ns in
     elim (or_cases (is_among k marks) (is_among k keys) (sym (among_append k marks keys) ∙ ap (is_among k) (sym (marks_by_object s write namespace hierarchical modes other)) ∙ h)) [
-      | inl object ↦
-          let within = object_within s id (object_at s.objects id) (object_written write) k object in
-          ap (λ b. cond b (touches s id k) (is_key s k || is_key (state_after s (write ∷ [])) k)) within.0 ∙ within.1
-      | inr leaves ↦
-          let within = leaving_within s id k leaves in
-          by (is_plain id.kind) within.1 (or_left (is_key s k) (is_key (state_after s (write ∷ [])) k) within.0)
+      | inl object ↦ object_within s write may.each.0 (leaves s write namespace hierarchical) k (object_at s.objects id) object
+      | inr leaving ↦ leaving_within s write k leaving
     ]
-  where
-    by : (plain : Bool) {a b : Bool} → a ≡ true → b ≡ true → cond plain a b ≡ true
-    by true one other = one
-    by false one other = other

@@ -13,7 +13,7 @@ use Rattle.hx_object.specs.declared.object.Object.{Object}
 use Rattle.hx_object.proofs.KindTests.{namespace_kind}
 use Rattle.hx_model.specs.Covered.{IsSameFor}
 use Rattle.hx_model.specs.Forest.{Forest, is_live, is_excluded, halt_of, in_chain}
-use Rattle.hx_model.specs.Keys.{same_key, is_among, is_key, touches, may_mark}
+use Rattle.hx_model.specs.Keys.{same_key, is_among, is_key, may_mark}
 use Rattle.hx_model.specs.Serving.{IsServed}
 use Rattle.hx_model.specs.State.{State, object_at, state_after, namespace_id}
 use Rattle.hx_model.specs.Subnamespaces.{anchor_id}
@@ -40,7 +40,7 @@ use Rattle.hx_marks.proofs.Parts.{UsedSame, marks_beside}
 use Rattle.hx_marks.proofs.RemovedReports.{report_gone, gone_within}
 use Rattle.hx_marks.proofs.Replacing.{valid_served}
 use Rattle.hx_marks.proofs.TakingPart.{open_under}
-use Rattle.hx_marks.proofs.Within.{removal_key}
+use Rattle.hx_marks.proofs.Within.{removal_key, unplain_within}
 
 ended_is : (o : Option Object) → IsSomeAnd o (λ x. is_terminating x.payload ≡ true) → (x : Object) × (o ≡ Some x) × (is_terminating x.payload ≡ true)
 ended_is None h = absurd h
@@ -146,11 +146,7 @@ module _ (s : State) (id : Id) (valid : IsValid s) (may : MayCut s id) (is : is_
   ]
 
   removed_within : (k : Key) → is_among k (marks_beside s (Cut id)) ≡ true → may_mark s (Cut id ∷ []) k ≡ true
-  removed_within k mem = not_plain (is_plain id.kind) (touches s id k) (ap is_plain (namespace_kind id.kind is)) (or_left (is_key s k) (is_key t k) (all_keys k (ap (is_among k) (sym marks_are) ∙ mem)))
-    where
-      not_plain : (b u : Bool) {v : Bool} → b ≡ false → v ≡ true → (if b then u else v) ≡ true
-      not_plain true u e h = absurd (true≢false e)
-      not_plain false u e h = h
+  removed_within k mem = unplain_within s (Cut id) k (or_left (is_key s k) (is_key t k) (all_keys k (ap (is_among k) (sym marks_are) ∙ mem))) (ap is_plain (namespace_kind id.kind is))
 
   cut_law : (k : Key) → is_among k (marks_beside s (Cut id)) ≡ false → UsedSame s t k → IsSameFor s t k
   cut_law k out used =

@@ -10,7 +10,7 @@
 --     quota_unplain            a quota isn't kept as it is given
 --     usage_elsewhere          an HNCConfiguration or an anchor marks none
 --     charged_marked           a quota above what is charged is marked, where it limits what changes
---     charged_touched          and no other is
+--     charged_touched          and no other is: each is a key of the state, which the write touches
 use Rattle.std.proofs.Common.{◌≡◌, ℕ, Bool, true, false, not, ◌&&◌, ◌||◌, Option, Some, None, List, [], ◌∷◌, ◌++◌, map, filter, take, drop, refl, sym, ap, ◌∙◌, true≢false, eqb-true, eq-eqb, nat_eq}
 use Rattle.std.specs.Prelude.{if◌then◌else◌}
 use Rattle.std.specs.List.{list_any}
@@ -22,10 +22,9 @@ use Rattle.hx_object.specs.declared.kind.Kind.TheVariants as of
 use Rattle.hx_object.specs.declared.kind.Kind.TheVariants.{HierarchicalResourceQuota}
 use Rattle.hx_object.specs.declared.object.Id.{Id}
 use Rattle.hx_object.specs.declared.object.Object.{Object}
-use Rattle.hx_model.specs.Answers.{is_listed}
 use Rattle.hx_model.specs.Charges.{all_resources, charge_of, charge_by, hard_of, resource_named}
 use Rattle.hx_model.specs.Forest.{Forest, in_chain, chain_of}
-use Rattle.hx_model.specs.Keys.{same_key, is_among, touches}
+use Rattle.hx_model.specs.Keys.{same_key, is_among, is_key, touches}
 use Rattle.hx_model.specs.Limits.{is_copy, part_of}
 use Rattle.hx_model.specs.Quotas.{charge_below, charge_before, quotas_in, quotas_for}
 use Rattle.hx_model.specs.State.{State, object_at}
@@ -40,11 +39,11 @@ use Rattle.hx_model.specs.declared.resource.Resource.{Resource}
 use Rattle.hx_model.specs.declared.resource.Resource.TheVariants.{Pods, RequestsCpu, RequestsMemory, LimitsCpu, LimitsMemory, RequestsStorage, CountRoles, CountRoleBindings, CountConfigMaps, CountSecrets, CountNetworkPolicies, CountLimitRanges, CountPods, CountServices, CountClaims}
 use Rattle.hx_model.proofs.Objects.{found_id}
 use Rattle.hx_marks.specs.Law.{object_written}
-use Rattle.hx_marks.specs.Usage.{usage_key, is_recharged, is_charged_anew, is_limit_of, counts_change, charged_usage, namespace_usage, hierarchy_usage, usage_marks}
-use Rattle.hx_marks.proofs.Among.{same_key_is, among_map, any_filter, passing_name, found_name}
-use Rattle.hx_marks.proofs.UsageKeys.{any_quota, quota_is, key_of_quota}
+use Rattle.hx_marks.specs.Usage.{usage_key, usage_keys, is_recharged, is_charged_anew, is_limit_of, counts_change, charged_usage, namespace_usage, hierarchy_usage, usage_marks}
+use Rattle.hx_marks.proofs.Among.{among_map, any_filter, passing_name, found_name}
+use Rattle.hx_marks.proofs.UsageKeys.{any_quota, key_of_quota, usage_listed}
 use Rattle.hx_marks.proofs.Wanting.{any_flat_map}
-use Rattle.hx_marks.proofs.Within.{any_witness}
+use Rattle.hx_marks.proofs.Within.{any_witness, any_more}
 
 -- ---- resources
 
@@ -172,19 +171,21 @@ charged_marked s id old new n name q inside at counts =
     ∙ passing_name (λ a. list_any test (quotas_in s.objects a)) n (chain_of (forest_of s) id.ns) inside
     (any_quota test s.objects n name q at (and_from (counts_change old new q) (same_key k (usage_key q)) counts (key_of_quota s.objects n name q at)))
 
--- a quota above what is charged is of a namespace of its chain
-pub charged_touched : (s : State) (id : Id) (old new : Option Object) (k : Key) → is_among k (charged_usage s id.ns old new) ≡ true → touches s id k ≡ true
+-- a quota above what is charged is there, in a namespace of its chain
+pub charged_touched : (s : State) (id : Id) (old new : Option Object) (k : Key) → is_among k (charged_usage s id.ns old new) ≡ true → (is_key s k ≡ true) × (touches s id k ≡ true)
 charged_touched s id old new k mem =
     let qs = quotas_for s id.ns in
     let test : Object → Bool = λ y. counts_change old new y && same_key k (usage_key y) in
     let among : list_any test qs ≡ true =
     sym (any_filter (λ y. same_key k (usage_key y)) (counts_change old new) qs) ∙ sym (among_map k usage_key (filter (counts_change old new) qs)) ∙ counted (is_charged_anew old new) mem in
     let home = found_name (λ a. list_any test (quotas_in s.objects a)) (chain_of (forest_of s) id.ns) (sym (any_flat_map test (quotas_in s.objects) (chain_of (forest_of s) id.ns)) ∙ among) in
-    let found = any_witness (λ y. is_listed HierarchicalResourceQuota (Some home.0) y && test y) s.objects (sym (any_filter test (is_listed HierarchicalResourceQuota (Some home.0)) s.objects) ∙ home.2) in
-    let parts = and_parts (is_listed HierarchicalResourceQuota (Some home.0) found.0) (test found.0) found.1 in
-    let same : k ≡ usage_key found.0 = same_key_is k (usage_key found.0) (and_parts (counts_change old new found.0) (same_key k (usage_key found.0)) parts.1).1 in
-    ap (touches s id) same ∙ ap (λ (q : Id). in_chain (forest_of s) id.ns q.ns) (sym (quota_is home.0 found.0 parts.0)) ∙ home.1
+    let same : list_any (λ y. same_key k (usage_key y)) (quotas_in s.objects home.0) ≡ true =
+    any_more test (λ y. same_key k (usage_key y)) (quotas_in s.objects home.0) (λ y passes. (and_parts (counts_change old new y) (same_key k (usage_key y)) passes).1) home.2 in
+    listed home.0 home.1 (among_map k usage_key (quotas_in s.objects home.0) ∙ same)
   where
+    listed : (n : List ℕ) → in_chain (forest_of s) id.ns n ≡ true → is_among k (usage_keys s.objects n) ≡ true → (is_key s k ≡ true) × (touches s id k ≡ true)
+    listed n above mem = let found = usage_listed s.objects n k mem in (ap (is_key s) found.1 ∙ found.2, ap (touches s id) found.1 ∙ above)
+
     counted : (b : Bool) → is_among k (if b then map usage_key (filter (counts_change old new) (quotas_for s id.ns)) else []) ≡ true → is_among k (map usage_key (filter (counts_change old new) (quotas_for s id.ns))) ≡ true
     counted true h = h
     counted false h = absurd (true≢false (sym h))

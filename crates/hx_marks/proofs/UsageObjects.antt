@@ -5,7 +5,7 @@ use Rattle.std.proofs.Common.{◌≡◌, ℕ, Bool, true, false, ◌||◌, Optio
 use Rattle.std.specs.Prelude.{is_some, if◌then◌else◌}
 use Rattle.std.specs.Option.{option_map_or}
 use Rattle.std.proofs.lemmas.Bool.{cases_Bool, or_cases, or_left, or_right, false_from_ne_true}
-use Rattle.hx_object.specs.Kinds.{is_namespace, is_hierarchy, is_quota, is_plain}
+use Rattle.hx_object.specs.Kinds.{is_namespace, is_hierarchy, is_quota}
 use Rattle.hx_object.specs.declared.kind.Kind.{Kind}
 use Rattle.hx_object.specs.declared.kind.Kind.TheVariants as of
 use Rattle.hx_object.specs.declared.kind.Kind.TheVariants.{HierarchicalResourceQuota}
@@ -15,7 +15,7 @@ use Rattle.hx_object.specs.declared.object.Object.{Object}
 use Rattle.hx_model.specs.Charges.{hard_of, resource_named}
 use Rattle.hx_model.specs.Covered.{IsSameFor}
 use Rattle.hx_model.specs.Forest.{Forest, in_chain, is_live}
-use Rattle.hx_model.specs.Keys.{same_key, is_among, is_key, touches, may_mark}
+use Rattle.hx_model.specs.Keys.{same_key, is_among, is_key, may_mark}
 use Rattle.hx_model.specs.Limits.{part_of}
 use Rattle.hx_model.specs.Quotas.{charge_below, charge_before, used}
 use Rattle.hx_model.specs.State.{State, object_at, same_id, ascends, state_after}
@@ -36,7 +36,8 @@ use Rattle.hx_marks.specs.Usage.{is_recharged, is_limit_of, counts_change, charg
 use Rattle.hx_marks.proofs.Among.{same_key_is, among_here}
 use Rattle.hx_marks.proofs.Leaving.{Leaves, leaves, namespaces_stay}
 use Rattle.hx_marks.proofs.UsageFrames.{kept_used, map_same_where, sums_stay}
-use Rattle.hx_marks.proofs.UsageCharges.{IsOf, found_is_of, written_is_of, uncharged, charged_below, same_charge, uncharged_usage, usage_of_kept, quota_unplain, charged_marked, charged_touched}
+use Rattle.hx_marks.proofs.UsageCharges.{IsOf, found_is_of, written_is_of, uncharged, charged_below, same_charge, usage_of_kept, quota_unplain, charged_marked, charged_touched}
+use Rattle.hx_marks.proofs.Within.{touched_within, unplain_within}
 
 -- ---- the law
 
@@ -153,19 +154,9 @@ module _ (s : State) (write : Write) (k : Key) where
   abbrev before : Option Object
   before = object_at s.objects place
 
-  abbrev either_key : Bool
-  either_key = is_key s k || is_key (state_after s (write ∷ [])) k
-
-  -- by the kind that is written
-  by_plain : (b : Bool) → is_plain place.kind ≡ b → (b ≡ true → touches s place k ≡ true) → (b ≡ false → either_key ≡ true) → may_mark s (write ∷ []) k ≡ true
-  by_plain true plain one other = ap (λ b. if b then touches s place k else either_key) plain ∙ one refl
-  by_plain false plain one other = ap (λ b. if b then touches s place k else either_key) plain ∙ other refl
-
   kept_within : MayWrite s write → (b : Bool) → is_quota place.kind ≡ b → is_among k (if b then key.Used place.ns place.name ∷ [] else charged_usage s place.ns before (object_written write)) ≡ true → may_mark s (write ∷ []) k ≡ true
-  kept_within may true quota h = by_plain false (quota_unplain place.kind quota) (λ e. absurd (true≢false (sym e))) (λ _. written_key s write k may quota h)
-  kept_within may false other h =
-      by_plain (is_plain place.kind) refl (λ plain. charged_touched s place before (object_written write) k h)
-      (λ unplain. absurd (true≢false (sym h ∙ ap (is_among k) (uncharged_usage s place before (object_written write) unplain (found_is_of s place) (written_is_of write)))))
+  kept_within may true quota h = unplain_within s write k (written_key s write k may quota h) (quota_unplain place.kind quota)
+  kept_within may false other h = let charged = charged_touched s place before (object_written write) k h in touched_within s write k (or_left (is_key s k) _ charged.0) charged.1
 
   -- one that is marked is one that the write may make wait
   pub usage_within_object : IsValid s → MayWriteAll s (write ∷ []) → is_namespace place.kind ≡ false → is_hierarchy place.kind ≡ false → is_among k (usage_marks s place before (object_written write)) ≡ true → may_mark s (write ∷ []) k ≡ true

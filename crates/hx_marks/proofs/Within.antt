@@ -4,8 +4,11 @@
 --     found_some         what passes a test among objects is found under its identity
 --     child_key, status_key     so is each of an anchor that is there
 --     leaving_key        and that of the removal of a namespace that is on its way out
+--     copy_key           the copies of an object have a key in each namespace that is there
 --     all_keys           each key of a namespace that is there is one of the state
-use Rattle.std.proofs.Common.{◌≡◌, ℕ, Bool, true, false, cond, ◌&&◌, ◌==◌, Option, None, List, [], ◌∷◌, ◌++◌, map, filter, inl, inr, refl, sym, ap, ◌∙◌, subst, true≢false, eqb-true, Some}
+--     touched_within     a key of the states before and after a write may wait, where the write touches it
+--     unplain_within     so may each, where the write is of no kind that is kept as it is given
+use Rattle.std.proofs.Common.{◌≡◌, ℕ, Bool, true, false, cond, ◌&&◌, ◌==◌, Option, None, List, [], ◌∷◌, ◌++◌, map, filter, inl, inr, refl, sym, ap, ◌∙◌, subst, true≢false, eqb-true, eq-eqb, Some}
 use Rattle.std.specs.Prelude.{is_some, if◌then◌else◌}
 use Rattle.std.specs.List.{list_any}
 use Rattle.std.specs.Cmp.{tied_itself}
@@ -13,7 +16,7 @@ use Rattle.std.specs.Option.{option_map_or}
 use Rattle.std.specs.Str.{bytes_eq}
 use Rattle.std.proofs.lemmas.Bool.{and_parts, and_from, or_cases, or_left, or_right}
 use Rattle.std.proofs.lemmas.List.Folds.{list_any-append}
-use Rattle.hx_object.specs.Kinds.{number_of, can_be_copied}
+use Rattle.hx_object.specs.Kinds.{number_of, can_be_copied, is_plain}
 use Rattle.hx_object.specs.declared.kind.Kind.{Kind}
 use Rattle.hx_object.specs.declared.kind.Kind.TheVariants.{SubnamespaceAnchor}
 use Rattle.hx_object.specs.declared.object.Id.{Id}
@@ -22,18 +25,20 @@ use Rattle.hx_object.proofs.Identities.{number_of-one}
 use Rattle.hx_model.specs.Answers.{is_listed}
 use Rattle.hx_model.specs.Cases.{is_leaving}
 use Rattle.hx_model.specs.Forest.{Forest, node_of, is_there, tail_of}
-use Rattle.hx_model.specs.Keys.{same_key, is_among, has_named, is_name, is_key}
+use Rattle.hx_model.specs.Keys.{same_key, is_among, has_named, is_name, is_key, is_key_of_either, touches, may_mark}
 use Rattle.hx_model.specs.Limits.{is_copy}
 use Rattle.hx_model.specs.Moves.{mode_at, copied_kinds}
-use Rattle.hx_model.specs.State.{State, Objects, object_at, same_id}
+use Rattle.hx_model.specs.State.{State, Objects, object_at, same_id, state_after}
 use Rattle.hx_model.specs.Subnamespaces.{anchor_id}
 use Rattle.hx_model.specs.Tree.{forest_of}
+use Rattle.hx_model.specs.Writes.{id_written}
 use Rattle.hx_model.specs.declared.key.Key.{Key}
 use Rattle.hx_model.specs.declared.key.Key.TheVariants as key
+use Rattle.hx_model.specs.declared.key.Write.{Write}
 use Rattle.hx_model.specs.declared.node.Node.{Node}
 use Rattle.hx_model.proofs.Climbing.{is_same, same_itself}
 use Rattle.hx_model.proofs.Objects.{id_total, same_from_Equal}
-use Rattle.hx_marks.proofs.Among.{same_key_is, among_cond, among_map, among_flat_map, any_filter, found_name, found_kind}
+use Rattle.hx_marks.proofs.Among.{same_key_is, among_cond, among_map, among_flat_map, any_filter, passing_object, found_name, found_kind}
 use Rattle.hx_marks.proofs.Wanting.{any_flat_map, all_parts}
 use Rattle.hx_marks.specs.Law.{is_ignored, is_sent, listed_in, sent_from, key_for, wants_of_kind, wants_of, child_keys, status_keys, leaving_keys, all_of}
 
@@ -178,6 +183,14 @@ leaving_key s n k mem =
     let parts = and_parts (is_leaving (forest_of s) n) _ (sym (among_cond k (is_leaving (forest_of s) n) (key.Purge n ∷ [])) ∙ mem) in
     removal_key s n k (leaving_there (forest_of s) n parts.0) parts.1
 
+-- the copies of an object, in a namespace that is there
+pub copy_key : (s : State) (x : Object) (m : List ℕ) → object_at s.objects x.id ≡ Some x → can_be_copied x.id.kind ≡ true → is_there (forest_of s) m ≡ true → is_key s (key_for m x) ≡ true
+copy_key s x m at copied there =
+    and_from (is_name s m) _ (or_left (is_there (forest_of s) m) _ there)
+    (and_from (can_be_copied x.id.kind) _ copied
+    (passing_object (λ (y : Object). (number_of x.id.kind == number_of y.id.kind) && bytes_eq x.id.name y.id.name) s.objects x.id x at
+    (and_from (number_of x.id.kind == number_of x.id.kind) _ (eq-eqb (number_of x.id.kind) (number_of x.id.kind) refl) (same_itself x.id.name))))
+
 -- the keys of a name of the state
 pub all_keys : (s : State) (chain : List (List ℕ)) (m : List ℕ) (k : Key) → is_name s m ≡ true → is_among k (all_of s.objects chain m) ≡ true → is_key s k ≡ true
 all_keys s chain m k name mem = elim (all_parts s.objects chain m k mem) [
@@ -187,3 +200,18 @@ all_keys s chain m k name mem = elim (all_parts s.objects chain m k mem) [
       ap (is_key s) found.2 ∙ and_from (is_name s m) (can_be_copied found.0 && has_named s.objects found.0 found.1) name (and_from (can_be_copied found.0) (has_named s.objects found.0 found.1) found.3 found.4)
   | inr (inr child) ↦ child_key s m k child
 ]
+
+-- ---- what a write may make wait
+
+module _ (s : State) (write : Write) (k : Key) (either : is_key_of_either s (state_after s (write ∷ [])) k ≡ true) where
+  -- a key that the write touches
+  pub touched_within : touches s (id_written write) k ≡ true → may_mark s (write ∷ []) k ≡ true
+  touched_within touched = and_from (is_key_of_either s (state_after s (write ∷ [])) k) _ either (by (is_plain (id_written write).kind))
+    where
+      by : (plain : Bool) → (if plain then touches s (id_written write) k else true) ≡ true
+      by true = touched
+      by false = refl
+
+  -- each key, where what is written isn't kept as it is given
+  pub unplain_within : is_plain (id_written write).kind ≡ false → may_mark s (write ∷ []) k ≡ true
+  unplain_within unplain = and_from (is_key_of_either s (state_after s (write ∷ [])) k) _ either (ap (λ plain. if plain then touches s (id_written write) k else true) unplain)

@@ -9,3 +9,4 @@ pub mod Reads
 pub mod Owners
 pub mod Moving
 pub mod Spread
+pub mod Settling

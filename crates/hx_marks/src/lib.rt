@@ -8,6 +8,7 @@ mod below;
 mod current;
 mod endings;
 mod kinds;
+mod law;
 mod lookups;
 mod modes;
 mod moves;
@@ -21,6 +22,7 @@ mod wants;
 mod writes;
 
 pub use below::open_below;
+pub use law::{law_of_keys, law_of_settled};
 pub use spread::{SpreadMarks, keeps_tree, spread_marks};
 pub use wants::keys_of;
 pub use writes::marks;
