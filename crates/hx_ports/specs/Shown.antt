@@ -9,7 +9,6 @@
 --     kept_by                    the keeper that holds the rows
 --     last_read_fault, last_write_fault      why the last read or write failed that did
 use Rattle.std.specs.Prelude.{ℕ, ◌-◌, Bool, List, vec_len, vec_capacity, Option, option_map, string_bytes}
-use Rattle.std.specs.declared.io.ErrorKind.{ErrorKind}
 use Rattle.hx_ports.specs.declared.mem.FailCommit.{FailCommit}
 use Rattle.hx_ports.specs.declared.mem.MemKeeper.{MemKeeper}
 use Rattle.hx_ports.specs.declared.mem.MemSink.{MemSink}
@@ -18,6 +17,7 @@ use Rattle.hx_ports.specs.declared.mem.Plan.{Plan}
 use Rattle.hx_ports.specs.declared.keeper.Meta.{Meta}
 use Rattle.hx_ports.specs.declared.std_stream.StdSink.{StdSink}
 use Rattle.hx_ports.specs.declared.std_stream.StdSource.{StdSource}
+use Rattle.hx_ports.specs.declared.std_stream.StreamFault.{StreamFault}
 use Rattle.hx_ports.specs.declared.sure_keeper.SureKeeper.{SureKeeper}
 use Rattle.hx_ports.specs.declared.sure.SureSink.{SureSink}
 use Rattle.hx_ports.specs.declared.sure.SureSource.{SureSource}
@@ -81,9 +81,9 @@ abbrev pub kept_by : MemKeeper → SureKeeper
 kept_by k = k.keeper
 
 -- why the last read failed that did
-abbrev pub last_read_fault : {R : Type 0} → StdSource R → Option ErrorKind
+abbrev pub last_read_fault : {R : Type 0} → StdSource R → Option StreamFault
 last_read_fault s = s.last_fault
 
 -- why the last write failed that did
-abbrev pub last_write_fault : {W : Type 0} → StdSink W → Option ErrorKind
+abbrev pub last_write_fault : {W : Type 0} → StdSink W → Option StreamFault
 last_write_fault s = s.last_fault

@@ -20,7 +20,7 @@ use crate::keeper::Row;
 use crate::row_keys::{MOST, is_key_of, key_front, row_key};
 use arrayvec::ArrayVec;
 use hx_json::write_object;
-use hx_object::{Id, List, NoMemory, Shared};
+use hx_object::{Id, List, NoMemory, Shared, Text};
 use indexmap::Equivalent;
 use std::alloc::Global;
 use std::cmp::Ordering;
@@ -82,7 +82,7 @@ impl HeldRow {
         let row = Row {
             key: List::of(Vec::new(alloc)),
             version: 0,
-            body: List::of(Vec::new(alloc)),
+            body: Text::default(),
         };
         Ok(Box::new(alloc, row)?)
     }
@@ -159,7 +159,7 @@ fn row_of(alloc: Global, object: &Shared) -> Result<Row, NoMemory>
     Ok(Row {
         key: row_key(alloc, &object.id)?,
         version: object.version,
-        body: body.into_bytes(alloc)?,
+        body,
     })
 }
 

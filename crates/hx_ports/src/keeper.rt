@@ -4,7 +4,7 @@ ghost use Rattle.hx_ports.specs.Causes.{KeeperCause};
 ghost use Rattle.hx_ports.specs.Keeping.{meta_of, row_after, IsBatch, MayFollow, Lands};
 ghost use Rattle.hx_ports.specs.Views.{KeeperView, HoldsOn};
 
-use hx_object::{Id, List, NoMemory, Shared};
+use hx_object::{Id, List, NoMemory, Shared, Text};
 
 /// Why a keeper refused a call.
 #[derive(Clone, Copy, Debug, PartialEq, Eq)]
@@ -24,12 +24,12 @@ impl From<NoMemory> for KeepFault {
     }
 }
 
-/// A stored object: its key, its version and its text. Key and body are UTF-8, and a version is at most 2^63 - 1.
+/// A stored object: its key, its version and its text. A key is UTF-8, and a version is at most 2^63 - 1.
 #[derive(Drop)]
 pub struct Row {
     pub key: List<u8>,
     pub version: u64,
-    pub body: List<u8>,
+    pub body: Text,
 }
 
 /// What a keeper says of itself: the schema of its rows, its last version and the number of its rows.

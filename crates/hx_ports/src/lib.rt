@@ -19,7 +19,7 @@ mod sure_keeper;
 pub use keeper::{Batch, KeepFault, Keeper, Meta, Row};
 pub use mem::{FailCommit, MemKeeper, MemSink, MemSource};
 pub use row_keys::row_key;
-pub use std_stream::{StdSink, StdSource};
+pub use std_stream::{StdSink, StdSource, StreamFault};
 pub use stream::{ReadFault, Sink, Source, WriteFault};
 pub use sure::{SureSink, SureSource};
 pub use sure_keeper::SureKeeper;

@@ -1,18 +1,49 @@
 // Adapters over any reader and writer.
-ghost use Rattle.std.specs.Prelude.{◌≡◌, None, OnOk, OnErr, IsSome};
+ghost use Rattle.std.specs.Prelude.{◌≡◌, ◌↔◌, ◌⊎◌, pos, None, Some, OnOk, OnErr, IsSome};
 ghost use Rattle.std.specs.Io.{ReadsAtMost};
 ghost use Rattle.std.specs.Io.KnownBytes.{ReadConsumes, WriteAppends};
+ghost use Rattle.std.specs.IoError.{error_kind, raw_os_error};
 ghost use Rattle.hx_ports.specs.Causes.{HasCause, StallCause, WritesAtMost};
 
 use crate::stream::{ReadFault, Sink, Source, WriteFault};
-use std::io;
 use std::io::{ErrorKind, Read, Write};
+use std::{fmt, io};
+
+/// Why a read or a write failed.
+#[derive(Clone, Copy)]
+pub enum StreamFault {
+    /// The stream isn't open, as where the program was started with it closed: error 9 (`EBADF`) of the system, which is of no kind.
+    NotOpen,
+    /// An error of this kind.
+    Failed(ErrorKind),
+}
+
+impl StreamFault {
+    fn of(error: io::Error) -> StreamFault
+        ensures open { (result ≡ StreamFault.NotOpen) ↔ (raw_os_error error ≡ Some (pos 9)) }
+        ensures kind { (result ≡ StreamFault.NotOpen) ⊎ (result ≡ StreamFault.Failed (error_kind error)) }
+    {
+        match error.raw_os_error() {
+            Some(9) => StreamFault::NotOpen,
+            _ => StreamFault::Failed(error.kind()),
+        }
+    }
+}
+
+impl fmt::Display for StreamFault {
+    fn fmt<W: fmt::Write>(&self, f: &mut fmt::Formatter<W>) -> fmt::Result {
+        match self {
+            StreamFault::NotOpen => f.write_str("the stream is not open"),
+            StreamFault::Failed(kind) => write!(f, "{kind:?}"),
+        }
+    }
+}
 
 /// A reader, with the count of its failures. A read that was interrupted is made again.
 pub struct StdSource<R: Read> {
     inner: R,
     faults: u64,
-    last_fault: Option<ErrorKind>,
+    last_fault: Option<StreamFault>,
 }
 
 impl<R: Read + Drop> Drop for StdSource<R> {
@@ -46,7 +77,7 @@ impl<R: Read> StdSource<R> {
     }
 
     /// Why the last read failed that did.
-    pub fn last_fault(&self) -> Option<ErrorKind>
+    pub fn last_fault(&self) -> Option<StreamFault>
         ensures { result ≡ last_read_fault self.now }
     {
         self.last_fault
@@ -69,7 +100,7 @@ impl<R: Read> Source for StdSource<R> {
             Ok(count) => Ok(count),
             Err(error) => {
                 self.faults = self.faults.saturating_add(1);
-                self.last_fault = Some(error.kind());
+                self.last_fault = Some(StreamFault::of(error));
                 Err(ReadFault)
             }
         }
@@ -99,7 +130,7 @@ pub struct StdSink<W: Write> {
     inner: W,
     faults: u64,
     stalls: u64,
-    last_fault: Option<ErrorKind>,
+    last_fault: Option<StreamFault>,
 }
 
 impl<W: Write + Drop> Drop for StdSink<W> {
@@ -141,7 +172,7 @@ impl<W: Write> StdSink<W> {
     }
 
     /// Why the last write failed that did.
-    pub fn last_fault(&self) -> Option<ErrorKind>
+    pub fn last_fault(&self) -> Option<StreamFault>
         ensures { result ≡ last_write_fault self.now }
     {
         self.last_fault
@@ -170,7 +201,7 @@ impl<W: Write> Sink for StdSink<W> {
             }
             Err(error) => {
                 self.faults = self.faults.saturating_add(1);
-                self.last_fault = Some(error.kind());
+                self.last_fault = Some(StreamFault::of(error));
                 Err(WriteFault)
             }
         }

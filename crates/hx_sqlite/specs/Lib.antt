@@ -1,3 +1,5 @@
+pub mod Alone
 pub mod Paths
 pub mod Refusals
+pub mod Seats
 pub mod Shown

@@ -132,6 +132,16 @@ impl<S: Alter + Drop> Database<S> {
             },
         )
     }
+
+    /// The connection, without the statements.
+    pub fn into_connection(self) -> Connection<S> {
+        let Database {
+            connection,
+            reads: _,
+            writes: _,
+        } = self;
+        connection
+    }
 }
 
 /// What is asked of a database, whatever its store: `may` says what has to hold of it, and `tells` what holds of the answer.
@@ -170,7 +180,7 @@ pub struct AskRow<'a> {
 impl Ask<Option<Row>> for AskRow<'_> {
     ghost may = { λ _. ⊤ };
 
-    ghost tells = { λ row. IfSome row (λ r. IsUtf8 r.key × IsUtf8 r.body) };
+    ghost tells = { λ row. IfSome row (λ r. IsUtf8 r.key) };
 
     fn of<S: Alter>(self, database: &mut Database<S>) -> Result<Option<Row>, Refusal> {
         let after = [ValueRef::Text(self.after)];
@@ -340,7 +350,7 @@ fn meta_in(found: &Result<sqlite::Row, Error>, rows: u64) -> Result<Meta, Refusa
 }
 
 fn row_in(alloc: Global, found: &Result<sqlite::Row, Error>) -> Result<Option<Row>, Refusal>
-    ensures { IfOk result (λ row. IfSome row (λ r. IsUtf8 r.key × IsUtf8 r.body)) }
+    ensures { IfOk result (λ row. IfSome row (λ r. IsUtf8 r.key)) }
 {
     match found {
         Ok(row) => Ok(Some(row_of(alloc, row)?)),
@@ -352,24 +362,31 @@ fn row_in(alloc: Global, found: &Result<sqlite::Row, Error>) -> Result<Option<Ro
 fn row_of(alloc: Global, found: &sqlite::Row) -> Result<Row, Refusal>
     ensures key { IfOk result (λ row. (column_of found.now 0 ≡ Words row.key) × IsUtf8 row.key) }
     ensures version { IfOk result (λ row. (n : ℤ) × (column_of found.now 1 ≡ Int n) × (row.version ≡ cast_unsigned w64 n)) }
-    ensures body { IfOk result (λ row. (column_of found.now 2 ≡ Words row.body) × IsUtf8 row.body) }
+    ensures body { IfOk result (λ row. column_of found.now 2 ≡ Words row.body) }
 {
     Ok(Row {
-        key: text_at(alloc, found, 0)?,
+        key: text_at(alloc, found, 0)?.into_bytes(alloc)?,
         version: number_at(found, 1)?,
         body: text_at(alloc, found, 2)?,
     })
 }
 
 /// A copy of a column's text.
-fn text_at(alloc: Global, row: &sqlite::Row, column: usize) -> Result<List<u8>, Refusal>
-    ensures { IfOk result (λ text. (column_of row.now column ≡ Words text) × IsUtf8 text) }
+fn text_at(alloc: Global, row: &sqlite::Row, column: usize) -> Result<Text, Refusal>
+    ensures { IfOk result (λ text. column_of row.now column ≡ Words text) }
 {
     match row.get_ref(column)? {
-        ValueRef::Text(text) if std::str::from_utf8(text).is_ok() => Ok(List::of(Vec::from_slice(
-            alloc, text,
-        )?)),
+        ValueRef::Text(text) => text_of(alloc, text),
         _ => Err(Refusal::Fault(SqlFault::Unreadable)),
+    }
+}
+
+fn text_of(alloc: Global, bytes: &[u8]) -> Result<Text, Refusal>
+    ensures { IfOk result (λ text. text ≡ bytes.now) }
+{
+    match std::str::from_utf8(bytes) {
+        Ok(text) => Ok(Text::of(alloc, text)?),
+        Err(_) => Err(Refusal::Fault(SqlFault::Unreadable)),
     }
 }
 

@@ -1,6 +1,6 @@
 // Why a database refuses a call.
 ghost use Rattle.std.specs.Prelude.{◌≡◌};
-ghost use Rattle.hx_sqlite.specs.Refusals.{fault_of, refusal_of, TellsOfOpening};
+ghost use Rattle.hx_sqlite.specs.Refusals.{fault_of, refusal_of, refusal_of_kind, TellsOfOpening};
 ghost use Rattle.hx_sqlite.specs.declared.fault.Refusal.TheVariants as given;
 
 use hx_object::NoMemory;
@@ -17,7 +17,13 @@ pub enum SqlFault {
     NotADatabase,
     /// Another process, or another keeper of this one, has the file open.
     Busy,
-    /// The file can't be opened, or can't be made.
+    /// The file or its log isn't a regular file with one name.
+    NotAlone,
+    /// The file, its log or their folder may not be read and written.
+    Denied,
+    /// The folder of the file isn't there.
+    NoFolder,
+    /// The file can't be opened, or can't be made, for another reason.
     CannotOpen,
     /// SQLite was stopped in a transaction and left a rollback journal beside the file.
     HotJournal,
@@ -64,6 +70,11 @@ impl fmt::Display for SqlFault {
             SqlFault::NotADatabase =>
                 "the file is not an SQLite database whose rows obey its schema",
             SqlFault::Busy => "the database is open in another process",
+            SqlFault::NotAlone =>
+                "the file or its log is not a regular file with one name: remove its other hard links, or open a copy of it",
+            SqlFault::Denied =>
+                "the file, its log or their folder may not be read and written by this user",
+            SqlFault::NoFolder => "the folder of the file is not there",
             SqlFault::CannotOpen => "the file can't be opened or made",
             SqlFault::HotJournal =>
                 "SQLite left a rollback journal beside the file: open it with sqlite3 first",
@@ -90,6 +101,24 @@ impl std::error::Error for SqlFault {}
 pub enum Refusal {
     NoMemory,
     Fault(SqlFault),
+}
+
+impl Refusal {
+    /// What the system refuses where a file is opened or made.
+    fn of_kind(kind: ErrorKind) -> Refusal
+        ensures { result ≡ refusal_of_kind kind }
+    {
+        match kind {
+            ErrorKind::OutOfMemory => Refusal::NoMemory,
+            ErrorKind::StorageFull => Refusal::Fault(SqlFault::Full),
+            ErrorKind::Unsupported => Refusal::Fault(SqlFault::NotAlone),
+            ErrorKind::PermissionDenied => Refusal::Fault(SqlFault::Denied),
+            ErrorKind::ReadOnlyFilesystem => Refusal::Fault(SqlFault::Denied),
+            ErrorKind::NotFound => Refusal::Fault(SqlFault::NoFolder),
+            ErrorKind::NotADirectory => Refusal::Fault(SqlFault::NoFolder),
+            _ => Refusal::Fault(SqlFault::CannotOpen),
+        }
+    }
 }
 
 impl From<AllocError> for Refusal {
@@ -128,11 +157,7 @@ impl From<OpenError> for Refusal {
     fn from(error: OpenError) -> Refusal {
         match error {
             OpenError::OutOfMemory => Refusal::NoMemory,
-            OpenError::Io(error) if error.kind() == ErrorKind::OutOfMemory => Refusal::NoMemory,
-            OpenError::Io(error) if error.kind() == ErrorKind::StorageFull => Refusal::Fault(
-                SqlFault::Full,
-            ),
-            OpenError::Io(_) => Refusal::Fault(SqlFault::CannotOpen),
+            OpenError::Io(error) => Refusal::of_kind(error.kind()),
             OpenError::Busy => Refusal::Fault(SqlFault::Busy),
             OpenError::HotJournal => Refusal::Fault(SqlFault::HotJournal),
         }

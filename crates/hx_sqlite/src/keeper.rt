@@ -1,10 +1,11 @@
 // A keeper of rows in an SQLite database.
-ghost use Rattle.std.specs.Prelude.{◌≡◌, ◌≤◌, true, false, None, Some, OnOk, OnErr, IfOk, IfSome, IsErrOf, IsSome, IsUtf8};
+ghost use Rattle.std.specs.Prelude.{◌≡◌, ◌≤◌, true, false, None, Some, OnOk, OnErr, IfOk, IfSome, IsErrOf, IsOk, IsSome, IsUtf8};
 ghost use Rattle.std.specs.List.{AllByRecursion};
 ghost use Rattle.hx_ports.specs.Causes.{KeeperCause, Rose};
 ghost use Rattle.hx_ports.specs.Keeping.{IsPut};
 ghost use Rattle.hx_ports.specs.Views.{HoldsOn};
 
+use crate::asking;
 use crate::fault::{Refusal, SqlFault};
 use crate::place::{self, Place};
 use hx_ports::{Batch, KeepFault, Keeper, Meta, Row};
@@ -13,7 +14,7 @@ use hx_ports::{Batch, KeepFault, Keeper, Meta, Row};
 ///
 /// A call before `attach` is a fault, and so is a value that isn't of its column's type. A number below 0 is told as one over 2^63 - 1, and a database without the row of `meta` has schema 0 and version 0.
 ///
-/// A commit that finds no memory was rolled back. One that fails otherwise breaks the keeper: the rows stay as they were while it lasts, and the next `attach` finds them so, or with the whole batch.
+/// A commit that finds no memory was rolled back. One that fails otherwise breaks the keeper, which says so on standard error: the rows stay as they were while it lasts, and the next `attach` finds them so, or with the whole batch.
 pub struct SqlKeeper {
     rt: HostRuntime,
     place: Option<Place>,
@@ -35,7 +36,7 @@ impl Drop for SqlKeeper {
 }
 
 impl SqlKeeper {
-    ghost use Rattle.hx_sqlite.specs.Shown.{why_failed};
+    ghost use Rattle.hx_sqlite.specs.Shown.{place_of, why_failed};
 
     /// A keeper with no place yet. It takes no memory, and the runtime's files are first used by `attach`.
     pub fn new(rt: &HostRuntime) -> Self
@@ -70,11 +71,36 @@ impl SqlKeeper {
         self.last_fault
     }
 
-    /// Closes the database, and says why the last call failed that did.
-    pub fn close(self) -> Option<SqlFault>
-        ensures { result ≡ why_failed self }
+    /// Closes the database. All that was committed is then in its file, and the log beside it is empty. Where that fails the log has what the file lacks, and the two belong together.
+    ///
+    /// A keeper that is dropped leaves both as they are.
+    pub fn close(self) -> Result<(), SqlFault>
+        ensures { place_of self ≡ None → IsOk result }
     {
-        self.last_fault
+        let SqlKeeper {
+            rt: _,
+            place,
+            broken: _,
+            faults: _,
+            last_fault: _,
+        } = self;
+        match place {
+            Some(place) => place.close(),
+            None => Ok(()),
+        }
+    }
+
+    /// Takes no write any more, and says so on standard error, with what the last fault was.
+    fn stop_writing(&mut self)
+        ensures { self.new ≡ record self.old { broken = true } }
+    {
+        self.broken = true;
+        let _ = match self.last_fault {
+            Some(fault) => eprintln!(self.rt;
+                "hnc: the database failed: {fault}: no write is taken any more"
+            ),
+            None => Ok(()),
+        };
     }
 
     /// Counts a fault, and keeps why it came. Want of memory isn't counted.
@@ -109,12 +135,14 @@ impl SqlKeeper {
 
 impl Keeper for SqlKeeper {
     ghost use Rattle.hx_sqlite.specs.Paths.{path_in};
+    ghost use Rattle.hx_sqlite.specs.Seats.{are_in_file, names_a_file};
     ghost use Rattle.hx_sqlite.specs.Shown.{place_of, why_failed};
 
     ghost shown = { λ k. record { place = path_in (place_of k); kept = None; broken = k.broken; faults = k.faults } };
 
     fn attach(&mut self, path: &str) -> Result<(), KeepFault>
         ensures place { OnOk result ((⟦<SqlKeeper as Keeper>⟧.shown self.new).place ≡ Some path.now) }
+        ensures rows { OnOk result (IfSome (place_of self.new) (λ place. are_in_file place.rows ≡ names_a_file path.now)) }
         ensures nowhere { OnErr result (place_of self.new ≡ place_of self.old) }
         ensures same { (⟦<SqlKeeper as Keeper>⟧.shown self.new).kept ≡ (⟦<SqlKeeper as Keeper>⟧.shown self.old).kept }
         ensures whole { (⟦<SqlKeeper as Keeper>⟧.shown self.new).broken ≡ (⟦<SqlKeeper as Keeper>⟧.shown self.old).broken }
@@ -135,12 +163,12 @@ impl Keeper for SqlKeeper {
         ensures calm { ¬ IsErrOf result KeepFault.Fault → why_failed self.new ≡ why_failed self.old }
         ensures cause { KeeperCause (⟦<SqlKeeper as Keeper>⟧.shown self.old).faults (⟦<SqlKeeper as Keeper>⟧.shown self.new).faults result }
     {
-        let told = place::meta_at(&mut self.place);
+        let told = asking::meta_at(&mut self.place);
         self.answer(told)
     }
 
     fn load(&mut self, after: &[u8]) -> Result<Option<Row>, KeepFault>
-        ensures texts { IfOk result (λ row. IfSome row (λ r. IsUtf8 r.key × IsUtf8 r.body)) }
+        ensures texts { IfOk result (λ row. IfSome row (λ r. IsUtf8 r.key)) }
         ensures same { HoldsOn (⟦<SqlKeeper as Keeper>⟧.shown self.old) (⟦<SqlKeeper as Keeper>⟧.shown self.new) }
         ensures nowhere { (⟦<SqlKeeper as Keeper>⟧.shown self.old).place ≡ None → IsErrOf result KeepFault.Fault × (why_failed self.new ≡ Some SqlFault.Unattached) }
         ensures fault { IsErrOf result KeepFault.Fault → IsSome (why_failed self.new) }
@@ -148,7 +176,7 @@ impl Keeper for SqlKeeper {
         ensures cause { KeeperCause (⟦<SqlKeeper as Keeper>⟧.shown self.old).faults (⟦<SqlKeeper as Keeper>⟧.shown self.new).faults result }
     {
         let alloc = self.rt.alloc();
-        let loaded = place::load_at(&mut self.place, alloc, after);
+        let loaded = asking::load_at(&mut self.place, alloc, after);
         self.answer(loaded)
     }
 
@@ -166,9 +194,11 @@ impl Keeper for SqlKeeper {
         if self.broken {
             return Err(self.count_fault());
         }
-        let landed = place::commit_at(&mut self.place, self.rt.alloc(), &batch);
+        let landed = asking::commit_at(&mut self.place, self.rt.alloc(), &batch);
         let answer = self.answer(landed);
-        self.broken = answer == Err(KeepFault::Fault);
+        if answer == Err(KeepFault::Fault) {
+            self.stop_writing();
+        }
         answer
     }
 }

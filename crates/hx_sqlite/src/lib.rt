@@ -2,9 +2,9 @@
 //!
 //! One process has a file open at a time, from `attach` until the keeper is dropped. Another finds it locked at once, and no other reads it meanwhile.
 //!
-//! A batch is one transaction of SQLite's write-ahead log, and takes one sync of the disk. That one is enough supposes that a write which a crash tears leaves each byte old or new. The log lies beside the file at the path with `-wal` behind it, grows to some 41 MB before it is copied into the file, and stays when the program ends: the two files belong together.
+//! A batch is one transaction of SQLite's write-ahead log, and takes one sync of the disk. That one is enough supposes that a write which a crash tears leaves each byte old or new. The log lies beside the file at the path with `-wal` behind it, and grows to some 41 MB before it is copied into the file. Until then the two files belong together. `close` copies it, and leaves it empty: the file alone then has all rows.
 //!
-//! `attach` reads the whole file and checks each page and row. That takes about a second for each 100 MB, and the memory of the greatest table; the pages that are kept in memory later are 32 MB, and those of a batch under way as many. A file never shrinks. Where `attach` refuses what it finds, it may leave an empty log beside it.
+//! `attach` reads the whole file and checks each page and row. That takes about a second for each 100 MB, and the memory of the greatest table; the pages that are kept in memory later are 32 MB, and those of a batch under way as many. A file never shrinks. Where `attach` refuses what it finds, it may leave an empty log beside it. A keeper that is dropped without `close` leaves file and log as they are.
 //!
 //! The tables are made where a database has none, with schema 2 and version 0:
 //!
@@ -14,6 +14,8 @@
 //! ```
 #![tactic(auto)]
 
+mod asking;
+mod closing;
 mod database;
 mod fault;
 mod keeper;

@@ -1,12 +1,10 @@
 // Where the rows are: in a file, or in memory.
-ghost use Rattle.std.specs.Prelude.{◌≡◌, false, None, Err, IfOk, IfSome, IsUtf8, string_bytes};
-ghost use Rattle.std.specs.List.{AllByRecursion};
-ghost use Rattle.hx_ports.specs.Keeping.{IsPut};
-ghost use Rattle.hx_sqlite.specs.Paths.{path_in};
+ghost use Rattle.std.specs.Prelude.{◌≡◌, false, IfOk, string_bytes};
+ghost use Rattle.hx_sqlite.specs.Seats.{are_in_file, names_a_file};
 
-use crate::database::{Ask, AskCommit, AskMeta, AskRow, Database};
+use crate::closing::close_files;
+use crate::database::{Ask, Database};
 use crate::fault::{Refusal, SqlFault};
-use hx_ports::{Batch, Meta, Row};
 use sqlite::{Connection, File, FileStore, MemStore, Options, Unknown};
 use std::alloc::Global;
 use std::hash::{BuildHasher, RandomState};
@@ -21,11 +19,20 @@ const LOG_PAGES: usize = 10_000;
 pub struct Place {
     pub path: String,
     pub rows: Rows,
+    ghost lie: { are_in_file rows ≡ names_a_file (string_bytes path) },
 }
 
 impl Drop for Place {
     fn drop(self) {
         let Place { path: _, rows: _ } = self;
+    }
+}
+
+impl Place {
+    /// Closes the database. All rows are then in its file, and its log is empty.
+    pub fn close(self) -> Result<(), SqlFault> {
+        let Place { path: _, rows } = self;
+        rows.close()
     }
 }
 
@@ -46,13 +53,24 @@ impl Drop for Rows {
 
 // Each function over a store proves again what the store can do, so that all is asked in this one.
 impl Rows {
-    fn answer<T, A: Ask<T>>(&mut self, ask: A) -> Result<T, Refusal>
+    pub fn answer<T, A: Ask<T>>(&mut self, ask: A) -> Result<T, Refusal>
         requires { A.may ask }
-        ensures { IfOk result A.tells }
+        ensures answer { IfOk result A.tells }
+        ensures seat { are_in_file self.new ≡ are_in_file self.old }
     {
         match self {
             Rows::Memory(database) => ask.of(database),
             Rows::File(database) => ask.of(database),
+        }
+    }
+
+    fn close(self) -> Result<(), SqlFault> {
+        match self {
+            Rows::Memory(_database) => Ok(()),
+            Rows::File(database) => {
+                close_files(Box::into_inner(database).into_connection())?;
+                Ok(())
+            },
         }
     }
 }
@@ -66,7 +84,9 @@ pub fn open(rt: &HostRuntime, path: &str) -> Result<Place, Refusal>
     Ok(Place { path: copy, rows })
 }
 
-fn open_rows(rt: &HostRuntime, path: &str) -> Result<Rows, Refusal> {
+fn open_rows(rt: &HostRuntime, path: &str) -> Result<Rows, Refusal>
+    ensures { IfOk result (λ rows. are_in_file rows ≡ names_a_file path.now) }
+{
     if path.is_empty() {
         Ok(Rows::Memory(open_memory(rt.alloc())?))
     } else {
@@ -108,43 +128,5 @@ fn options(rt: &HostRuntime) -> Result<Options, Refusal>
             seed: keys.hash_one(&0u8),
         }),
         Err(_) => Err(Refusal::Fault(SqlFault::CannotOpen)),
-    }
-}
-
-pub fn meta_at(place: &mut Option<Place>) -> Result<Meta, Refusal>
-    ensures nowhere { path_in place.old ≡ None → result ≡ Err (Refusal.Fault SqlFault.Unattached) }
-    ensures path { path_in place.new ≡ path_in place.old }
-{
-    match place {
-        Some(place) => place.rows.answer(AskMeta),
-        None => Err(Refusal::Fault(SqlFault::Unattached)),
-    }
-}
-
-/// The first row whose key is greater.
-pub fn load_at(
-    place: &mut Option<Place>,
-    alloc: Global,
-    after: &[u8],
-) -> Result<Option<Row>, Refusal>
-    ensures texts { IfOk result (λ row. IfSome row (λ r. IsUtf8 r.key × IsUtf8 r.body)) }
-    ensures nowhere { path_in place.old ≡ None → result ≡ Err (Refusal.Fault SqlFault.Unattached) }
-    ensures path { path_in place.new ≡ path_in place.old }
-{
-    match place {
-        Some(place) => place.rows.answer(AskRow { alloc, after }),
-        None => Err(Refusal::Fault(SqlFault::Unattached)),
-    }
-}
-
-/// Writes the batch as a whole, or rolls it back.
-pub fn commit_at(place: &mut Option<Place>, alloc: Global, batch: &Batch) -> Result<(), Refusal>
-    requires { AllByRecursion IsPut batch.now.puts }
-    ensures nowhere { path_in place.old ≡ None → result ≡ Err (Refusal.Fault SqlFault.Unattached) }
-    ensures path { path_in place.new ≡ path_in place.old }
-{
-    match place {
-        Some(place) => place.rows.answer(AskCommit { alloc, batch }),
-        None => Err(Refusal::Fault(SqlFault::Unattached)),
     }
 }
