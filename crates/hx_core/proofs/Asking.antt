@@ -5,6 +5,7 @@
 --     asks_passed        an answer without writes
 --     asks_landed        an answer whose writes landed
 --     asks_lost          an ask whose writes were lost
+--     marks_refused, marks_passed, marks_landed, marks_lost    the keys that are marked then
 use Rattle.std.proofs.Common.{◌≡◌, ◌≢◌, Bool, true, false, List, [], ◌∷◌, None, Some, Option, refl, sym, ap, subst, ◌∙◌, inl, inr}
 use Rattle.std.specs.Prelude.{◌⊎◌, ◌||◌}
 use Rattle.std.specs.List.{AllByRecursion}
@@ -12,7 +13,7 @@ use Rattle.hx_object.specs.declared.object.Id.{Id}
 use Rattle.hx_object.specs.declared.object.Object.{Object}
 use Rattle.hx_model.specs.Answers.{refusal_of, answer_to, writes_of, success, answer_found, Mutates}
 use Rattle.hx_model.specs.Keys.{may_mark}
-use Rattle.hx_model.specs.Machine.{World, Request, LostRequest, NoMemory, KeeperFault, broken_at, writes_if, writes_made}
+use Rattle.hx_model.specs.Machine.{World, Entry, Request, LostRequest, NoMemory, KeeperFault, broken_at, writes_if, writes_made}
 use Rattle.hx_model.specs.Requests.{request_entry}
 use Rattle.hx_model.specs.State.{State, state_after, object_at}
 use Rattle.hx_model.specs.Valid.{IsValid}
@@ -29,11 +30,13 @@ use Rattle.hx_marks.specs.Halves.{IsRegular}
 use Rattle.hx_marks.proofs.Regular.{regular_request}
 use Rattle.hx_admit.specs.Reviewing.{Passes}
 use Rattle.hx_core.specs.Committing.{HasLanded, HasFailed, HasMarked, IsOrderly, StaysOut}
+use Rattle.hx_core.specs.Queued.{writes_in}
 use Rattle.hx_core.specs.Refinement.{ClusterView, HasWorld, Simulates}
+use Rattle.hx_queue.specs.Workers.{WorkersView}
 use Rattle.hx_core.specs.declared.commit.CommitFault.{CommitFault}
 use Rattle.hx_core.specs.declared.commit.CommitFault.TheVariants.{KeeperFault as CommitKeeperFault, NoMemory as CommitNoMemory}
 use Rattle.hx_core.proofs.Entering.{request_out}
-use Rattle.hx_core.proofs.Making.{enters_still, enters_landed, enters_failed}
+use Rattle.hx_core.proofs.Making.{enters_still, enters_landed, enters_failed, marks_nothing}
 use Rattle.hx_core.proofs.Refusing.{refusal_entry}
 
 -- ---- a success is a request's own entry
@@ -138,3 +141,30 @@ asks_lost old new ask ws answer CommitKeeperFault refusal stood passes some memo
     subst (λ r. Simulates old (request_entry ask (Refusing r) ∷ []) new) (sym (store refl)) (asks_failed old new ask ws answer stood passes some (failed refl) same)
 asks_lost old new ask ws answer CommitNoMemory refusal stood passes some memory failed same store room =
     subst (λ r. Simulates old (request_entry ask (Refusing r) ∷ []) new) (sym (room refl)) (subst (λ c. Simulates old (LostRequest ask NoMemory ∷ []) c) (sym (memory refl)) (asks_nothing old ask stood))
+
+-- ---- what is marked
+
+-- where the ask's entry writes nothing
+marks_none_by : (s : State) (old new : WorkersView) (e : Entry) → new ≡ old → writes_in s e ≡ [] → HasMarked s (writes_in s e) old new
+marks_none_by s old new e same none = subst (λ ws. HasMarked s ws old new) (sym none) (marks_nothing s old new same)
+
+refused_none : (s : State) (ask : Ask) (refusal : Refusal) → refusal_of s ask ≡ Some refusal → writes_in s (request_entry ask (Refusing refusal)) ≡ []
+refused_none s ask refusal e = ap (writes_in s) (refusal_entry s ask refusal e) ∙ ap (λ o. writes_if o (writes_of s ask)) e
+
+pub marks_refused : (s : State) (v : WorkersView) (ask : Ask) (refusal : Refusal) → (refusal ≡ NoRoom) ⊎ (refusal_of s ask ≡ Some refusal) → HasMarked s (writes_in s (request_entry ask (Refusing refusal))) v v
+marks_refused s v ask refusal (inl e) = marks_none_by s v v (request_entry ask (Refusing refusal)) refl (ap (λ r. writes_in s (request_entry ask (Refusing r))) e)
+marks_refused s v ask refusal (inr e) = marks_none_by s v v (request_entry ask (Refusing refusal)) refl (refused_none s ask refusal e)
+
+-- what an ask that passes writes
+passes_in : (s : State) (ask : Ask) (ws : List Write) (answer : Answer) → Passes s ask ws answer → writes_in s (request_entry ask answer) ≡ ws
+passes_in s ask ws answer passes = ap (writes_in s) (passes_entry s ask ws answer passes) ∙ passes_made s ask ws answer passes
+
+pub marks_passed : (s : State) (v : WorkersView) (ask : Ask) (ws : List Write) (answer : Answer) → Passes s ask ws answer → ws ≡ [] → HasMarked s (writes_in s (request_entry ask answer)) v v
+marks_passed s v ask ws answer passes none = marks_none_by s v v (request_entry ask answer) refl (passes_in s ask ws answer passes ∙ none)
+
+pub marks_landed : (s : State) (old new : WorkersView) (ask : Ask) (ws : List Write) (answer : Answer) → Passes s ask ws answer → HasMarked s ws old new → HasMarked s (writes_in s (request_entry ask answer)) old new
+marks_landed s old new ask ws answer passes marked = subst (λ us. HasMarked s us old new) (sym (passes_in s ask ws answer passes)) marked
+
+pub marks_lost : (s : State) (old new : WorkersView) (ask : Ask) (fault : CommitFault) (refusal : Refusal) → new ≡ old → (fault ≡ CommitKeeperFault → refusal ≡ StoreFailed) → (fault ≡ CommitNoMemory → refusal ≡ NoRoom) → HasMarked s (writes_in s (request_entry ask (Refusing refusal))) old new
+marks_lost s old new ask CommitKeeperFault refusal same store room = marks_none_by s old new (request_entry ask (Refusing refusal)) same (ap (λ r. writes_in s (request_entry ask (Refusing r))) (store refl))
+marks_lost s old new ask CommitNoMemory refusal same store room = marks_none_by s old new (request_entry ask (Refusing refusal)) same (ap (λ r. writes_in s (request_entry ask (Refusing r))) (room refl))

@@ -4,7 +4,7 @@
 --     failed             the keeper failed
 --     sound_landed, sound_failed     the fields are sound afterwards
 --     sound_committed    they are, however the commit ended
-use Rattle.std.proofs.Common.{◌≡◌, ◌≤◌, true, false, List, [], None, Some, IfSome, Option, refl, sym, ap, subst, ◌∙◌, inl, inr, ◌⊎◌, true≢false, Ok, Err}
+use Rattle.std.proofs.Common.{◌≡◌, ◌≢◌, ◌≤◌, true, false, List, [], None, Some, IfSome, Option, refl, sym, ap, subst, ◌∙◌, inl, inr, ◌⊎◌, true≢false, Ok, Err}
 use Rattle.std.specs.Prelude.{OnOk, OnErr, IsErrOf}
 use Rattle.std.specs.List.{AllByRecursion}
 use Rattle.std.specs.declared.result.Result.{Result}
@@ -43,13 +43,13 @@ pub landed : (s t : State) (ws : List Write) (batch : Batch) (k k' : KeeperView)
 landed s t ws batch k k' valid held ready moves lands whole whole' place faults =
     let kept : k'.kept ≡ (holding t k).kept = landed_held s ws batch k.kept k'.kept valid ready (held whole) lands ∙ ap (λ u. (holding u k).kept) (sym moves) in
     let broken : k'.broken ≡ k.broken = whole' ∙ sym whole in
-    record { state = moves; keeper = λ i. record { place = place i; kept = kept i; broken = broken i; faults = faults i }; whole = whole }
+    record { may = ready.may; state = moves; keeper = λ i. record { place = place i; kept = kept i; broken = broken i; faults = faults i }; whole = whole }
 
 -- the keeper failed
 pub failed : (s t : State) (ws : List Write) (batch : Batch) (k k' : KeeperView) → IsValid s → Holds s k → IsPrepared s ws batch → t ≡ s
     → (k'.kept ≡ k.kept) ⊎ (Lands batch k.kept k'.kept × (k.broken ≡ false)) → k'.broken ≡ true → k'.place ≡ k.place → k.faults ≤ k'.faults → Rose k.faults k'.faults → HasFailed s k ws t k'
 failed s t ws batch k k' valid held ready same torn breaks place later rose =
-    record { state = same; place = place; broken = breaks; kept = elim torn [ inl e ↦ inl e | inr (lands, whole) ↦ inr (whole, landed_held s ws batch k.kept k'.kept valid ready (held whole) lands) ]; later = later; rose = rose }
+    record { may = ready.may; state = same; place = place; broken = breaks; kept = elim torn [ inl e ↦ inl e | inr (lands, whole) ↦ inr (whole, landed_held s ws batch k.kept k'.kept valid ready (held whole) lands) ]; later = later; rose = rose }
 
 -- ---- the fields afterwards
 
@@ -62,16 +62,16 @@ sound_same s t v v' k k' staged staged' sound none same =
     subst (λ (c : ClusterView). IsSound c.state c.workers c.keeper staged') (sym same) (record { valid = sound.valid; held = sound.held; covered = sound.covered; taken = sound.taken; world = sound.world; none = none })
 
 -- the writes of a commit landed, and their keys are marked
-pub sound_landed : (s t : State) (v v' : WorkersView) (ws : List Write) (own : Option Key) (k k' : KeeperView) (staged staged' : List Write) → IsSound s v k staged → MayWriteAll s ws → IsOrderly s ws
+pub sound_landed : (s t : State) (v v' : WorkersView) (ws : List Write) (own : Option Key) (k k' : KeeperView) (staged staged' : List Write) → IsSound s v k staged → MayWriteAll s ws → IsOrderly s ws → ws ≢ []
     → IfSome own (λ j. wanted_write (state_after s ws) j ≡ None) → staged' ≡ [] → HasLanded s k ws t k' → IsMarkedBy (marks_but own (all_marks s ws)) v v' → IsSound t v' k' staged'
-sound_landed s t v v' ws own k k' staged staged' sound may orderly nothing none done marked =
+sound_landed s t v v' ws own k k' staged staged' sound may orderly some nothing none done marked =
     let next : World = written_by sound.world.0 ws in
     record {
       valid = subst IsValid (sym done.state) (valid_after s ws sound.valid may);
       held = λ _. subst (λ (v : KeeperView). IfSome v.kept (λ held. held ≡ kept_of t)) (sym done.keeper) (holds_landed t k.kept);
       covered = subst (λ (u : State). IsCovered u v'.hands v'.waiting v'.again) (sym done.state) (covered_marked s ws own v v' sound.valid may orderly.regular nothing sound.taken sound.covered marked);
       taken = subst (λ (hands : List Hand). AllByRecursion (IsOf t) hands) (sym marked.hands) (subst (λ (u : State). AllByRecursion (IsOf u) v.hands) (sym done.state) (taken_after s ws v.hands may orderly.out sound.taken));
-      world = (next, stands_landed (view_of s v k) (view_of t v' k') ws sound.world.0 next done (has_marked s ws (marks_but own (all_marks s ws)) v v' marked (marks_within s ws own sound.valid may orderly.regular)) sound.world.1 refl);
+      world = (next, stands_landed (view_of s v k) (view_of t v' k') ws sound.world.0 next done (has_marked s ws (marks_but own (all_marks s ws)) v v' some marked (marks_within s ws own sound.valid may orderly.regular)) sound.world.1 refl);
       none = none;
     }
 
@@ -95,17 +95,17 @@ fault_of_keeper Fault r memory e = refl
 fault_of_keeper KeepNoMemory r memory e = let h : r ≡ NoMemory = memory refl in cc
 
 -- the fields are sound, however the commit ended
-pub sound_committed : {T : Type 0} (s t : State) (v v' : WorkersView) (ws : List Write) (own : Option Key) (k k' : KeeperView) (staged staged' : List Write) (result : Result T CommitFault) → IsSound s v k staged → MayWriteAll s ws → IsOrderly s ws
+pub sound_committed : {T : Type 0} (s t : State) (v v' : WorkersView) (ws : List Write) (own : Option Key) (k k' : KeeperView) (staged staged' : List Write) (result : Result T CommitFault) → IsSound s v k staged → MayWriteAll s ws → IsOrderly s ws → ws ≢ []
     → IfSome own (λ j. wanted_write (state_after s ws) j ≡ None) → staged' ≡ [] → OnOk result (HasLanded s k ws t k') → OnOk result (IsMarkedBy (marks_but own (all_marks s ws)) v v') → OnErr result (v' ≡ v)
     → (IsErrOf result NoMemory → t ≡ s) → (IsErrOf result NoMemory → k' ≡ k) → (IsErrOf result KeeperFault → HasFailed s k ws t k') → IsSound t v' k' staged'
-sound_committed s t v v' ws own k k' staged staged' (Ok l) sound may orderly nothing none done marked same state keeper fault = sound_landed s t v v' ws own k k' staged staged' sound may orderly nothing none done marked
-sound_committed s t v v' ws own k k' staged staged' (Err NoMemory) sound may orderly nothing none done marked same state keeper fault = sound_same s t v v' k k' staged staged' sound none (λ i. view_of (state refl i) (same i) (keeper refl i))
-sound_committed s t v v' ws own k k' staged staged' (Err KeeperFault) sound may orderly nothing none done marked same state keeper fault = sound_failed s t v v' ws k k' staged staged' sound none (fault refl) same
+sound_committed s t v v' ws own k k' staged staged' (Ok l) sound may orderly some nothing none done marked same state keeper fault = sound_landed s t v v' ws own k k' staged staged' sound may orderly some nothing none done marked
+sound_committed s t v v' ws own k k' staged staged' (Err NoMemory) sound may orderly some nothing none done marked same state keeper fault = sound_same s t v v' k k' staged staged' sound none (λ i. view_of (state refl i) (same i) (keeper refl i))
+sound_committed s t v v' ws own k k' staged staged' (Err KeeperFault) sound may orderly some nothing none done marked same state keeper fault = sound_failed s t v v' ws k k' staged staged' sound none (fault refl) same
 
 -- what is marked may be
-pub marked_committed : {T : Type 0} (s : State) (v v' : WorkersView) (ws : List Write) (own : Option Key) (result : Result T CommitFault) → IsValid s → MayWriteAll s ws → IsOrderly s ws → OnOk result (IsMarkedBy (marks_but own (all_marks s ws)) v v') → OnOk result (HasMarked s ws v v')
-marked_committed s v v' ws own (Ok l) valid may orderly marked = has_marked s ws (marks_but own (all_marks s ws)) v v' marked (marks_within s ws own valid may orderly.regular)
-marked_committed s v v' ws own (Err fault) valid may orderly marked = tt
+pub marked_committed : {T : Type 0} (s : State) (v v' : WorkersView) (ws : List Write) (own : Option Key) (result : Result T CommitFault) → IsValid s → MayWriteAll s ws → IsOrderly s ws → ws ≢ [] → OnOk result (IsMarkedBy (marks_but own (all_marks s ws)) v v') → OnOk result (HasMarked s ws v v')
+marked_committed s v v' ws own (Ok l) valid may orderly some marked = has_marked s ws (marks_but own (all_marks s ws)) v v' some marked (marks_within s ws own valid may orderly.regular)
+marked_committed s v v' ws own (Err fault) valid may orderly some marked = tt
 
 -- where no memory was left, nothing changed
 pub same_committed : {T : Type 0} (s t : State) (v v' : WorkersView) (k k' : KeeperView) (result : Result T CommitFault) → OnErr result (v' ≡ v) → (IsErrOf result NoMemory → t ≡ s) → (IsErrOf result NoMemory → k' ≡ k) → IsErrOf result NoMemory → view_of t v' k' ≡ view_of s v k

@@ -1,6 +1,6 @@
 -- What a cluster keeps true where a worker takes a key or lets it go.
 --     again_free         a key that nobody holds isn't marked again
---     next_in            a key that waits next
+--     next_in, next_none     the key that has waited longest, and where there is none
 --     short_by, given_job    a brief that is given
 --     sound_taken, sound_given, sound_let
 --     sound_ready              where nothing that is seen changes
@@ -8,7 +8,7 @@
 --     settled_now        where no key waits and none is held, the state is settled
 --     counts             how many keys wait and are held
 use Rattle.std.proofs.Common.{◌≡◌, ◌≢◌, ◌<◌, ◌^◌, ℕ, Bool, true, false, List, [], ◌∷◌, length, ◌||◌, Option, Some, None, IfSome, IfNone, is_some, refl, sym, ap, ◌∙◌, subst, true≢false, Ok, Err}
-use Rattle.std.specs.Prelude.{IfOk}
+use Rattle.std.specs.Prelude.{IfOk, slice_get}
 use Rattle.std.specs.declared.result.Result.{Result}
 use Rattle.std.specs.List.{AllByRecursion}
 use Rattle.hx_ports.specs.Views.{KeeperView}
@@ -34,7 +34,8 @@ use Rattle.hx_core.specs.Inside.{IsSound, view_of}
 use Rattle.hx_core.specs.Refinement.{ClusterView, HasWorld, Simulates}
 use Rattle.hx_core.specs.Turns.{IsOf}
 use Rattle.hx_queue.specs.Workers.{WorkersView, AreApart, IsTakenBy, IsLetGo}
-use Rattle.hx_core.specs.Working.{IsDone, IsGivenBy, IsJob, IsLet, IsNext, IsReleased, IsSameKeeping, chain_in, sums_in}
+use Rattle.hx_core.specs.Queued.{IsLet, IsReleased, IsSameKeeping}
+use Rattle.hx_core.specs.Working.{IsDone, IsGivenBy, IsJob, IsNext, chain_in, sums_in}
 use Rattle.hx_core.specs.declared.turns.Take.{Take}
 use Rattle.hx_core.specs.declared.turns.Take.TheVariants as take
 use Rattle.hx_core.proofs.Covering.{again_held, covered_taken, covered_let, waits_each}
@@ -47,11 +48,26 @@ use Rattle.std.proofs.lemmas.Bool.{false_from_ne_true}
 pub again_free : (v : WorkersView) (k : Key) → AreApart v → is_held k v.hands ≡ false → is_among k v.again ≡ false
 again_free v k apart free = false_from_ne_true (is_among k v.again) (λ e. true≢false (sym (again_held v k apart e) ∙ free))
 
--- a key that waits, and that nobody holds
-pub next_in : {E : Type 0} (v : WorkersView) (r : Result (Option Key) E) → AreApart v → IfOk r (λ o. IfSome o (λ k. is_among k v.waiting ≡ true)) → IfOk r (λ o. IfSome o (λ k. is_held k v.hands ≡ false)) → IfOk r (λ o. IfSome o (IsNext v))
-next_in v (Err e) apart waits free = tt
-next_in v (Ok None) apart waits free = tt
-next_in v (Ok (Some k)) apart waits free = record { waits = waits; free = free; again = again_free v k apart free }
+-- the first of some keys is among them
+first_among : (k : Key) (keys : List Key) → slice_get keys 0 ≡ Some k → is_among k keys ≡ true
+first_among k [] e = absurd (true≢false (sym (ap is_some e)))
+first_among k (x ∷ keys) e = ap (λ b. b || is_among k keys) (let same : x ≡ k = cc in ap (same_key k) same ∙ same_key_itself k)
+
+-- the key that has waited longest, and that nobody holds
+pub next_in : {E : Type 0} (v : WorkersView) (r : Result (Option Key) E) → AreApart v → IfOk r (λ o. o ≡ slice_get v.waiting 0) → IfOk r (λ o. IfSome o (λ k. is_held k v.hands ≡ false)) → IfOk r (λ o. IfSome o (IsNext v))
+next_in v (Err e) apart first free = tt
+next_in v (Ok None) apart first free = tt
+next_in v (Ok (Some k)) apart first free = record { first = sym first; waits = first_among k v.waiting (sym first); free = free; again = again_free v k apart free }
+
+-- where there is none no key waits
+pub next_none : {E : Type 0} (v : WorkersView) (r : Result (Option Key) E) → IfOk r (λ o. o ≡ slice_get v.waiting 0) → IfOk r (λ o. IfNone o (v.waiting ≡ []))
+next_none v (Err e) first = tt
+next_none v (Ok (Some k)) first = tt
+next_none v (Ok None) first = empty v.waiting (sym first)
+  where
+    empty : (keys : List Key) → slice_get keys 0 ≡ None → keys ≡ []
+    empty [] e = refl
+    empty (x ∷ keys) e = absurd (true≢false (ap is_some e))
 
 -- ---- a key is taken
 

@@ -1,5 +1,6 @@
 -- What the rows that were taken say of the state, row by row.
 --     takeable            the object that a row was read as may be taken, or none may
+--     untakeable          a row that was read as none may not
 --     is_new              an object whose key lies behind those of all others is not there yet
 --     loaded_next         the row behind the last one was taken
 --     damaged_missing, damaged_unsound      it is missing, or can't be taken
@@ -29,7 +30,7 @@ use Rattle.hx_ports.specs.Rows.{Entry, entry_of}
 use Rattle.hx_ports.specs.Views.{KeeperView, HoldsOn}
 use Rattle.hx_ports.specs.declared.keeper.Meta.{Meta}
 use Rattle.hx_ports.specs.declared.keeper.Row.{Row}
-use Rattle.hx_json.specs.Rows.{IsRowOf}
+use Rattle.hx_json.specs.Rows.{HasNoObject, IsRowOf}
 use Rattle.hx_model.specs.State.{State, Objects, object_at, same_id, namespace_id, has_home}
 use Rattle.hx_model.specs.Texts.{key_text, two_digits, stored_entry, rows_of_objects}
 use Rattle.hx_model.specs.Valid.{IsValid, IsStored}
@@ -72,11 +73,16 @@ takeable s row key body x o same_key same_body is_of given known says = by (has_
     by : (b : Bool) → has_home s.objects x.id ≡ b → IfSome o (IsTakeable s row) × IfNone o ((y : Object) → IsTakeable s row y → ⊥)
     by true home =
         let some : o ≡ Some x = says ∙ ap (λ b. if b then Some x else None) home in
-        subst (λ p. IfSome p (IsTakeable s row) × IfNone p ((y : Object) → IsTakeable s row y → ⊥)) (sym some) (record { stored = stored; text = is.text; entry = is.is; home = home }, tt)
+        subst (λ p. IfSome p (IsTakeable s row) × IfNone p ((y : Object) → IsTakeable s row y → ⊥)) (sym some) (record { stored = stored; entry = is.is; home = home }, tt)
     by false home =
         let none : o ≡ None = says ∙ ap (λ b. if b then Some x else None) home in
         let nobody : (y : Object) → IsTakeable s row y → ⊥ = λ y takes. true≢false (sym takes.home ∙ ap (λ (q : Id). has_home s.objects q) (same_row_id s row x y takes stored is.is) ∙ home) in
         subst (λ p. IfSome p (IsTakeable s row) × IfNone p ((y : Object) → IsTakeable s row y → ⊥)) (sym none) (tt, nobody)
+
+-- a row that was read as no object is none that may be taken
+pub untakeable : (s : State) (row : Row) (key body : List ℕ) → key ≡ row.key → body ≡ row.body → IsUtf8 row.body → HasNoObject key row.version body → (y : Object) → IsTakeable s row y → ⊥
+untakeable s row key body same_key same_body text none y takes =
+    none y (record { served = takes.stored.served; text = subst IsUtf8 (sym same_body) text; is = takes.entry ∙ (λ i. (sym same_key i, (row.version, sym same_body i))) })
 
 -- an object whose key lies behind those of all others is not there yet
 pub is_new : (key : List ℕ) (x : Object) (objects : Objects) → IsBehindAll key objects → is_lt (bytes_cmp key (key_text x.id)) ≡ true → object_at objects x.id ≡ None
@@ -198,7 +204,7 @@ module _ (held : Kept) (s : State) (key : List ℕ) (count : ℕ) (front : IsFro
             apart Equal is = absurd (true≢false (sym (found_passes (is_behind key) (entries held.rows) e next) ∙ ap (λ k. is_lt (bytes_cmp key k)) (same_bytes e.0 (key_text x.id) is) ∙ all.0))
 
     sound_next : (x : Object) → IsTakeable s (row_of_entry e) x → IsSoundRow held e
-    sound_next x takes = record { object = x; stored = subst (λ last. IsStored last x) front.version takes.stored; text = takes.text; row = takes.entry; home = home_there x.id takes.home }
+    sound_next x takes = record { object = x; stored = subst (λ last. IsStored last x) front.version takes.stored; row = takes.entry; home = home_there x.id takes.home }
 
     front_next : (t : State) → AllByRecursion (λ (x : Object). is_lt (bytes_cmp key (key_text x.id)) ≡ false) s.objects → Takes s key (row_of_entry e) t → IsFront held t e.0 (count + 1)
     front_next t last takes =
@@ -228,7 +234,7 @@ module _ (held : Kept) (s : State) (key : List ℕ) (count : ℕ) (front : IsFro
     unsound_next : IsUntakeable s key (row_of_entry e) → IsSoundRow held e → ⊥
     unsound_next untaken sound =
         let x = sound.object in
-        untaken (found_passes (is_behind key) (entries held.rows) e next) x (record { stored = subst (λ last. IsStored last x) (sym front.version) sound.stored; text = sound.text; entry = sound.row; home = home sound })
+        untaken (found_passes (is_behind key) (entries held.rows) e next) x (record { stored = subst (λ last. IsStored last x) (sym front.version) sound.stored; entry = sound.row; home = home sound })
       where
         later : (low : List ℕ) → bytes_cmp low e.0 ≡ Less → (es : List Entry) → AllByRecursion (λ (f : Entry). bytes_cmp low f.0 ≡ Less) (filter (is_behind e.0) es)
         later low first [] = tt

@@ -1,25 +1,30 @@
 -- The entries that calls make.
 --     makes_still, makes_kept, makes_failed     an entry by what it does to the keeper
+--     marks_nothing, was_waiting, was_again     what marks leave
 --     stands_landed, stands_failed    the worlds after a commit
 --     enters_still               an entry that leaves its world
 --     enters_landed              one whose writes landed
 --     enters_failed              one whose writes were lost to a fault of the keeper
 -- An entry is a request's, or any other whose worlds are told.
 use Rattle.std.proofs.Common.{◌≡◌, ◌≤◌, Bool, true, false, List, [], ◌∷◌, None, Some, is_some, IfSome, refl, sym, ap, subst, ◌∙◌, inl, inr, arith, true≢false}
-use Rattle.std.specs.Prelude.{◌⊎◌, ◌||◌, if◌then◌else◌, IsSomeAnd, option_map}
-use Rattle.std.proofs.lemmas.Bool.{or_left, or_right}
+use Rattle.std.specs.Prelude.{◌⊎◌, ◌&&◌, ◌||◌, not, if◌then◌else◌, IsSomeAnd, option_map}
+use Rattle.std.proofs.lemmas.Bool.{or_cases, or_left, or_right, and_parts}
 use Rattle.std.specs.declared.option.Option.{Option}
 use Rattle.hx_ports.specs.Keeping.{Kept}
 use Rattle.hx_ports.specs.Views.{KeeperView}
 use Rattle.hx_model.specs.Machine.{World, Entry, IsLegal, world_after, written_by, broken_at, is_lost_to_fault}
 use Rattle.hx_model.specs.Keys.{is_among, may_mark}
+use Rattle.hx_model.specs.Hands.{is_held}
 use Rattle.hx_model.specs.State.{State, state_after}
+use Rattle.hx_model.specs.Valid.{IsValid}
+use Rattle.hx_model.specs.Writes.{MayWriteAll}
 use Rattle.hx_model.specs.declared.key.Key.{Key}
 use Rattle.hx_model.specs.declared.key.Write.{Write}
+use Rattle.hx_model.proofs.Writes.{valid_after}
 use Rattle.hx_ports.specs.Causes.{Rose}
 use Rattle.hx_core.specs.Committing.{HasLanded, HasFailed, HasMarked, holding}
 use Rattle.hx_queue.specs.Workers.{WorkersView}
-use Rattle.hx_core.specs.Refinement.{ClusterView, Represents, HasWorld, Simulates, IsKeptOf, kept_of}
+use Rattle.hx_core.specs.Refinement.{ClusterView, IsValidWorld, Represents, HasWorld, Simulates, IsKeptOf, kept_of}
 
 -- ---- one entry
 
@@ -41,6 +46,7 @@ makes_whole : (old new : ClusterView) (e : Entry) → HasWorld old → Enters ol
 makes_whole old new e stood steps whole same tells place = record {
   stood = stood;
   steps = λ w stands. let step = steps w stands in ((step.0, tt), step.1);
+  valid = λ w stands. (stands.valid, (steps w stands).1.valid);
   later = omega (arith, same);
   cause = λ lost. elim (either_lost (is_lost_to_fault e) false lost) [ inl is ↦ absurd (true≢false (sym is ∙ whole)) | inr is ↦ absurd (true≢false (sym is)) ];
   still = λ _. same;
@@ -68,6 +74,50 @@ maybe_written : (kept : Option Kept) (w : World) (torn s : State) → w.broken �
 maybe_written None w torn s whole is = tt
 maybe_written (Some h) w torn s whole is = inr (refl, subst (λ b. IsSomeAnd (if b then w.torn else Some torn) (λ t. kept_of s ≡ kept_of t)) (sym whole) (ap kept_of (sym is)))
 
+-- the world after writes that may be made, and the one that broke at them
+valid_landed : (w : World) (ws : List Write) → IsValidWorld w → MayWriteAll w.state ws → IsValidWorld (written_by w ws)
+valid_landed w ws valid may = record { state = valid_after w.state ws valid.state may; torn = valid.torn }
+
+valid_broken : (w : World) (torn : State) → IsValidWorld w → IsValid torn → IsValidWorld (broken_at w torn)
+valid_broken w torn valid may = record { state = valid.state; torn = by w.broken }
+  where
+    by : (b : Bool) → IfSome (if b then w.torn else Some torn) IsValid
+    by true = valid.torn
+    by false = may
+
+-- ---- marks
+
+or_none : (b : Bool) → b ≡ (b || false)
+or_none true = refl
+or_none false = refl
+
+-- no writes mark nothing
+pub marks_nothing : (s : State) (old new : WorkersView) → new ≡ old → HasMarked s [] old new
+marks_nothing s old new same = record {
+  keys = [];
+  may = λ k e. absurd (true≢false (sym e));
+  marked = record {
+    hands = ap (λ (v : WorkersView). v.hands) same;
+    waiting = λ k. ap (λ (v : WorkersView). is_among k v.waiting) same ∙ or_none (is_among k old.waiting);
+    again = λ k. ap (λ (v : WorkersView). is_among k v.again) same ∙ or_none (is_among k old.again);
+  };
+  none = λ _. same;
+}
+
+module _ (s : State) (ws : List Write) (old new : WorkersView) (marks : HasMarked s ws old new) where
+  either : (k : Key) (a b : Bool) → (a || (is_among k marks.keys && b)) ≡ true → (a ≡ true) ⊎ (may_mark s ws k ≡ true)
+  either k a b e = elim (or_cases a (is_among k marks.keys && b) e) [
+    | inl here ↦ inl here
+    | inr there ↦ inr (marks.may k (and_parts (is_among k marks.keys) b there).0)
+  ]
+
+  -- what waits then waited before, or may be marked
+  pub was_waiting : (k : Key) → is_among k new.waiting ≡ true → (is_among k old.waiting ≡ true) ⊎ (may_mark s ws k ≡ true)
+  was_waiting k e = either k (is_among k old.waiting) (not (is_held k old.hands)) (sym (marks.marked.waiting k) ∙ e)
+
+  pub was_again : (k : Key) → is_among k new.again ≡ true → (is_among k old.again ≡ true) ⊎ (may_mark s ws k ≡ true)
+  was_again k e = either k (is_among k old.again) (is_held k old.hands) (sym (marks.marked.again k) ∙ e)
+
 -- what was marked before, or is marked by the writes
 marked_after : (s : State) (ws : List Write) (w : World) (k : Key) (b : Bool) → w.state ≡ s → (b ≡ true → w.marked k ≡ true) → (b ≡ true) ⊎ (may_mark s ws k ≡ true) → (w.marked k || may_mark w.state ws k) ≡ true
 marked_after s ws w k b is before (inl old) = or_left (w.marked k) (may_mark w.state ws k) (before old)
@@ -79,10 +129,11 @@ stands_landed old new ws w v landed marked stands is =
     let next : World = written_by w ws in
     let state : next.state ≡ new.state = ap (λ s. state_after s ws) stands.state ∙ sym landed.state in
     subst (Represents new) (sym is) (record {
+      valid = valid_landed w ws stands.valid (subst (λ s. MayWriteAll s ws) (sym stands.state) landed.may);
       state = state;
-      hands = stands.hands ∙ sym marked.hands;
-      waiting = λ k e. marked_after old.state ws w k (is_among k old.workers.waiting) stands.state (stands.waiting k) (marked.waiting k e);
-      again = λ k e. marked_after old.state ws w k (is_among k old.workers.again) stands.state (stands.again k) (marked.again k e);
+      hands = stands.hands ∙ sym marked.marked.hands;
+      waiting = λ k e. marked_after old.state ws w k (is_among k old.workers.waiting) stands.state (stands.waiting k) (was_waiting old.state ws old.workers new.workers marked k e);
+      again = λ k e. marked_after old.state ws w k (is_among k old.workers.again) stands.state (stands.again k) (was_again old.state ws old.workers new.workers marked k e);
       broken = stands.broken ∙ sym (ap (λ (k : KeeperView). k.broken) landed.keeper);
       kept = subst (λ (k : KeeperView). IfSome k.kept (IsKeptOf next)) (sym landed.keeper) (holds_state new.state next old.keeper.kept state);
     })
@@ -92,6 +143,7 @@ pub stands_failed : (old new : ClusterView) (ws : List Write) (w v : World) → 
 stands_failed old new ws w v failed same stands is =
     let torn : State = state_after w.state ws in
     subst (Represents new) (sym is) (record {
+      valid = valid_broken w torn stands.valid (valid_after w.state ws stands.valid.state (subst (λ s. MayWriteAll s ws) (sym stands.state) failed.may));
       state = stands.state ∙ sym failed.state;
       hands = stands.hands ∙ sym (ap (λ (x : WorkersView). x.hands) same);
       waiting = λ k e. stands.waiting k (sym (ap (λ (x : WorkersView). is_among k x.waiting) same) ∙ e);
@@ -143,6 +195,7 @@ pub makes_failed : (old new : ClusterView) (ws : List Write) (e : Entry) (k : Ke
 makes_failed old new ws e k t stood failed same lost steps = record {
   stood = stood;
   steps = λ w stands. let here = steps w stands in ((here.0, tt), here.1);
+  valid = λ w stands. (stands.valid, (steps w stands).1.valid);
   later = subst (λ (c : KeeperView). old.keeper.faults ≤ c.faults) (sym same) failed.later;
   cause = λ _. subst (λ (c : KeeperView). Rose old.keeper.faults c.faults) (sym same) failed.rose;
   still = λ none. absurd (true≢false (sym lost ∙ (neither_lost (is_lost_to_fault e) false none).0));

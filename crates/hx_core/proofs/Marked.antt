@@ -2,12 +2,12 @@
 --     state_is           the state of a store is that which the marks are of
 --     but_by             marks but for one
 --     marks_within       marks that are made may be made
---     has_marked         the keys that wait then
+--     has_marked         keys were marked that may be
 --     covered_marked     no work is forgotten
-use Rattle.std.proofs.Common.{◌≡◌, Bool, true, false, cond, not, ◌&&◌, ◌||◌, List, [], ◌∷◌, Option, Some, None, IfSome, IfNone, filter, refl, sym, ap, ◌∙◌, subst, inl, inr, true≢false}
+use Rattle.std.proofs.Common.{◌≡◌, ◌≢◌, Bool, true, false, cond, not, ◌&&◌, ◌||◌, List, [], ◌∷◌, Option, Some, None, IfSome, IfNone, filter, refl, sym, ap, ◌∙◌, subst, inl, inr, true≢false}
 use Rattle.std.specs.Prelude.{◌⊎◌}
 use Rattle.std.specs.List.{AllByRecursion}
-use Rattle.std.proofs.lemmas.Bool.{or_cases, or_left, or_right, and_parts}
+use Rattle.std.proofs.lemmas.Bool.{or_cases, or_left, or_right}
 use Rattle.hx_model.specs.Covered.{IsCovered}
 use Rattle.hx_model.specs.Hands.{is_held}
 use Rattle.hx_model.specs.Keys.{same_key, is_among, may_mark}
@@ -78,20 +78,8 @@ but_by (Some own) new old some none = some
 pub marks_within : (s : State) (ws : List Write) (own : Option Key) → IsValid s → MayWriteAll s ws → IsRegular s ws → (k : Key) → is_among k (marks_but own (all_marks s ws)) ≡ true → may_mark s ws k ≡ true
 marks_within s ws own valid may regular k e = within s ws valid may regular k (among_but own k (all_marks s ws) e)
 
-pub has_marked : (s : State) (ws : List Write) (keys : List Key) (old new : WorkersView) → IsMarkedBy keys old new → ((k : Key) → is_among k keys ≡ true → may_mark s ws k ≡ true) → HasMarked s ws old new
-has_marked s ws keys old new marked may = record { hands = marked.hands; waiting = waiting; again = again }
-  where
-    either : (k : Key) (a b : Bool) → (a || (is_among k keys && b)) ≡ true → (a ≡ true) ⊎ (may_mark s ws k ≡ true)
-    either k a b e = elim (or_cases a (is_among k keys && b) e) [
-      | inl here ↦ inl here
-      | inr there ↦ inr (may k (and_parts (is_among k keys) b there).0)
-    ]
-
-    waiting : (k : Key) → is_among k new.waiting ≡ true → (is_among k old.waiting ≡ true) ⊎ (may_mark s ws k ≡ true)
-    waiting k e = either k (is_among k old.waiting) (not (is_held k old.hands)) (sym (marked.waiting k) ∙ e)
-
-    again : (k : Key) → is_among k new.again ≡ true → (is_among k old.again ≡ true) ⊎ (may_mark s ws k ≡ true)
-    again k e = either k (is_among k old.again) (is_held k old.hands) (sym (marked.again k) ∙ e)
+pub has_marked : (s : State) (ws : List Write) (keys : List Key) (old new : WorkersView) → ws ≢ [] → IsMarkedBy keys old new → ((k : Key) → is_among k keys ≡ true → may_mark s ws k ≡ true) → HasMarked s ws old new
+has_marked s ws keys old new some marked may = record { keys = keys; may = may; marked = marked; none = λ none. absurd (some none) }
 
 -- ---- no work is forgotten
 

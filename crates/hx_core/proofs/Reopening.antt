@@ -1,11 +1,12 @@
 -- The rows of a state tell the state.
 --     never_both        no rows are both undamaged and damaged
---     undamaged_rows    the rows of a valid state are undamaged, where their texts are UTF-8
+--     undamaged_rows    the rows of a valid state are undamaged
 --     same_objects      two valid states of the same rows have the same objects
+--     tells_state       and are one, under one configuration
 --     intact            a start on the rows of a valid state finds no damage
 --     same_state        a valid state of the rows that another one has is that one, under its own configuration
 use Rattle.std.proofs.Common.{◌≡◌, ◌≢◌, ◌<◌, ◌≤◌, ◌^◌, ℕ, zero, suc, true, false, cond, not, ◌||◌, ◌==◌, nat_lt, List, [], ◌∷◌, map, length, Option, Some, None, IfSome, is_some, Less, Equal, Greater, refl, sym, ap, subst, ◌∙◌, arith, true≢false}
-use Rattle.std.specs.Prelude.{option_map, option_and_then, IsUtf8, if◌then◌else◌, drop}
+use Rattle.std.specs.Prelude.{option_map, option_and_then, if◌then◌else◌, drop}
 use Rattle.std.specs.List.{AllByRecursion}
 use Rattle.std.specs.Cmp.{tied_itself}
 use Rattle.std.specs.Cmp.Lexicographic.{nat_list_cmp_total}
@@ -34,7 +35,7 @@ use Rattle.hx_model.proofs.Writes.{key_apart}
 use Rattle.hx_core.specs.Refinement.{kept_of}
 use Rattle.hx_core.specs.declared.start.StartFault.{StartFault}
 use Rattle.hx_core.specs.declared.start.StartFault.TheVariants.{KeeperFault, Damaged, NoMemory}
-use Rattle.hx_core.specs.Starting.{AreTexts, IfDamaged, has_home_row, IsSoundRow, IsUndamaged, given_rows, IsUnsoundNext, IsDamagedAt}
+use Rattle.hx_core.specs.Starting.{IfDamaged, has_home_row, IsSoundRow, IsUndamaged, given_rows, IsUnsoundNext, IsDamagedAt}
 use Rattle.hx_core.proofs.Behind.{is_behind, all_kept}
 use Rattle.hx_core.proofs.Loading.{key_behind}
 use Rattle.hx_core.proofs.Storing.{stored_keyed}
@@ -72,13 +73,6 @@ all_entries : (P : Entry → Type 0) (es : List Entry) → AllByRecursion P es �
 all_entries P [] all = subst (AllByRecursion P) (sym (entries-from_entries [] tt)) tt
 all_entries P (e ∷ es) all = subst (AllByRecursion P) (sym (entries-insert nat_list_cmp_total (from_entries {R = bytes_cmp} es) e.0 e.1)) (all_put P e.0 e.1 (entries (from_entries {R = bytes_cmp} es)) all.0 (all_entries P es all.1))
 
--- the entry is an object's, but for its text
-record IsEntryOf (held : Kept) (e : Entry) : Type 0 where
-  object : Object
-  stored : IsStored held.version object
-  row : stored_entry object ≡ e
-  home : has_home_row held.rows object.id ≡ true
-
 home_row : (s : State) (id : Id) → has_home s.objects id ≡ true → has_home_row (rows_of s) id ≡ true
 home_row s id home =
     elim (is_in_cluster id.kind) as (λ b. (b || is_some (option_and_then (object_at s.objects) (if b then None else Some (namespace_id id.ns)))) ≡ true → (b || is_some (get (rows_of s) (key_text (namespace_id id.ns)))) ≡ true) [
@@ -90,18 +84,14 @@ home_row s id home =
     by None is some = absurd (true≢false (sym some))
     by (Some y) is some = stored_contains (namespace_id id.ns) y s.objects is
 
-objects_entries : (s : State) (objects : Objects) → AllByRecursion (IsStored s.last) objects → AllByRecursion (λ (x : Object). has_home s.objects x.id ≡ true) objects → AllByRecursion (IsEntryOf (kept_of s)) (map stored_entry objects)
+objects_entries : (s : State) (objects : Objects) → AllByRecursion (IsStored s.last) objects → AllByRecursion (λ (x : Object). has_home s.objects x.id ≡ true) objects → AllByRecursion (IsSoundRow (kept_of s)) (map stored_entry objects)
 objects_entries s [] stored housed = tt
 objects_entries s (x ∷ objects) stored housed = (record { object = x; stored = stored.0; row = refl; home = home_row s x.id housed.0 }, objects_entries s objects stored.1 housed.1)
 
-sound_entries : (held : Kept) (es : List Entry) → AllByRecursion (IsEntryOf held) es → AllByRecursion (λ (e : Entry). IsUtf8 e.1.1) es → AllByRecursion (IsSoundRow held) es
-sound_entries held [] all texts = tt
-sound_entries held (e ∷ es) all texts = (record { object = all.0.object; stored = all.0.stored; text = texts.0; row = all.0.row; home = all.0.home }, sound_entries held es all.1 texts.1)
-
-pub undamaged_rows : (s : State) → IsValid s → AreTexts (kept_of s) → IsUndamaged (kept_of s)
-undamaged_rows s valid texts = record {
+pub undamaged_rows : (s : State) → IsValid s → IsUndamaged (kept_of s)
+undamaged_rows s valid = record {
   fits = fits s.last valid.fits;
-  sound = sound_entries (kept_of s) (entries (rows_of s)) (all_entries (IsEntryOf (kept_of s)) (map stored_entry s.objects) (objects_entries s s.objects valid.stored valid.housed)) texts;
+  sound = all_entries (IsSoundRow (kept_of s)) (map stored_entry s.objects) (objects_entries s s.objects valid.stored valid.housed);
 }
   where
     fits : (last : ℕ) → last ≤ greatest_version → (not (2 == 2) || nat_lt greatest_version last) ≡ false
@@ -152,18 +142,23 @@ module _ (s t : State) (a : IsValid s) (b : IsValid t) (last : s.last ≡ t.last
   pub same_objects : s.objects ≡ t.objects
   same_objects = same_rows s.objects t.objects a.in_order b.in_order same_at
 
+-- two valid states of the same rows are one
+pub tells_state : (s t : State) → IsValid s → IsValid t → s.config ≡ t.config → kept_of s ≡ kept_of t → s ≡ t
+tells_state s t a b configured same =
+    let last : s.last ≡ t.last = ap (λ (k : Kept). k.version) same in
+    let objects : s.objects ≡ t.objects = same_objects s t a b last (ap (λ (k : Kept). k.rows) same) in
+    λ i. record { objects = objects i; last = last i; config = configured i }
+
 pub same_state : (kept : Option Kept) (s t : State) (config : RunConfig) → t.config ≡ config → IsValid s → IsValid t → kept ≡ Some (kept_of s) → IfSome kept (λ held. held ≡ kept_of t) → ◌≡◌ {A = State} t (record s { config = config })
 same_state kept s t config configured a b is holds =
     let same : kept_of s ≡ kept_of t = subst (λ k. IfSome k (λ held. held ≡ kept_of t)) is holds in
-    let last : s.last ≡ t.last = ap (λ (k : Kept). k.version) same in
-    let objects : s.objects ≡ t.objects = same_objects s t a b last (ap (λ (k : Kept). k.rows) same) in
-    λ i. record { objects = sym objects i; last = sym last i; config = configured i }
+    tells_state t (record s { config = config }) b (record { in_order = a.in_order; stored = a.stored; housed = a.housed; fits = a.fits }) configured (sym same)
 
 -- a start on the rows of a valid state finds no damage
-never_damaged : (kept : Option Kept) (s : State) (row : ℕ) → IsValid s → kept ≡ Some (kept_of s) → AreTexts (kept_of s) → IfSome kept (λ held. IsDamagedAt held row) → ⊥
-never_damaged kept s row valid is texts damaged = never_both (kept_of s) row (undamaged_rows s valid texts) (subst (λ k. IfSome k (λ held. IsDamagedAt held row)) is damaged)
+never_damaged : (kept : Option Kept) (s : State) (row : ℕ) → IsValid s → kept ≡ Some (kept_of s) → IfSome kept (λ held. IsDamagedAt held row) → ⊥
+never_damaged kept s row valid is damaged = never_both (kept_of s) row (undamaged_rows s valid) (subst (λ k. IfSome k (λ held. IsDamagedAt held row)) is damaged)
 
-pub intact : (kept : Option Kept) (fault : StartFault) → IfDamaged fault (λ row. IfSome kept (λ held. IsDamagedAt held row)) → IfDamaged fault (λ row. (s : State) → IsValid s → kept ≡ Some (kept_of s) → AreTexts (kept_of s) → ⊥)
+pub intact : (kept : Option Kept) (fault : StartFault) → IfDamaged fault (λ row. IfSome kept (λ held. IsDamagedAt held row)) → IfDamaged fault (λ row. (s : State) → IsValid s → kept ≡ Some (kept_of s) → ⊥)
 intact kept KeeperFault damaged = tt
-intact kept (Damaged row) damaged = λ s valid is texts. never_damaged kept s row valid is texts damaged
+intact kept (Damaged row) damaged = λ s valid is. never_damaged kept s row valid is damaged
 intact kept NoMemory damaged = tt

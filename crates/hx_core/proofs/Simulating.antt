@@ -1,15 +1,15 @@
 -- Entries one after the other.
 --     Simulates-none, Simulates-then    no entries, and some after others
 --     HasWorld-after                    the cluster stands for a world afterwards
-use Rattle.std.proofs.Common.{◌≡◌, ◌≤◌, ℕ, Bool, true, false, [], ◌++◌, refl, sym, subst, ◌∙◌, inl, inr, arith, true≢false}
+use Rattle.std.proofs.Common.{◌≡◌, ◌≤◌, ℕ, Bool, true, false, [], ◌∷◌, ◌++◌, refl, sym, subst, ◌∙◌, inl, inr, arith, true≢false}
 use Rattle.std.specs.Prelude.{◌⊎◌, ◌||◌}
 use Rattle.hx_ports.specs.Causes.{Rose}
-use Rattle.hx_model.specs.Machine.{History, replay, loses_to_fault}
+use Rattle.hx_model.specs.Machine.{World, History, replay, loses_to_fault, world_after}
 use Rattle.hx_model.proofs.Histories.{IsHistory-append, replay-append, loses_to_fault-append}
-use Rattle.hx_core.specs.Refinement.{ClusterView, Represents, HasWorld, Simulates}
+use Rattle.hx_core.specs.Refinement.{AllValid, ClusterView, Represents, HasWorld, Simulates}
 
 pub Simulates-none : (c : ClusterView) → HasWorld c → Simulates c [] c
-Simulates-none c stood = record { stood = stood; steps = λ w stands. (tt, stands); later = omega arith; cause = λ e. absurd (true≢false (sym e)); still = λ e. refl; tells = refl; place = refl }
+Simulates-none c stood = record { stood = stood; steps = λ w stands. (tt, stands); valid = λ w stands. stands.valid; later = omega arith; cause = λ e. absurd (true≢false (sym e)); still = λ e. refl; tells = refl; place = refl }
 
 rose_before : (a b c : ℕ) → a ≤ b → Rose b c → Rose a c
 rose_before a b c le rose = omega arith
@@ -29,6 +29,11 @@ second_kept : (x y : Bool) → (x || y) ≡ false → y ≡ false
 second_kept true y e = absurd (true≢false e)
 second_kept false y e = e
 
+-- histories of valid worlds one after the other
+AllValid-append : (w : World) (h k : History) → AllValid w h → AllValid (replay w h) k → AllValid w (h ++ k)
+AllValid-append w [] k p q = q
+AllValid-append w (e ∷ h) k p q = (p.0, AllValid-append (world_after w e) h k p.1 q)
+
 pub HasWorld-after : (a b : ClusterView) (h : History) → Simulates a h b → HasWorld b
 HasWorld-after a b h p = (replay p.stood.0 h, (p.steps p.stood.0 p.stood.1).1)
 
@@ -41,6 +46,7 @@ Simulates-then a b c h k p q =
           let first = p.steps w stands in
           let second = q.steps (replay w h) first.1 in
           (IsHistory-append w h k first.0 second.0, subst (Represents c) (sym (replay-append w h k)) second.1);
+      valid = λ w stands. AllValid-append w h k (p.valid w stands) (q.valid (replay w h) (p.steps w stands).1);
       later = omega (arith, p.later, q.later);
       cause = λ e. elim (either_lost (loses_to_fault h) (loses_to_fault k) (sym lost ∙ e)) [
         | inl left ↦ rose_after a.keeper.faults b.keeper.faults c.keeper.faults q.later (p.cause left)

@@ -19,8 +19,9 @@ use Rattle.hx_core.specs.Refinement.{Represents, IsKeptOf, kept_of}
 use Rattle.hx_core.specs.Turns.{IsOf}
 use Rattle.hx_queue.specs.Workers.{WorkersView}
 
-pub stands_opening : (k : KeeperView) (s : State) (v : WorkersView) → IfSome k.kept (λ held. held ≡ kept_of s) → ((key : Key) → is_among key v.waiting ≡ wants s key) → v.hands ≡ [] → v.again ≡ [] → Represents (view_of s v k) (opening_world k.broken s)
-stands_opening k s v held waits none empty = record {
+pub stands_opening : (k : KeeperView) (s : State) (v : WorkersView) → IsValid s → IfSome k.kept (λ held. held ≡ kept_of s) → ((key : Key) → is_among key v.waiting ≡ wants s key) → v.hands ≡ [] → v.again ≡ [] → Represents (view_of s v k) (opening_world k.broken s)
+stands_opening k s v valid held waits none empty = record {
+  valid = record { state = valid; torn = tt };
   state = refl;
   hands = sym none;
   waiting = λ key e. sym (waits key) ∙ e;
@@ -50,6 +51,6 @@ sound_opening old new s v staged valid none same held waits free empty =
       held = λ _. now;
       covered = covered_opening s v waits;
       taken = subst (λ (hands : List Hand). AllByRecursion (IsOf s) hands) (sym free) tt;
-      world = (opening_world new.broken s, stands_opening new s v now waits free empty);
+      world = (opening_world new.broken s, stands_opening new s v valid now waits free empty);
       none = none;
     }

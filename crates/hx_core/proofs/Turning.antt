@@ -13,7 +13,7 @@
 --     drops                 a worker drops what it holds
 --     stands_back, stands_gone   the worlds where a hand is let go
 use Rattle.std.proofs.Common.{◌≡◌, ℕ, Bool, true, false, not, ◌&&◌, List, [], ◌∷◌, ◌++◌, Option, Some, None, IfSome, IfNone, refl, sym, ap, ◌∙◌, subst, inl, inr, true≢false}
-use Rattle.std.specs.Prelude.{IsSomeAnd, option_map, is_some}
+use Rattle.std.specs.Prelude.{IsSomeAnd, option_map, is_some, slice_get}
 use Rattle.std.proofs.lemmas.Bool.{or_cases, or_left, or_right, and_parts}
 use Rattle.hx_ports.specs.Views.{KeeperView}
 use Rattle.hx_model.specs.Covered.{IsCovered}
@@ -33,7 +33,8 @@ use Rattle.hx_core.specs.Refinement.{ClusterView, Represents, HasWorld, Simulate
 use Rattle.hx_core.specs.Turns.{IsInHand, IsOfKey, take_entry, take_key_entry}
 use Rattle.hx_queue.specs.Workers.{WorkersView, AreApart, IsLetGo}
 use Rattle.hx_core.specs.Inside.{view_of}
-use Rattle.hx_core.specs.Working.{IsGiven, IsGivenBy, IsJob, IsKept, IsReleased, IsSameKeeping, IsLet, IsTake, IsTakeOf}
+use Rattle.hx_core.specs.Queued.{IsFirst, IsLet, IsReleased, IsSameKeeping, IsTaking}
+use Rattle.hx_core.specs.Working.{IsGiven, IsGivenBy, IsJob, IsKept, IsNext, IsTake, IsTakeOf}
 use Rattle.hx_core.specs.declared.turns.Take.{Take}
 use Rattle.hx_core.specs.declared.turns.Take.TheVariants as take
 use Rattle.hx_core.proofs.Covering.{waits_each}
@@ -61,6 +62,7 @@ hand_stands worker s brief stands = λ i. record { worker = worker; key = brief.
 
 pub stands_taken : (old new : ClusterView) (w : World) (worker : ℕ) (k : Key) (brief : Brief) → Represents old w → IsJob worker k old brief new → is_among k old.workers.again ≡ false → Represents new (taken_by w worker k)
 stands_taken old new w worker k brief stands job free = record {
+  valid = record { state = stands.valid.state; torn = stands.valid.torn };
   state = stands.state ∙ sym job.same.state;
   hands = hands;
   waiting = waiting;
@@ -206,6 +208,35 @@ given_not_idle worker k old new answer given is = absurd (subst (λ a. IsGiven w
 kept_not_idle : {A : Type 0} (brief : Brief) (answer : Take) → IsKept brief answer → answer ≡ take.Idle → A
 kept_not_idle brief answer kept is = absurd (subst (IsKept brief) is kept)
 
+-- what a take leaves
+kept_leaves : (c : ClusterView) (worker : ℕ) (brief : Brief) (answer : Take) → IsKept brief answer → IsTaking worker c answer c
+kept_leaves c worker brief (take.Job other) never = absurd never
+kept_leaves c worker brief take.Idle never = refl
+kept_leaves c worker brief (take.Already other) same = refl
+kept_leaves c worker brief (take.Other holder) never = refl
+kept_leaves c worker brief take.NoMemory same = refl
+
+kept_first : (keys : List Key) (brief : Brief) (answer : Take) → IsKept brief answer → IsFirst keys answer
+kept_first keys brief (take.Job other) never = absurd never
+kept_first keys brief take.Idle never = tt
+kept_first keys brief (take.Already other) same = tt
+kept_first keys brief (take.Other holder) never = tt
+kept_first keys brief take.NoMemory same = tt
+
+given_leaves : (old new : ClusterView) (worker : ℕ) (k : Key) (answer : Take) → IsGiven worker k old answer new → IsTaking worker old answer new
+given_leaves old new worker k (take.Job brief) job = record { same = job.same; taken = job.taken }
+given_leaves old new worker k take.Idle never = absurd never
+given_leaves old new worker k (take.Already brief) never = absurd never
+given_leaves old new worker k (take.Other holder) never = absurd never
+given_leaves old new worker k take.NoMemory same = same
+
+given_first : (old new : ClusterView) (worker : ℕ) (k : Key) (answer : Take) → slice_get old.workers.waiting 0 ≡ Some k → IsGiven worker k old answer new → IsFirst old.workers.waiting answer
+given_first old new worker k (take.Job brief) first job = first ∙ ap Some (sym job.key)
+given_first old new worker k take.Idle first never = tt
+given_first old new worker k (take.Already brief) first never = tt
+given_first old new worker k (take.Other holder) first never = tt
+given_first old new worker k take.NoMemory first same = tt
+
 -- a worker holds a brief already
 pub take_kept : (c : ClusterView) (worker : ℕ) (brief : Brief) (answer : Take) → HasWorld c → hand_of worker c.workers.hands ≡ Some (hand_by worker brief) → IsKept brief answer → IsTake worker c answer c
 take_kept c worker brief answer stood at kept = record {
@@ -213,21 +244,24 @@ take_kept c worker brief answer stood at kept = record {
   hand = keeps_hand c.workers.hands worker brief answer at kept;
   idle = λ is. kept_not_idle brief answer kept is;
   unnamed = λ holder is. subst (IsKept brief) is kept;
+  leaves = kept_leaves c worker brief answer kept;
+  first = kept_first c.workers.waiting brief answer kept;
 }
 
 pub take_idle : (c : ClusterView) (worker : ℕ) → HasWorld c → IsCovered c.state c.workers.hands c.workers.waiting c.workers.again → AreApart c.workers → c.workers.waiting ≡ [] → hand_of worker c.workers.hands ≡ None → IsTake worker c take.Idle c
-take_idle c worker stood covered apart none empty = record { simulates = idles c worker stood covered apart none empty; hand = tt; idle = λ _. (none, empty); unnamed = λ holder is. let h : take.Idle ≡ take.Other holder = is in cc }
+take_idle c worker stood covered apart none empty = record { simulates = idles c worker stood covered apart none empty; hand = tt; idle = λ _. (none, empty); unnamed = λ holder is. let h : take.Idle ≡ take.Other holder = is in cc; leaves = refl; first = tt }
 
 pub take_lost : (c : ClusterView) (worker : ℕ) → HasWorld c → IsTake worker c take.NoMemory c
-take_lost c worker stood = record { simulates = loses c c worker stood refl; hand = tt; idle = λ is. absurd (let h : take.NoMemory ≡ take.Idle = is in cc); unnamed = λ holder is. let h : take.NoMemory ≡ take.Other holder = is in cc }
+take_lost c worker stood = record { simulates = loses c c worker stood refl; hand = tt; idle = λ is. absurd (let h : take.NoMemory ≡ take.Idle = is in cc); unnamed = λ holder is. let h : take.NoMemory ≡ take.Other holder = is in cc; leaves = refl; first = tt }
 
-pub take_given : (old new : ClusterView) (worker : ℕ) (k : Key) (answer : Take) → HasWorld old → hand_of worker old.workers.hands ≡ None → is_held k old.workers.hands ≡ false → is_among k old.workers.waiting ≡ true → is_among k old.workers.again ≡ false
-    → IsGiven worker k old answer new → IsTake worker old answer new
-take_given old new worker k answer stood none free waits again given = record {
-  simulates = gives old new worker k answer stood none free waits again given;
+pub take_given : (old new : ClusterView) (worker : ℕ) (k : Key) (answer : Take) → HasWorld old → hand_of worker old.workers.hands ≡ None → IsNext old.workers k → IsGiven worker k old answer new → IsTake worker old answer new
+take_given old new worker k answer stood none next given = record {
+  simulates = gives old new worker k answer stood none next.free next.waits next.again given;
   hand = in_hand old new worker k answer none given;
   idle = λ is. given_not_idle worker k old new answer given is;
   unnamed = λ holder is. subst (λ a. IsGiven worker k old a new) is given;
+  leaves = given_leaves old new worker k answer given;
+  first = given_first old new worker k answer next.first given;
 }
 
 kept_of_key : (k : Key) (brief : Brief) (answer : Take) → IsKept brief answer → IsOfKey k answer
@@ -250,10 +284,11 @@ named_kept c worker k brief answer stood at kept = record {
   hand = keeps_hand c.workers.hands worker brief answer at kept;
   key = kept_of_key k brief answer kept;
   busy = λ is. kept_not_idle brief answer kept is;
+  leaves = kept_leaves c worker brief answer kept;
 }
 
 pub named_met : (c : ClusterView) (worker : ℕ) (k : Key) (holder : ℕ) → HasWorld c → hand_of worker c.workers.hands ≡ None → IsSomeAnd (hand_of holder c.workers.hands) (λ hand. hand.key ≡ k) → IsTakeOf worker k c (take.Other holder) c
-named_met c worker k holder stood none held = record { simulates = meets c worker k holder stood none held; hand = tt; key = tt; busy = λ is. let h : take.Other holder ≡ take.Idle = is in cc }
+named_met c worker k holder stood none held = record { simulates = meets c worker k holder stood none held; hand = tt; key = tt; busy = λ is. let h : take.Other holder ≡ take.Idle = is in cc; leaves = refl }
 
 pub named_given : (old new : ClusterView) (worker : ℕ) (k : Key) (answer : Take) → HasWorld old → hand_of worker old.workers.hands ≡ None → is_held k old.workers.hands ≡ false → is_among k old.workers.again ≡ false → IsGiven worker k old answer new → IsTakeOf worker k old answer new
 named_given old new worker k answer stood none free again given = record {
@@ -261,6 +296,7 @@ named_given old new worker k answer stood none free again given = record {
   hand = in_hand old new worker k answer none given;
   key = given_key worker k old new answer given;
   busy = λ is. given_not_idle worker k old new answer given is;
+  leaves = given_leaves old new worker k answer given;
 }
 
 -- ---- hands that are let go
@@ -268,6 +304,7 @@ named_given old new worker k answer stood none free again given = record {
 -- its key may wait again
 pub stands_back : (old new : ClusterView) (w : World) (worker : ℕ) (hand : Hand) → Represents old w → IsSameKeeping old new → IsLetGo worker hand.key true old.workers new.workers → Represents new (given_back w (Some hand) worker)
 stands_back old new w worker hand stands same gone = record {
+  valid = record { state = stands.valid.state; torn = stands.valid.torn };
   state = stands.state ∙ sym same.state;
   hands = ap (without_hand worker) stands.hands ∙ sym gone.hands;
   waiting = λ other e. elim (or_cases (is_among other old.workers.waiting) (same_key other hand.key && true) (sym (gone.waiting other) ∙ e)) [
@@ -282,6 +319,7 @@ stands_back old new w worker hand stands same gone = record {
 -- its key waits only where it was marked since
 pub stands_gone : (old new : ClusterView) (w : World) (worker : ℕ) (hand : Hand) → Represents old w → IsSameKeeping old new → IsLetGo worker hand.key false old.workers new.workers → Represents new (let_go w worker)
 stands_gone old new w worker hand stands same gone = record {
+  valid = record { state = stands.valid.state; torn = stands.valid.torn };
   state = stands.state ∙ sym same.state;
   hands = ap (without_hand worker) stands.hands ∙ sym gone.hands;
   waiting = λ other e. elim (or_cases (is_among other old.workers.waiting) (same_key other hand.key && is_among hand.key old.workers.again) (sym (gone.waiting other) ∙ e)) [

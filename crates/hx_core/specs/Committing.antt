@@ -7,7 +7,7 @@
 --     IsOrderly          the writes are those of a request or of a key
 --     IsPrepared         the state may make the writes, and the batch is theirs
 --     marks_but          the keys that are marked, but for one
---     HasMarked          keys were marked, of those that the writes may make wait
+--     HasMarked          keys were marked, each of which the writes may make wait
 use Rattle.std.specs.Prelude.{◌≡◌, ◌≢◌, ◌≤◌, ◌+◌, ◌⊎◌, true, false, not, is_some, List, [], filter, Option, Some, None, IfSome, option_map}
 use Rattle.std.specs.List.{AllByRecursion}
 use Rattle.hx_object.specs.Kinds.{is_in_cluster}
@@ -26,20 +26,22 @@ use Rattle.hx_model.specs.declared.key.Write.{Write}
 use Rattle.hx_model.specs.declared.key.Write.TheVariants.{Put, Cut}
 use Rattle.hx_core.specs.Refinement.{kept_of}
 use Rattle.hx_core.specs.Rows.{batch_of}
-use Rattle.hx_queue.specs.Workers.{WorkersView}
+use Rattle.hx_queue.specs.Workers.{WorkersView, IsMarkedBy}
 
 -- what the keeper shows once it holds the state, where it tells what it holds
 abbrev pub holding : State → KeeperView → KeeperView
 holding s keeper = record keeper { kept = option_map (λ _. kept_of s) keeper.kept }
 
--- the writes are made, and the keeper holds them
+-- the writes, which may be made, are made, and the keeper holds them
 pub record HasLanded (old : State) (before : KeeperView) (writes : List Write) (new : State) (after : KeeperView) : Type 0 where
+  pub may : MayWriteAll old writes
   pub state : new ≡ state_after old writes
   pub keeper : after ≡ holding new before
   pub whole : before.broken ≡ false
 
--- the keeper failed and is broken. It holds what it held or, where it wasn't broken before, that with the writes
+-- the keeper failed and is broken. It holds what it held or, where it wasn't broken before, that with the writes, which may be made
 pub record HasFailed (old : State) (before : KeeperView) (writes : List Write) (new : State) (after : KeeperView) : Type 0 where
+  pub may : MayWriteAll old writes
   pub state : new ≡ old
   pub place : after.place ≡ before.place
   pub broken : after.broken ≡ true
@@ -76,8 +78,9 @@ abbrev pub marks_but : Option Key → List Key → List Key
 marks_but None keys = keys
 marks_but (Some own) keys = filter (λ k. not (same_key own k)) keys
 
--- keys were marked, of those that the writes may make wait. What is held stays
+-- keys were marked, each of which the writes may make wait. Without writes nothing changes
 pub record HasMarked (s : State) (writes : List Write) (old new : WorkersView) : Type 0 where
-  pub hands : new.hands ≡ old.hands
-  pub waiting : (k : Key) → is_among k new.waiting ≡ true → (is_among k old.waiting ≡ true) ⊎ (may_mark s writes k ≡ true)
-  pub again : (k : Key) → is_among k new.again ≡ true → (is_among k old.again ≡ true) ⊎ (may_mark s writes k ≡ true)
+  pub keys : List Key
+  pub may : (k : Key) → is_among k keys ≡ true → may_mark s writes k ≡ true
+  pub marked : IsMarkedBy keys old new
+  pub none : writes ≡ [] → new ≡ old

@@ -6,6 +6,7 @@ pub mod Starting
 pub mod Loading
 pub mod Reaching
 pub mod Inside
+pub mod Queued
 pub mod Working
 pub mod Settling
 pub mod Listing

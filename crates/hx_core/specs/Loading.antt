@@ -40,7 +40,6 @@ HasRowBehind key held = (row : Row) × (Some row ≡ row_after key held)
 -- the row is that of an object which the state may take: one that may be stored, and whose namespace is there
 pub record IsTakeable (s : State) (row : Row) (x : Object) : Type 0 where
   pub stored : IsStored s.last x
-  pub text : IsUtf8 row.body
   pub entry : stored_entry x ≡ entry_of row
   pub home : has_home s.objects x.id ≡ true
 

@@ -2,10 +2,12 @@
 --     ClusterView            a cluster's state, what workers hold and which keys wait, and what its keeper shows
 --     kept_of s              what a keeper holds of a state
 --     IsKeptOf w held        what the keeper may hold in a world: its state or, once it broke, that with the write at which it broke
+--     IsValidWorld w         its state is valid, and the one that the store may hold after a fault
+--     AllValid w es          so is each world of a history
 --     Represents c w         the cluster stands for the world
 --     HasWorld c             there is such a world
 --     Simulates old es new   the calls that led from one view to the other made these entries
-use Rattle.std.specs.Prelude.{◌≡◌, ◌≤◌, ◌⊎◌, ℕ, Bool, true, false, List, Option, IfSome, IsSomeAnd, is_some, refl}
+use Rattle.std.specs.Prelude.{◌≡◌, ◌≤◌, ◌⊎◌, ℕ, Bool, true, false, List, [], ◌∷◌, Option, IfSome, IsSomeAnd, is_some, refl}
 use Rattle.std.specs.Coded.{Coded, code_by, coded×, coded_list, coded_ℕ, coded_bool, coded_option}
 use Rattle.std.specs.FinMap as map
 use Rattle.hx_object.specs.declared.object.Object.{Object}
@@ -17,7 +19,8 @@ use Rattle.hx_model.specs.State.{State}
 use Rattle.hx_model.specs.contracts.config.RunConfig as run_config
 use Rattle.hx_model.specs.declared.config.RunConfig.{RunConfig}
 use Rattle.hx_model.specs.Texts.{rows_of}
-use Rattle.hx_model.specs.Machine.{World, History, IsHistory, replay, loses_to_fault}
+use Rattle.hx_model.specs.Machine.{World, History, IsHistory, replay, loses_to_fault, world_after}
+use Rattle.hx_model.specs.Valid.{IsValid}
 use Rattle.hx_core.specs.Rows.{current_schema}
 use Rattle.hx_queue.specs.Workers.{WorkersView, workers_code}
 use Rattle.hx_model.specs.Keys.{is_among}
@@ -37,8 +40,19 @@ kept_of s = record { schema = current_schema; version = s.last; rows = rows_of s
 abbrev pub IsKeptOf : World → Kept → Type 0
 IsKeptOf w held = (held ≡ kept_of w.state) ⊎ ((w.broken ≡ true) × IsSomeAnd w.torn (λ s. held ≡ kept_of s))
 
--- The cluster stands for the world: it has its state and its hands, and its keeper holds what it may. What waits in it, or was marked while it was held, may wait in the world
+-- the state is valid, and the one that the store may hold after a fault
+pub record IsValidWorld (w : World) : Type 0 where
+  pub state : IsValid w.state
+  pub torn : IfSome w.torn IsValid
+
+-- so is each world of a history, from the first to the last
+abbrev pub AllValid : World → History → Type 0
+AllValid w [] = IsValidWorld w
+AllValid w (e ∷ es) = IsValidWorld w × AllValid (world_after w e) es
+
+-- The cluster stands for the world, which is valid: it has its state and its hands, and its keeper holds what it may. What waits in it, or was marked while it was held, may wait in the world
 pub record Represents (c : ClusterView) (w : World) : Type 0 where
+  pub valid : IsValidWorld w
   pub state : w.state ≡ c.state
   pub hands : w.hands ≡ c.workers.hands
   pub waiting : (k : Key) → is_among k c.workers.waiting ≡ true → w.marked k ≡ true
@@ -50,11 +64,12 @@ pub record Represents (c : ClusterView) (w : World) : Type 0 where
 abbrev pub HasWorld : ClusterView → Type 0
 HasWorld c = (w : World) × Represents c w
 
--- The calls that led from one view to another made these entries: they are legal, one after the other, in every world that the cluster stood for, and it then stands for the world that they leave. There is such a world.
+-- The calls that led from one view to another made these entries: they are legal, one after the other, in every world that the cluster stood for, and it then stands for the world that they leave. There is such a world, and each world on the way is valid.
 -- The keeper's count of faults rose where an entry was lost to a fault, and stayed where none was. The keeper stayed at its place, and one that told what it holds still tells it.
 pub record Simulates (old : ClusterView) (entries : History) (new : ClusterView) : Type 0 where
   pub stood : HasWorld old
   pub steps : (w : World) → Represents old w → IsHistory w entries × Represents new (replay w entries)
+  pub valid : (w : World) → Represents old w → AllValid w entries
   pub later : old.keeper.faults ≤ new.keeper.faults
   pub cause : loses_to_fault entries ≡ true → Rose old.keeper.faults new.keeper.faults
   pub still : loses_to_fault entries ≡ false → new.keeper.faults ≡ old.keeper.faults

@@ -2,13 +2,14 @@
 --     is_misfit                  a schema, or a last version, that no cluster has
 --     IsSoundRow held e          the row is one that a state with these rows may have
 --     IsUndamaged held           each row is
---     AreTexts held              the bodies of all rows are UTF-8, as a keeper is given them
 --     rows_behind k held         the rows behind a key, as a keeper gives them one behind the other
 --     IsDamagedAt held row       the first damaged row, counted from 1, or 0 for what the keeper says of itself
 --     IfDamaged                  a fact for a damaged row
 --     IsUntouched                a keeper was asked, and holds what it held
+--     AreRowsUndamaged           the rows of a valid state are undamaged
+--     RowsTellState              they are those of no other one
 -- A row that only a later version of the program can read is damaged, too.
-use Rattle.std.specs.Prelude.{◌≡◌, ◌≤◌, ◌<◌, ℕ, zero, suc, Bool, true, false, not, ◌||◌, ◌==◌, nat_lt, List, [], ◌∷◌, take, drop, filter, IsUtf8}
+use Rattle.std.specs.Prelude.{◌≡◌, ◌≤◌, ◌<◌, ℕ, zero, suc, Bool, true, false, not, ◌||◌, ◌==◌, nat_lt, List, [], ◌∷◌, take, drop, filter}
 use Rattle.std.specs.List.{AllByRecursion}
 use Rattle.std.specs.Ordering.{is_lt}
 use Rattle.std.specs.FinMap as map
@@ -20,11 +21,12 @@ use Rattle.hx_ports.specs.Keeping.{Kept, Rows, meta_of, greatest_version}
 use Rattle.hx_ports.specs.Rows.{Entry}
 use Rattle.hx_ports.specs.Views.{KeeperView, HoldsOn}
 use Rattle.hx_ports.specs.declared.keeper.Meta.{Meta}
-use Rattle.hx_model.specs.State.{namespace_id}
+use Rattle.hx_model.specs.State.{State, namespace_id}
 use Rattle.hx_model.specs.Texts.{key_text, stored_entry}
-use Rattle.hx_model.specs.Valid.{IsStored}
+use Rattle.hx_model.specs.Valid.{IsStored, IsValid}
 use Rattle.hx_core.specs.declared.start.StartFault.{StartFault}
 use Rattle.hx_core.specs.declared.start.StartFault.TheVariants.{KeeperFault, Damaged, NoMemory}
+use Rattle.hx_core.specs.Refinement.{kept_of}
 use Rattle.hx_core.specs.Rows.{current_schema}
 
 -- ---- what is kept
@@ -37,11 +39,10 @@ is_misfit meta = not (meta.schema == current_schema) || nat_lt greatest_version 
 abbrev pub has_home_row : Rows → Id → Bool
 has_home_row rows id = is_in_cluster id.kind || map.contains_key rows (key_text (namespace_id id.ns))
 
--- The row of an object that may be stored: its text is UTF-8, its version was given out, and its namespace has a row
+-- The row of an object that may be stored: its version was given out, and its namespace has a row
 pub record IsSoundRow (held : Kept) (e : Entry) : Type 0 where
   pub object : Object
   pub stored : IsStored held.version object
-  pub text : IsUtf8 e.1.1
   pub row : stored_entry object ≡ e
   pub home : has_home_row held.rows object.id ≡ true
 
@@ -49,10 +50,6 @@ pub record IsSoundRow (held : Kept) (e : Entry) : Type 0 where
 pub record IsUndamaged (held : Kept) : Type 0 where
   pub fits : is_misfit (meta_of held) ≡ false
   pub sound : AllByRecursion (IsSoundRow held) (map.entries held.rows)
-
--- the bodies of all rows are UTF-8
-abbrev pub AreTexts : Kept → Type 0
-AreTexts held = AllByRecursion (λ (e : Entry). IsUtf8 e.1.1) (map.entries held.rows)
 
 -- ---- damage
 
@@ -92,3 +89,13 @@ IfDamaged NoMemory P = Unit {0}
 pub record IsUntouched (old new : KeeperView) : Type 0 where
   pub same : HoldsOn old new
   pub later : old.faults ≤ new.faults
+
+-- ---- the rows of a state
+
+-- the rows of a valid state are undamaged
+abbrev pub AreRowsUndamaged : Type 0
+AreRowsUndamaged = (s : State) → IsValid s → IsUndamaged (kept_of s)
+
+-- two valid states of the same rows are one, under one configuration
+abbrev pub RowsTellState : Type 0
+RowsTellState = (s t : State) → IsValid s → IsValid t → s.config ≡ t.config → kept_of s ≡ kept_of t → s ≡ t

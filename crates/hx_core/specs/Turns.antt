@@ -5,6 +5,11 @@
 --     IsInHand, IsOfKey     the worker has what it took;  it is the key that was named
 --     IsPlanOf              a plan is of what a worker holds, or the worker holds nothing
 --     turns_entries, end_entries      the entries of a settle, by its trace and its end
+--     entries_of             those of a turn of a settle, or of its end where there is none
+--     loss_in, loss_of      how a turn that was lost ends a settle;  how the last one does
+--     LoseLast              no turn but the last was lost
+--     IfOver, IsOver        a fact for a settle that makes no turn more;  why there is none, while it may make one
+--     IsLeft                how it ends that way, by how many keys wait and are held
 --     IsSettleEnd           when a settle ends so
 use Rattle.std.specs.Prelude.{◌≡◌, ◌≢◌, ◌≤◌, ◌⊎◌, ℕ, true, false, List, [], ◌∷◌, flat_map, length, Option, Some, None, IfSome}
 use Rattle.hx_object.specs.declared.object.Id.{Id}
@@ -24,6 +29,8 @@ use Rattle.hx_core.specs.declared.turns.Settle.{Settle}
 use Rattle.hx_core.specs.declared.turns.Settle.TheVariants as settled
 use Rattle.hx_core.specs.declared.turns.Take.{Take}
 use Rattle.hx_core.specs.declared.turns.Take.TheVariants as take
+use Rattle.hx_core.specs.declared.turns.Turn.{Turn}
+use Rattle.hx_core.specs.declared.turns.Turn.TheVariants as turn
 use Rattle.hx_core.specs.declared.turns.Turned.{Turned}
 use Rattle.hx_queue.specs.Workers.{WorkersView}
 
@@ -97,16 +104,58 @@ end_entries settled.Spent = []
 end_entries settled.Fault = []
 end_entries settled.NoMemory = LostTake 0 ∷ []
 
--- what the last turn ended with
-abbrev pub last_end : List Turned → Option Finish
-last_end [] = None
-last_end (turned ∷ []) = Some turned.end
-last_end (turned ∷ next ∷ turns) = last_end (next ∷ turns)
+-- of what a settle came to where it was to make a turn
+abbrev pub entries_of : Turn → History
+entries_of (turn.Made turned) = turn_entries turned
+entries_of (turn.Over end) = end_entries end
 
--- the end of a settle of at most so many turns, by the turns that it made and by what waits then
-abbrev pub IsSettleEnd : ℕ → List Turned → WorkersView → Settle → Type 0
-IsSettleEnd most turns v settled.Settled = (v.waiting ≡ []) × (v.hands ≡ [])
-IsSettleEnd most turns v (settled.Unsettled waiting held) = (waiting ≡ length v.waiting) × (held ≡ length v.hands) × (((length turns ≡ most) × (v.waiting ≢ [])) ⊎ ((v.waiting ≡ []) × (v.hands ≢ [])))
-IsSettleEnd most turns v settled.Spent = last_end turns ≡ Some ending.Spent
-IsSettleEnd most turns v settled.Fault = last_end turns ≡ Some ending.Fault
-IsSettleEnd most turns v settled.NoMemory = Unit {0}
+-- how a turn that was lost ends a settle
+abbrev pub loss_in : Finish → Option Settle
+loss_in ending.Spent = Some settled.Spent
+loss_in ending.Fault = Some settled.Fault
+loss_in ending.NoMemory = Some settled.NoMemory
+loss_in _ = None
+
+-- how the last turn does, where it was lost
+abbrev pub loss_of : List Turned → Option Settle
+loss_of [] = None
+loss_of (turned ∷ []) = loss_in turned.end
+loss_of (turned ∷ next ∷ turns) = loss_of (next ∷ turns)
+
+-- no turn but the last was lost
+abbrev pub LoseLast : List Turned → Type 0
+LoseLast [] = Unit {0}
+LoseLast (turned ∷ []) = Unit {0}
+LoseLast (turned ∷ next ∷ turns) = (loss_in turned.end ≡ None) × LoseLast (next ∷ turns)
+
+-- a fact for a settle that makes no turn more
+abbrev pub IfOver : Turn → (Settle → Type 0) → Type 0
+IfOver (turn.Made turned) P = Unit {0}
+IfOver (turn.Over end) P = P end
+
+-- why it makes none, while it may make one: no key waits, or memory is wanting
+abbrev pub IsOver : WorkersView → Settle → Type 0
+IsOver v settled.Settled = (v.waiting ≡ []) × (v.hands ≡ [])
+IsOver v (settled.Unsettled waiting held) = (waiting ≡ length v.waiting) × (held ≡ length v.hands) × (v.waiting ≡ []) × (v.hands ≢ [])
+IsOver v settled.NoMemory = Unit {0}
+IsOver v _ = ⊥
+
+-- how it ends that makes no turn more, by how many keys wait and are held
+abbrev pub IsLeft : WorkersView → Settle → Type 0
+IsLeft v settled.Settled = (v.waiting ≡ []) × (v.hands ≡ [])
+IsLeft v (settled.Unsettled waiting held) = (waiting ≡ length v.waiting) × (held ≡ length v.hands) × ((v.waiting ≢ []) ⊎ ((v.waiting ≡ []) × (v.hands ≢ [])))
+IsLeft v _ = ⊥
+
+-- A settle of at most so many turns ends by its last turn, where that was lost. Else it ends where no key waits or is held; or the turns are used up and keys wait, or none waits and some are held; or for want of memory
+abbrev pub EndsBy : Option Settle → ℕ → List Turned → WorkersView → Settle → Type 0
+EndsBy (Some loss) most turns v end = end ≡ loss
+EndsBy None most turns v settled.Settled = (v.waiting ≡ []) × (v.hands ≡ [])
+EndsBy None most turns v (settled.Unsettled waiting held) = (waiting ≡ length v.waiting) × (held ≡ length v.hands) × (((length turns ≡ most) × (v.waiting ≢ [])) ⊎ ((v.waiting ≡ []) × (v.hands ≢ [])))
+EndsBy None most turns v settled.NoMemory = Unit {0}
+EndsBy None most turns v _ = ⊥
+
+-- the end of a settle, by the turns that it made and by what waits then
+pub record IsSettleEnd (most : ℕ) (turns : List Turned) (v : WorkersView) (end : Settle) : Type 0 where
+  pub few : length turns ≤ most
+  pub whole : LoseLast turns
+  pub ends : EndsBy (loss_of turns) most turns v end

@@ -1,20 +1,20 @@
 -- What the parts of a worker's turn leave of a cluster.
---     IsSameKeeping old new       the state and the keeper stay
---     IsNext v k                  a key waits, and nobody holds it
+--     IsNext v k                  a key has waited longest, and nobody holds it
 --     IsGiven worker k old take new    a worker was given a key that nobody holds, or no memory was left
 --     IsTake, IsTakeOf            what takes do
 --     IsDone s hand               a hand whose key needs no turn more: it isn't up to date, or its key wants nothing
---     IsLet, IsReleased           a worker lets go what it holds
+--     IsFinish                    what the end of a turn does
 --     IsTried hand write old end new   a hand's write was made, or nothing was
 --     is_written                  a turn ended with its write
 --     IsKept                      what a worker is answered that holds a brief already
 --     chain_in, sums_in           the chain of facts that have one;  the sums of those that have some
 --     is_removal                  the key of a removal: once its write is made it may want the next one
-use Rattle.std.specs.Prelude.{◌≡◌, ◌<◌, ◌+◌, ℕ, Bool, true, false, List, [], ◌∷◌, Option, Some, None}
+use Rattle.std.specs.Prelude.{◌≡◌, ◌<◌, ◌+◌, ℕ, Bool, true, false, List, [], ◌∷◌, Option, Some, None, slice_get}
 use Rattle.hx_model.specs.Hands.{Hand, hand_of, is_held, are_met, may_write, versioned}
 use Rattle.hx_model.specs.Keys.{is_among}
 use Rattle.hx_model.specs.Covered.{IsUpToDate}
 use Rattle.hx_model.specs.Limits.{greatest_version}
+use Rattle.hx_model.specs.Machine.{Finished}
 use Rattle.hx_model.specs.State.{State}
 use Rattle.hx_model.specs.Wanted.{wanted_write}
 use Rattle.hx_model.specs.declared.key.Finish.{Finish}
@@ -27,21 +27,18 @@ use Rattle.hx_rules.specs.declared.brief.Brief.{Brief}
 use Rattle.hx_rules.specs.declared.brief.Facts.{Facts}
 use Rattle.hx_rules.specs.declared.brief.Facts.TheVariants as facts
 use Rattle.hx_core.specs.Committing.{HasLanded, HasFailed, HasMarked}
+use Rattle.hx_core.specs.Queued.{IsEnding, IsFirst, IsSameKeeping, IsTaking}
 use Rattle.hx_core.specs.Refinement.{ClusterView, Simulates}
 use Rattle.hx_core.specs.Turns.{IsInHand, IsOfKey, take_entry, take_key_entry}
-use Rattle.hx_queue.specs.Workers.{WorkersView, IsTakenBy, IsLetGo}
+use Rattle.hx_queue.specs.Workers.{WorkersView, IsTakenBy}
 use Rattle.hx_core.specs.declared.turns.Take.{Take}
 use Rattle.hx_core.specs.declared.turns.Take.TheVariants as take
 
--- the state and the keeper stay
-pub record IsSameKeeping (old new : ClusterView) : Type 0 where
-  pub state : new.state ≡ old.state
-  pub keeper : new.keeper ≡ old.keeper
-
 -- ---- takes
 
--- a key waits, nobody holds it, and it isn't marked again
+-- a key has waited longest, nobody holds it, and it isn't marked again
 pub record IsNext (v : WorkersView) (k : Key) : Type 0 where
+  pub first : slice_get v.waiting 0 ≡ Some k
   pub waits : is_among k v.waiting ≡ true
   pub free : is_held k v.hands ≡ false
   pub again : is_among k v.again ≡ false
@@ -72,6 +69,8 @@ pub record IsTake (worker : ℕ) (old : ClusterView) (answer : Take) (new : Clus
   pub hand : IsInHand new.workers.hands worker answer
   pub idle : answer ≡ take.Idle → (old.workers.waiting ≡ []) × (hand_of worker old.workers.hands ≡ None)
   pub unnamed : (holder : ℕ) → answer ≡ take.Other holder → ⊥
+  pub leaves : IsTaking worker old answer new
+  pub first : IsFirst old.workers.waiting answer
 
 -- and one whose line names a key
 pub record IsTakeOf (worker : ℕ) (k : Key) (old : ClusterView) (answer : Take) (new : ClusterView) : Type 0 where
@@ -79,6 +78,7 @@ pub record IsTakeOf (worker : ℕ) (k : Key) (old : ClusterView) (answer : Take)
   pub hand : IsInHand new.workers.hands worker answer
   pub key : IsOfKey k answer
   pub busy : answer ≡ take.Idle → ⊥
+  pub leaves : IsTaking worker old answer new
 
 -- ---- ends
 
@@ -86,14 +86,11 @@ pub record IsTakeOf (worker : ℕ) (k : Key) (old : ClusterView) (answer : Take)
 abbrev pub IsDone : State → Hand → Type 0
 IsDone s hand = IsUpToDate s hand → wanted_write s hand.key ≡ None
 
--- a worker lets go what it holds, if anything
-abbrev pub IsLet : ℕ → Bool → Option Hand → WorkersView → WorkersView → Type 0
-IsLet worker waits None old new = new ≡ old
-IsLet worker waits (Some hand) old new = IsLetGo worker hand.key waits old new
-
-pub record IsReleased (worker : ℕ) (waits : Bool) (old new : ClusterView) : Type 0 where
-  pub same : IsSameKeeping old new
-  pub workers : IsLet worker waits (hand_of worker old.workers.hands) old.workers new.workers
+-- what the end of a worker's turn does
+pub record IsFinish (worker : ℕ) (old : ClusterView) (end : Finish) (new : ClusterView) : Type 0 where
+  pub simulates : Simulates old (Finished worker end ∷ []) new
+  pub leaves : IsEnding worker old end new
+  pub empty : hand_of worker new.workers.hands ≡ None
 
 -- the write landed, and keys were marked
 pub record IsWritten (hand : Hand) (write : Write) (old : ClusterView) (version : ℕ) (new : ClusterView) : Type 0 where

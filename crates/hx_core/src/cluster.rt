@@ -2,6 +2,7 @@
 ghost use Rattle.std.specs.Prelude.{◌≡◌, ◌≢◌, [], ◌∷◌, None, Some, IfOk, IfErr, IfSome, IsSome, OnOk, OnErr, IsErrOf, option_copied};
 ghost use Rattle.hx_ports.specs.Causes.{Rose};
 ghost use Rattle.hx_model.specs.Answers.{Mutates};
+ghost use Rattle.hx_model.specs.Covered.{IsCovered};
 ghost use Rattle.hx_model.specs.Keys.{is_among};
 ghost use Rattle.hx_model.specs.Machine.{opening_world, wants};
 ghost use Rattle.hx_model.specs.Requests.{request_entry};
@@ -15,9 +16,10 @@ ghost use Rattle.hx_model.specs.Writes.{MayWriteAll};
 ghost use Rattle.hx_model.specs.declared.key.Key.{Key as key_of};
 ghost use Rattle.hx_core.specs.Committing.{HasLanded, HasFailed, HasMarked, IsOrderly};
 ghost use Rattle.hx_core.specs.Loading.{Asked};
+ghost use Rattle.hx_core.specs.Queued.{writes_in};
 ghost use Rattle.hx_core.specs.Reaching.{IsReachOf};
 ghost use Rattle.hx_core.specs.Refinement.{Represents, HasWorld, Simulates, kept_of};
-ghost use Rattle.hx_core.specs.Starting.{AreTexts, IsDamagedAt, IfDamaged, IsUndamaged, IsUntouched};
+ghost use Rattle.hx_core.specs.Starting.{IsDamagedAt, IfDamaged, IsUndamaged, IsUntouched};
 
 use crate::commit::{CommitFault, write_marked};
 use crate::marking::mark_wanting;
@@ -86,7 +88,7 @@ impl<K: Keeper> Cluster<K> {
 
         // The rows of a valid state are those of no other, and they are never damaged.
         ensures reopens { IfOk result (λ c. (s : State) → IsValid s → (K.shown keeper).kept ≡ Some (kept_of s) → c.state ≡ record s { config = config }) }
-        ensures intact { IfErr result (λ u. IfDamaged u.fault (λ row. (s : State) → IsValid s → (K.shown keeper).kept ≡ Some (kept_of s) → AreTexts (kept_of s) → ⊥)) }
+        ensures intact { IfErr result (λ u. IfDamaged u.fault (λ row. (s : State) → IsValid s → (K.shown keeper).kept ≡ Some (kept_of s) → ⊥)) }
 
         ensures unstarted { IfErr result (λ u. IsUntouched (K.shown keeper) (K.shown u.keeper)) }
         ensures failed { IfErr result (λ u. u.fault ≡ StartFault.KeeperFault → Rose (K.shown keeper).faults (K.shown u.keeper).faults) }
@@ -108,7 +110,8 @@ impl<K: Keeper> Cluster<K> {
         requires { IsServedAsk ask }
         ensures simulates { Simulates self.old (request_entry ask result ∷ []) self.new }
         ensures legal { IsLegalAnswer result }
-        ensures idle { (Mutates self.old.state ask → ⊥) → self.new.keeper ≡ self.old.keeper }
+        ensures idle { (Mutates self.old.state ask → ⊥) → self.new ≡ self.old }
+        ensures marked { HasMarked self.old.state (writes_in self.old.state (request_entry ask result)) self.old.workers self.new.workers }
     {
         match self.state.review(ask) {
             Err(refusal) => Answer::Refused(refusal),
@@ -143,10 +146,11 @@ impl<K: Keeper> Cluster<K> {
         keeper
     }
 
-    /// A theorem, not to be called for what it does: there is a world that the cluster stands for, and its state is valid. Where no key waits and none is held, the state is settled.
+    /// A theorem, not to be called for what it does: there is a world that the cluster stands for, and its state is valid. No work is forgotten: where no key waits and none is held, the state is settled.
     pub fn law_of_worlds(&self)
         ensures world { HasWorld self.now }
         ensures valid { IsValid self.now.state }
+        ensures covered { IsCovered self.now.state self.now.workers.hands self.now.workers.waiting self.now.workers.again }
         ensures settled { self.now.workers.waiting ≡ [] → self.now.workers.hands ≡ [] → IsSettled self.now.state }
     {
         let _ = &self.keeper;

@@ -8,9 +8,10 @@ ghost use Rattle.hx_model.specs.Machine.{Finished};
 ghost use Rattle.hx_model.specs.Propagation.{source_at};
 ghost use Rattle.hx_model.specs.Valid.{IsValid};
 ghost use Rattle.hx_rules.specs.Briefs.{hand_by, planned_by};
+ghost use Rattle.hx_core.specs.Queued.{IsEnding};
 ghost use Rattle.hx_core.specs.Refinement.{Simulates};
 ghost use Rattle.hx_core.specs.Turns.{IsPlanOf};
-ghost use Rattle.hx_core.specs.Working.{IsTried, is_removal, is_written};
+ghost use Rattle.hx_core.specs.Working.{IsFinish, IsTried, is_removal, is_written};
 
 use crate::cluster::Cluster;
 use crate::commit::CommitFault;
@@ -28,6 +29,7 @@ impl<K: Keeper> Cluster<K> {
     pub fn finish(&mut self, worker: u32, plan: Plan) -> Finish
         requires { IsPlanOf self.old.workers.hands worker plan }
         ensures simulates { Simulates self.old (Finished worker result ∷ []) self.new }
+        ensures leaves { IsEnding worker self.old result self.new }
         ensures empty { hand_of worker self.new.workers.hands ≡ None }
     {
         let (brief, write) = plan.into_parts();
@@ -40,8 +42,7 @@ impl<K: Keeper> Cluster<K> {
     fn end(&mut self, worker: u32, brief: &Brief, write: Option<Write>) -> Finish
         requires hand { IfSome (hand_of worker self.old.workers.hands) (λ hand. hand ≡ hand_by worker brief.now) }
         requires planned { write ≡ planned_by brief.now }
-        ensures simulates { Simulates self.old (Finished worker result ∷ []) self.new }
-        ensures empty { hand_of worker self.new.workers.hands ≡ None }
+        ensures { IsFinish worker self.old result self.new }
     {
         match self.workers.hand(worker) {
             None => {
@@ -56,8 +57,7 @@ impl<K: Keeper> Cluster<K> {
     fn end_held(&mut self, worker: u32, brief: &Brief, write: Option<Write>) -> Finish
         requires hand { hand_of worker self.old.workers.hands ≡ Some (hand_by worker brief.now) }
         requires planned { write ≡ planned_by brief.now }
-        ensures simulates { Simulates self.old (Finished worker result ∷ []) self.new }
-        ensures empty { hand_of worker self.new.workers.hands ≡ None }
+        ensures { IsFinish worker self.old result self.new }
     {
         match write {
             None => self.end_idle(worker, brief),
@@ -69,8 +69,7 @@ impl<K: Keeper> Cluster<K> {
     fn end_idle(&mut self, worker: u32, brief: &Brief) -> Finish
         requires hand { hand_of worker self.old.workers.hands ≡ Some (hand_by worker brief.now) }
         requires planned { planned_by brief.now ≡ None }
-        ensures simulates { Simulates self.old (Finished worker result ∷ []) self.new }
-        ensures empty { hand_of worker self.new.workers.hands ≡ None }
+        ensures { IsFinish worker self.old result self.new }
     {
         self.workers.law_apart();
         drop(self.let_go(worker, false));
@@ -81,8 +80,7 @@ impl<K: Keeper> Cluster<K> {
     fn end_tried(&mut self, worker: u32, brief: &Brief, write: Write) -> Finish
         requires hand { hand_of worker self.old.workers.hands ≡ Some (hand_by worker brief.now) }
         requires planned { Some write ≡ planned_by brief.now }
-        ensures simulates { Simulates self.old (Finished worker result ∷ []) self.new }
-        ensures empty { hand_of worker self.new.workers.hands ≡ None }
+        ensures { IsFinish worker self.old result self.new }
     {
         self.workers.law_apart();
         let end = self.attempt(worker, brief, write);

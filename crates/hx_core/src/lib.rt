@@ -8,6 +8,7 @@ mod briefs;
 mod cluster;
 mod commit;
 mod finish;
+mod law;
 mod marking;
 mod objects;
 mod rows;
@@ -19,6 +20,8 @@ mod wanted;
 mod working;
 
 pub use cluster::{Cluster, Unstarted};
+pub use law::law_of_rows;
 pub use rows::SCHEMA;
+pub use settle::end_of;
 pub use start::StartFault;
-pub use turns::{Settle, Take, Turned};
+pub use turns::{Settle, Take, Turn, Turned};

@@ -221,7 +221,8 @@ fn object_of(
     if row.version == 0 || row.version > state.version() {
         return Ok(None);
     }
-    match reader.read_row(row.key.as_slice(), row.version, row.body.as_slice()) {
+    let body = row.body.as_str();
+    match reader.read_row(row.key.as_slice(), row.version, body.as_bytes()) {
         Ok(object) => Ok(housed(state, object)),
         Err(RowFault::NoObject) => Ok(None),
         Err(RowFault::NoMemory) => Err(NoMemory),

@@ -28,6 +28,14 @@ impl Drop for Turned {
     }
 }
 
+/// What a settle came to where it was to make a turn.
+#[derive(Drop)]
+pub enum Turn {
+    Made(Turned),
+    /// None was made, and the settle ends so.
+    Over(Settle),
+}
+
 /// How a settle ended.
 #[derive(Clone, Copy)]
 pub enum Settle {

@@ -4,9 +4,10 @@ ghost use Rattle.hx_model.specs.Keys.{is_among};
 ghost use Rattle.hx_model.specs.Hands.{hand_of, is_held};
 ghost use Rattle.hx_model.specs.Machine.{Checked, Dropped, Finished};
 ghost use Rattle.hx_rules.specs.Briefs.{IsShort, StandsFor, hand_by, planned_by};
+ghost use Rattle.hx_core.specs.Queued.{IsEnding, IsFirst, IsReleased, IsTaking};
 ghost use Rattle.hx_core.specs.Refinement.{Simulates};
 ghost use Rattle.hx_core.specs.Turns.{IsInHand, IsOfKey, take_entry, take_key_entry};
-ghost use Rattle.hx_core.specs.Working.{IsDone, IsGiven, IsGivenBy, IsKept, IsNext, IsReleased, IsTake, IsTakeOf};
+ghost use Rattle.hx_core.specs.Working.{IsDone, IsFinish, IsGiven, IsGivenBy, IsKept, IsNext, IsTake, IsTakeOf};
 ghost use Rattle.hx_queue.specs.Spread.{is_spread};
 
 use crate::briefs::job_of;
@@ -22,12 +23,14 @@ use hx_rules::{Plan, SharedBrief, plan};
 use std::alloc::Global;
 
 impl<K: Keeper> Cluster<K> {
-    /// Gives a worker a key that waits, with what its plan is made from.
+    /// Gives a worker the key that has waited longest, with what its plan is made from.
     pub fn take(&mut self, worker: u32) -> Take
         ensures simulates { Simulates self.old (take_entry worker result ∷ []) self.new }
         ensures hand { IsInHand self.new.workers.hands worker result }
         ensures idle { result ≡ Take.Idle → (self.old.workers.waiting ≡ []) × (hand_of worker self.old.workers.hands ≡ None) }
         ensures unnamed { (holder : ℕ) → result ≡ Take.Other holder → ⊥ }
+        ensures leaves { IsTaking worker self.old result self.new }
+        ensures first { IsFirst self.old.workers.waiting result }
     {
         match self.workers.hand(worker) {
             Some(brief) => already(brief),
@@ -41,6 +44,7 @@ impl<K: Keeper> Cluster<K> {
         ensures hand { IsInHand self.new.workers.hands worker result }
         ensures key { IsOfKey key result }
         ensures busy { result ≡ Take.Idle → ⊥ }
+        ensures leaves { IsTaking worker self.old result self.new }
     {
         match self.workers.hand(worker) {
             Some(brief) => {
@@ -62,6 +66,7 @@ impl<K: Keeper> Cluster<K> {
     /// Plans what a worker holds, and finishes it. Where no memory is left for the plan, the worker drops it.
     pub fn complete(&mut self, worker: u32) -> Finish
         ensures simulates { Simulates self.old (Finished worker result ∷ []) self.new }
+        ensures leaves { IsEnding worker self.old result self.new }
         ensures empty { hand_of worker self.new.workers.hands ≡ None }
     {
         match self.workers.hand(worker) {
@@ -76,8 +81,7 @@ impl<K: Keeper> Cluster<K> {
     /// A worker drops what it holds for want of memory.
     fn forsake(&mut self, worker: u32) -> Finish
         requires { IsSome (hand_of worker self.old.workers.hands) }
-        ensures simulates { Simulates self.old (Finished worker result ∷ []) self.new }
-        ensures empty { hand_of worker self.new.workers.hands ≡ None }
+        ensures { IsFinish worker self.old result self.new }
     {
         self.workers.law_apart();
         drop(self.let_go(worker, true));
@@ -87,6 +91,7 @@ impl<K: Keeper> Cluster<K> {
     /// A worker drops what it holds, whose key waits again. It takes no memory.
     pub fn drop_hand(&mut self, worker: u32) -> Option<SharedBrief>
         ensures simulates { Simulates self.old (Dropped worker (option_map (λ brief. brief.key) result) ∷ []) self.new }
+        ensures leaves { IsReleased worker true self.old self.new }
         ensures empty { hand_of worker self.new.workers.hands ≡ None }
     {
         self.workers.law_apart();
@@ -127,7 +132,7 @@ impl<K: Keeper> Cluster<K> {
         }
     }
 
-    /// A key that waits, once more.
+    /// The key that has waited longest, once more.
     pub(crate) fn next(&mut self) -> Result<Option<Key>, NoMemory>
         ensures same { self.new ≡ self.old }
         ensures some { IfOk result (λ o. IfSome o (IsNext self.old.workers)) }

@@ -1,19 +1,19 @@
 -- Keys that were marked as a whole come in line.
 --     lines_none, lines_one, lines_more    none came in line;  those of the first object, or none;  and then others
 --     kept_by_lines, seen_by_lines         what is kept, and what is seen
---     next_some, next_free, next_none      the first key in line then
-use Rattle.std.proofs.Common.{◌≡◌, ◌≤◌, ◌<◌, true, false, ◌||◌, List, [], ◌∷◌, map, filter, drop, length, refl, sym, ap, subst, ◌∙◌, arith, Option, Some, None, Result, Ok, Err, OnOk, OnErr, IfSome, IfNone}
+--     next_first, next_free                the first key in line then
+use Rattle.std.proofs.Common.{◌≡◌, ◌≤◌, ◌<◌, true, false, List, [], ◌∷◌, map, filter, drop, length, refl, sym, ap, subst, ◌∙◌, arith, Option, Some, None, Result, Ok, Err, OnOk, OnErr, IfSome}
 use Rattle.std.specs.Prelude.{slice_get}
 use Rattle.hx_object.specs.declared.object.Id.{Id}
 use Rattle.hx_model.specs.Hands.{Hand, is_held as is_in_hands}
-use Rattle.hx_model.specs.Keys.{same_key, is_among}
+use Rattle.hx_model.specs.Keys.{same_key}
 use Rattle.hx_model.specs.declared.key.Key.{Key}
 use Rattle.hx_queue.specs.Kept.{Held, QueueView, AreApart as IsQueueApart}
 use Rattle.hx_queue.specs.Spread.{SpreadView, is_spread, keys_in, waiting_in}
 use Rattle.hx_queue.specs.Tied.{IsFree, IsKept, LinesUp, all_waiting, any_held}
-use Rattle.hx_queue.proofs.Beside.{among_waiting, spread_less}
+use Rattle.hx_queue.proofs.Beside.{spread_less}
 use Rattle.hx_queue.proofs.Marking.{held_any}
-use Rattle.hx_queue.proofs.Tying.{first_waits, none_waits, waits_free}
+use Rattle.hx_queue.proofs.Tying.{first_waits, waits_free}
 use Rattle.hx_queue.proofs.Whole.{whole_of}
 
 -- ---- steps
@@ -59,17 +59,17 @@ seen_by_lines hands q r s t l = λ i. record { hands = hands; waiting = l.waitin
 
 -- ---- the next key
 
+-- the first key of all is the first in line, where there is none behind an empty line
+first_in : (line spread : List Key) → (line ≡ [] → slice_get (waiting_in line spread) 0 ≡ None) → slice_get (waiting_in line spread) 0 ≡ slice_get line 0
+first_in [] spread none = none refl
+first_in (k ∷ line) spread none = refl
+
 module _ (hands : List Hand) (q r : QueueView) (s t : SpreadView) (kept : IsKept hands q s) (l : LinesUp q r s t) where
-  pub next_some : (o : Option Key) → o ≡ slice_get r.waiting 0 → IfSome o (λ k. is_among k (all_waiting q s) ≡ true)
-  next_some None e = tt
-  next_some (Some k) e = ap (is_among k) (sym l.waiting) ∙ among_waiting k r.waiting (keys_in t.reach t.ids) ∙ ap (λ b. b || is_among k (keys_in t.reach t.ids)) (first_waits k r.waiting (sym e))
+  -- it is the first of all that wait
+  pub next_first : (o : Option Key) → (r.waiting ≡ [] → t.ids ≡ []) → o ≡ slice_get r.waiting 0 → o ≡ slice_get (all_waiting q s) 0
+  next_first o none e =
+      e ∙ sym (first_in r.waiting (keys_in t.reach t.ids) (λ nothing i. slice_get (waiting_in (nothing i) (keys_in t.reach (none nothing i))) 0)) ∙ ap (λ keys. slice_get keys 0) l.waiting
 
   pub next_free : (o : Option Key) → IsQueueApart r → o ≡ slice_get r.waiting 0 → IfSome o (λ k. is_in_hands k hands ≡ false)
   next_free None apart e = tt
   next_free (Some k) apart e = waits_free k hands r (kept_by_lines hands q r s t kept l).tied apart (first_waits k r.waiting (sym e))
-
-  pub next_none : (o : Option Key) → (r.waiting ≡ [] → t.ids ≡ []) → o ≡ slice_get r.waiting 0 → IfNone o (all_waiting q s ≡ [])
-  next_none None none e =
-      let nothing = none_waits r.waiting (sym e) in
-      sym l.waiting ∙ (λ i. waiting_in (nothing i) (keys_in t.reach (none nothing i)))
-  next_none (Some k) none e = tt

@@ -177,7 +177,3 @@ all_apart hands q tied apart = record {
 pub first_waits : (k : Key) (xs : List Key) → slice_get xs 0 ≡ Some k → is_among k xs ≡ true
 first_waits k [] e = absurd (true≢false (sym (ap is_some e)))
 first_waits k (x ∷ xs) e = ap (λ b. b || is_among k xs) (ap (same_key k) (ap (λ (o : Option Key). elim o [ Some z ↦ z | None ↦ x ]) e) ∙ same_key_itself k)
-
-pub none_waits : (xs : List Key) → slice_get xs 0 ≡ None → xs ≡ []
-none_waits [] e = refl
-none_waits (x ∷ xs) e = absurd (true≢false (ap is_some e))

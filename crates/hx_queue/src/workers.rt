@@ -93,9 +93,8 @@ impl Workers {
 
     /// A key that waits, once more: the one that has waited longest in line. Where none stands in line, the keys that were marked as a whole come in line first.
     pub fn next(&mut self) -> Result<Option<Key>, NoMemory>
-        ensures some { IfOk result (λ o. IfSome o (λ key. is_among key self.old.seen.waiting ≡ true)) }
+        ensures first { IfOk result (λ o. o ≡ slice_get self.old.seen.waiting 0) }
         ensures free { IfOk result (λ o. IfSome o (λ key. is_held key self.old.seen.hands ≡ false)) }
-        ensures none { IfOk result (λ o. IfNone o (self.old.seen.waiting ≡ [])) }
         ensures seen { self.new.seen ≡ self.old.seen }
         ensures reach { self.new.reach ≡ self.old.reach }
     {

@@ -4,8 +4,8 @@ use Rattle.hx_rules.specs.Briefs.{hand_by}
 use Rattle.hx_core.proofs.Finishing.{ends_empty, held_is}
 use Rattle.hx_core.proofs.cluster.Cluster.end.Goals as goal
 
-pub returns-in-None-clause-simulates : goal.returns-in-None-clause-simulates
-returns-in-None-clause-simulates g c = rw (← c.self.view_is) (ends_empty (view_of c.self.inside.state.state c.self.inside.workers.seen (g.K.Keeper.shown c.self.inside.keeper)) c.args.worker c.self.invariant.sound.world c.in-None.ensures.none)
+pub returns-in-None : goal.returns-in-None
+returns-in-None g c = rw (← c.self.view_is) (ends_empty (view_of c.self.inside.state.state c.self.inside.workers.seen (g.K.Keeper.shown c.self.inside.keeper)) c.args.worker c.self.invariant.sound.world c.in-None.ensures.none)
 
 pub end_held-requires-clause-hand : goal.end_held-requires-clause-hand
 end_held-requires-clause-hand g c =

@@ -4,16 +4,16 @@ use Rattle.hx_core.proofs.cluster.Cluster.settle.Goals as goal
 pub loop-made-init : goal.loop-made-init
 loop-made-init g c = run_start c.args.self.now c.args.trace.now.items c.law_of_worlds.ensures.world c.requires
 
-pub turn-requires : goal.turn-requires
-turn-requires g c = c.loop-made.invariant.empty
+pub trace_turn-requires : goal.trace_turn-requires
+trace_turn-requires g c = c.loop-made.invariant.empty
 
 pub loop-made-preserved : goal.loop-made-preserved
 loop-made-preserved g c =
-    run_turn c.args.self.now c.loop-made.self c.turn.new.self c.args.trace.now.items c.loop-made.trace.items c.turn.new.trace.items c.loop-made._made c.loop-made.invariant (turn_in c.turn.result c.in_default.not-Some c.turn.ensures.turn) c.turn.ensures.empty
+    run_turn c.args.self.now c.loop-made.self c.trace_turn.new.self c.args.trace.now.items c.loop-made.trace.items c.trace_turn.new.trace.items c.loop-made._made c.loop-made.invariant (turn_in c.trace_turn.result c.in_default.not-Some c.trace_turn.ensures.turn) c.trace_turn.ensures.empty
 
 pub returns-in-Some-clause-made : goal.returns-in-Some-clause-made
 returns-in-Some-clause-made g c =
-    ends_run c.args.turns c.args.self.now c.loop-made.self c.turn.new.self c.args.trace.now.items c.loop-made.trace.items c.turn.new.trace.items c.loop-made._made c.in-Some.end c.loop-made-test.true c.loop-made.invariant c.in-Some.ensures.end
+    ends_run c.args.turns c.args.self.now c.loop-made.self c.trace_turn.new.self c.args.trace.now.items c.loop-made.trace.items c.trace_turn.new.trace.items c.loop-made._made c.in-Some.end c.loop-made-test.true c.loop-made.invariant c.in-Some.ensures.end
 
 pub returns-clause-made : goal.returns-clause-made
 returns-clause-made g c =

@@ -14,7 +14,7 @@ invariant_of-result g c =
 
 pub returns-in-Ok-clause-opens : goal.returns-in-Ok-clause-opens
 returns-in-Ok-clause-opens g c =
-    stands_opening (g.K.Keeper.shown c.load_work.new.keeper) c.in-Ok.state.state c.in-Ok.workers.seen (subst (λ kept. IfSome kept (λ held. held ≡ kept_of c.in-Ok.state.state)) (sym c.in-Ok.ensures.asked.same.kept) c.in-Ok.ensures.holds) c.in-Ok.ensures.waiting c.in-Ok.ensures.hands c.in-Ok.ensures.again
+    stands_opening (g.K.Keeper.shown c.load_work.new.keeper) c.in-Ok.state.state c.in-Ok.workers.seen c.in-Ok.ensures.valid (subst (λ kept. IfSome kept (λ held. held ≡ kept_of c.in-Ok.state.state)) (sym c.in-Ok.ensures.asked.same.kept) c.in-Ok.ensures.holds) c.in-Ok.ensures.waiting c.in-Ok.ensures.hands c.in-Ok.ensures.again
 
 pub returns-in-Ok-clause-reopens : goal.returns-in-Ok-clause-reopens
 returns-in-Ok-clause-reopens g c = λ s valid is.

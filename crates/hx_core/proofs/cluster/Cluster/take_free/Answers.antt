@@ -22,5 +22,5 @@ returns-in-Ok-None g c =
 pub returns-in-Ok-Some : goal.returns-in-Ok-Some
 returns-in-Ok-Some g c =
     let next = rw (c.in-Ok-Some.field-0-is) at c.in-Ok-Some.ensures.some in
-    take_given c.args.self.now c.give.new.self c.args.worker c.in-Ok-Some.key c.give.result c.law_of_worlds.ensures.world c.requires next.free next.waits next.again
+    take_given c.args.self.now c.give.new.self c.args.worker c.in-Ok-Some.key c.give.result c.law_of_worlds.ensures.world c.requires next
     (subst (λ (v : ClusterView). IsGiven c.args.worker c.in-Ok-Some.key v c.give.result c.give.new.self) c.next.ensures.same c.give.ensures)

@@ -7,7 +7,7 @@ invariant_of-self g c =
     let requires = rw (← c.self.view_is) at c.requires in
     record {
       sound = sound_committed c.self.inside.state.state c.write_marked.new.state.state c.self.inside.workers.seen c.write_marked.new.workers.seen c.args.writes.items (option_copied c.args.own) (g.K.Keeper.shown c.self.inside.keeper) (g.K.Keeper.shown c.write_marked.new.keeper)
-          c.self.inside.state.staged c.write_marked.new.state.staged c.write_marked.result c.self.invariant.sound requires.may requires.orderly requires.own c.write_marked.ensures.staged c.write_marked.ensures.landed c.write_marked.ensures.marked c.write_marked.ensures.seen
+          c.self.inside.state.staged c.write_marked.new.state.staged c.write_marked.result c.self.invariant.sound requires.may requires.orderly requires.some requires.own c.write_marked.ensures.staged c.write_marked.ensures.landed c.write_marked.ensures.marked c.write_marked.ensures.seen
           c.write_marked.ensures.state c.write_marked.ensures.keeper c.write_marked.ensures.fault;
       reach = c.write_marked.ensures.reach;
     }
@@ -15,7 +15,7 @@ invariant_of-self g c =
 pub returns-clause-marked : goal.returns-clause-marked
 returns-clause-marked g c =
     let requires = rw (← c.self.view_is) at c.requires in
-    rw (← c.self.view_is) (marked_committed c.self.inside.state.state c.self.inside.workers.seen c.write_marked.new.workers.seen c.args.writes.items (option_copied c.args.own) c.write_marked.result c.self.invariant.sound.valid requires.may requires.orderly c.write_marked.ensures.marked)
+    rw (← c.self.view_is) (marked_committed c.self.inside.state.state c.self.inside.workers.seen c.write_marked.new.workers.seen c.args.writes.items (option_copied c.args.own) c.write_marked.result c.self.invariant.sound.valid requires.may requires.orderly requires.some c.write_marked.ensures.marked)
 
 pub returns-clause-memory : goal.returns-clause-memory
 returns-clause-memory g c =
