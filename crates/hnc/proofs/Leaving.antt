@@ -1,5 +1,5 @@
 -- What runs leave.
-use Rattle.std.proofs.Common.{◌≡◌, ◌≢◌, ◌<◌, ◌≤◌, ℕ, Bool, false, List, [], None, Some, Ok, is_some, length, refl, sym, ap, subst, ◌∙◌, true≢false, ◌⊎◌, inl, inr}
+use Rattle.std.proofs.Common.{◌≡◌, ◌≢◌, ◌<◌, ◌≤◌, ℕ, Bool, false, List, [], ◌++◌, None, Some, Ok, is_some, length, refl, sym, ap, subst, ◌∙◌, true≢false, ◌⊎◌, inl, inr}
 use Rattle.std.specs.Prelude.{IfSome, IsSome, IsSomeAnd}
 use Rattle.std.specs.declared.option.Option.{Option}
 use Rattle.hx_ports.specs.Keeping.{Kept}
@@ -8,7 +8,7 @@ use Rattle.hx_ports.specs.Views.{KeeperView, SinkView, SourceView}
 use Rattle.hx_model.specs.Machine.{History, IsHistory, opening_world, replay}
 use Rattle.hx_model.specs.State.{State}
 use Rattle.hx_model.specs.Valid.{IsValid}
-use Rattle.hx_core.specs.Refinement.{ClusterView, Represents, IsKeptOf, kept_of}
+use Rattle.hx_core.specs.Refinement.{AllValid, ClusterView, Represents, IsKeptOf, kept_of}
 use Rattle.hx_words.specs.declared.RunWords.{RunWords}
 use Rattle.hx_core.specs.Starting.{IsUndamaged, IsDamagedAt, IfDamaged}
 use Rattle.hx_core.specs.declared.start.StartFault.{StartFault}
@@ -18,12 +18,15 @@ use Rattle.hnc.specs.declared.top.Status.{Status}
 use Rattle.hnc.specs.declared.top.Status.TheVariants as ending
 use Rattle.hx_script.specs.declared.script.RunEnd.{RunEnd}
 use Rattle.hx_script.specs.declared.script.RunEnd.TheVariants.{Done as Ended, NoMemory as Wanting}
-use Rattle.hx_script.specs.Lines.{Line, script_lines}
+use Rattle.hx_script.specs.Lines.{Line, script_lines, unended}
 use Rattle.hx_script.specs.Exchanges.{entries_of}
-use Rattle.hx_script.specs.Running.{Ran, Does, Cuts, OfScript, most_bytes}
+use Rattle.hx_script.specs.Running.{Ran, Does, Cuts, OfScript, ReadsFront, most_bytes}
 use Rattle.hx_model.proofs.Overrunning.{holds_throughout}
+use Rattle.hx_model.proofs.Tearing.{holds_after_fault}
+use Rattle.hx_model.proofs.Beginning.{excess_begins_only_there, no_excess_by_fault}
+use Rattle.hx_model.proofs.Knowing.{speaks_of_keys_alone}
 use Rattle.hnc.proofs.Quiet.{quiet_settled}
-use Rattle.hnc.specs.Headline.{Leaves, LeavesWhole, LeavesFront, OfRun, has_not_begun}
+use Rattle.hnc.specs.Headline.{HoldsBetween, Runs, Leaves, LeavesWhole, LeavesFront, LeavesRead, OfRun, has_not_begun}
 
 -- a cluster was started on a keeper that took its place at the path of the words
 pub record Starts (run : RunWords) (keeper : KeeperView) (c : ClusterView) : Type 0 where
@@ -73,33 +76,50 @@ tells_on (Some held) new (Some kept) same tells = refl
 -- a history with what it leaves in a keeper
 record Stands (first : State) (entries : History) (broken : Bool) (keeper : KeeperView) : Type 0 where
   history : IsHistory (opening_world broken first) entries
-  ends : IsValid (replay (opening_world broken first) entries).state
+  valid : AllValid (opening_world broken first) entries
   stored : IfSome keeper.kept (IsKeptOf (replay (opening_world broken first) entries))
   breaks : (replay (opening_world broken first) entries).broken ≡ keeper.broken
 
+if_some : {A : Type 0} (o : Option A) (P : A → Type 0) → ((x : A) → o ≡ Some x → P x) → IfSome o P
+if_some None P p = tt
+if_some (Some x) P p = p x refl
+
+-- what holds of its history
+runs : (broken : Bool) (first : State) (entries : History) → IsValid first → IsHistory (opening_world broken first) entries → AllValid (opening_world broken first) entries → Runs (opening_world broken first) entries (replay (opening_world broken first) entries)
+runs broken first entries valid history all =
+    let last = replay (opening_world broken first) entries in
+    record {
+      history = history;
+      leads = refl;
+      valid = all;
+      settled = quiet_settled (opening_world broken first) entries history;
+      limits = holds_throughout broken first entries valid.in_order;
+      excess = excess_begins_only_there broken first entries valid.in_order;
+      torn = if_some last.torn (HoldsBetween last.state) (λ t is. record { rises = λ a r. holds_after_fault broken first entries t a r valid.in_order history is; begins = no_excess_by_fault broken first entries t valid.in_order history is });
+      known = speaks_of_keys_alone broken first entries valid history;
+    }
+
 -- a run of a cluster that was started
 leaves : (words : RunWords) (script : List ℕ) (rest : List Line) (lacking : List ℕ) (sink sink' : SinkView) (keeper keeper' : KeeperView) (a b : ClusterView)
-    → Starts words keeper a → IsValid b.state → keeper' ≡ b.keeper → Ran (script_lines script) rest lacking a b sink.written sink'.written → Leaves words script rest lacking sink sink' keeper keeper'
-leaves words script rest lacking sink sink' keeper keeper' a b starts valid is ran =
+    → Starts words keeper a → keeper' ≡ b.keeper → Ran (script_lines script) rest lacking a b sink.written sink'.written → Leaves words script rest lacking sink sink' keeper keeper'
+leaves words script rest lacking sink sink' keeper keeper' a b starts is ran =
     let entries = entries_of ran.exchanges in
-    let run = ran.simulates (opening_world a.keeper.broken a.state, starts.opens) in
-    let steps = run.steps (opening_world a.keeper.broken a.state) starts.opens in
-    let here : Stands a.state entries a.keeper.broken b.keeper = record { history = steps.0; ends = subst IsValid (sym steps.1.state) valid; stored = steps.1.kept; breaks = steps.1.broken } in
+    let opening = opening_world a.keeper.broken a.state in
+    let run = ran.simulates (opening, starts.opens) in
+    let steps = run.steps opening starts.opens in
+    let here : Stands a.state entries a.keeper.broken b.keeper = record { history = steps.0; valid = run.valid opening starts.opens; stored = steps.1.kept; breaks = steps.1.broken } in
     let there : Stands a.state entries keeper.broken keeper' = subst (Stands a.state entries keeper.broken) (sym is) (subst (λ broken. Stands a.state entries broken b.keeper) starts.whole here) in
     record {
       exchanges = ran.exchanges;
       text = ran.text;
       first = a.state;
+      last = replay (opening_world keeper.broken a.state) entries;
       each = ran.each;
       lines = ran.split;
       undamaged = told_before keeper.kept a.keeper.kept IsUndamaged starts.same starts.undamaged;
-      valid = starts.valid;
       configured = starts.configured;
       opens = told_before keeper.kept a.keeper.kept (λ held. held ≡ kept_of a.state) starts.same starts.holds;
-      history = there.history;
-      ends = there.ends;
-      settled = quiet_settled (opening_world keeper.broken a.state) entries there.history;
-      limits = holds_throughout keeper.broken a.state entries starts.valid.in_order;
+      runs = runs keeper.broken a.state entries starts.valid there.history there.valid;
       says = ran.says;
       lacks = ran.lacks;
       wrote = ran.wrote;
@@ -117,28 +137,38 @@ of_run words run source P is p =
     let Q : Option RunWords → Type 0 = λ o. IsSomeAnd o (λ asked. OfScript source.left (P asked)) in
     subst Q (sym is) p
 
-pub of_run-whole : (words : Option RunWords) (run : RunWords) (source : SourceView) (sink sink' : SinkView) (keeper keeper' : KeeperView) (a b : ClusterView) → words ≡ Some run → Starts run keeper a → IsValid b.state → keeper' ≡ b.keeper
+pub of_run-whole : (words : Option RunWords) (run : RunWords) (source : SourceView) (sink sink' : SinkView) (keeper keeper' : KeeperView) (a b : ClusterView) → words ≡ Some run → Starts run keeper a → keeper' ≡ b.keeper
     → OfScript source.left (λ script. (length script ≤ most_bytes) × Does (script_lines script) a b sink.written sink'.written) → OfRun words source (λ run script. LeavesWhole run script sink sink' keeper keeper')
-of_run-whole words run source sink sink' keeper keeper' a b is starts valid ends (script, told, (few, does)) =
+of_run-whole words run source sink sink' keeper keeper' a b is starts ends (script, told, (few, does)) =
     of_run words run source (λ run script. LeavesWhole run script sink sink' keeper keeper') is
-    (script, told, record { few = few; leaves = leaves run script [] [] sink sink' keeper keeper' a b starts valid ends does })
+    (script, told, record { few = few; leaves = leaves run script [] [] sink sink' keeper keeper' a b starts ends does })
 
-front : (run : RunWords) (script : List ℕ) (sink sink' : SinkView) (keeper keeper' : KeeperView) (a b : ClusterView) → Starts run keeper a → IsValid b.state → keeper' ≡ b.keeper
+front : (run : RunWords) (script : List ℕ) (sink sink' : SinkView) (keeper keeper' : KeeperView) (a b : ClusterView) → Starts run keeper a → keeper' ≡ b.keeper
     → Cuts (script_lines script) a b sink.written sink'.written → LeavesFront run script sink sink' keeper keeper'
-front run script sink sink' keeper keeper' a b starts valid ends cuts =
-    record { rest = cuts.rest; lacking = cuts.lacking; leaves = leaves run script cuts.rest cuts.lacking sink sink' keeper keeper' a b starts valid ends cuts.ran }
+front run script sink sink' keeper keeper' a b starts ends cuts =
+    record { rest = cuts.rest; lacking = cuts.lacking; leaves = leaves run script cuts.rest cuts.lacking sink sink' keeper keeper' a b starts ends cuts.ran }
 
-pub of_run-front : (words : Option RunWords) (run : RunWords) (source : SourceView) (sink sink' : SinkView) (keeper keeper' : KeeperView) (a b : ClusterView) → words ≡ Some run → Starts run keeper a → IsValid b.state → keeper' ≡ b.keeper
+pub of_run-front : (words : Option RunWords) (run : RunWords) (source : SourceView) (sink sink' : SinkView) (keeper keeper' : KeeperView) (a b : ClusterView) → words ≡ Some run → Starts run keeper a → keeper' ≡ b.keeper
     → OfScript source.left (λ script. Cuts (script_lines script) a b sink.written sink'.written) → OfRun words source (λ run script. LeavesFront run script sink sink' keeper keeper')
-of_run-front words run source sink sink' keeper keeper' a b is starts valid ends (script, told, cuts) =
+of_run-front words run source sink sink' keeper keeper' a b is starts ends (script, told, cuts) =
     of_run words run source (λ run script. LeavesFront run script sink sink' keeper keeper') is
-    (script, told, front run script sink sink' keeper keeper' a b starts valid ends cuts)
+    (script, told, front run script sink sink' keeper keeper' a b starts ends cuts)
 
-pub of_run-long : (words : Option RunWords) (run : RunWords) (source : SourceView) (sink sink' : SinkView) (keeper keeper' : KeeperView) (a b : ClusterView) → words ≡ Some run → Starts run keeper a → IsValid b.state → keeper' ≡ b.keeper
+pub of_run-long : (words : Option RunWords) (run : RunWords) (source : SourceView) (sink sink' : SinkView) (keeper keeper' : KeeperView) (a b : ClusterView) → words ≡ Some run → Starts run keeper a → keeper' ≡ b.keeper
     → OfScript source.left (λ script. (most_bytes < length script) × Cuts (script_lines script) a b sink.written sink'.written) → OfRun words source (λ run script. (most_bytes < length script) × LeavesFront run script sink sink' keeper keeper')
-of_run-long words run source sink sink' keeper keeper' a b is starts valid ends (script, told, (long, cuts)) =
+of_run-long words run source sink sink' keeper keeper' a b is starts ends (script, told, (long, cuts)) =
     of_run words run source (λ run script. (most_bytes < length script) × LeavesFront run script sink sink' keeper keeper') is
-    (script, told, (long, front run script sink sink' keeper keeper' a b starts valid ends cuts))
+    (script, told, (long, front run script sink sink' keeper keeper' a b starts ends cuts))
+
+pub of_run-read : (words : Option RunWords) (run : RunWords) (source source' : SourceView) (sink sink' : SinkView) (keeper keeper' : KeeperView) (a b : ClusterView) → words ≡ Some run → Starts run keeper a → keeper' ≡ b.keeper
+    → ReadsFront source.left source'.left a b sink.written sink'.written → IsSomeAnd words (λ run. LeavesRead run source source' sink sink' keeper keeper')
+of_run-read words run source source' sink sink' keeper keeper' a b is starts ends front =
+    let Q : Option RunWords → Type 0 = λ o. IsSomeAnd o (λ asked. LeavesRead asked source source' sink sink' keeper keeper') in
+    subst Q (sym is) (record {
+      bytes = front.bytes;
+      read = front.read;
+      leaves = λ more. leaves run (front.bytes ++ more) (script_lines (unended front.bytes ++ more)) [] sink sink' keeper keeper' a b starts ends (front.ran more);
+    })
 
 -- where nothing failed and the rows are undamaged, a start ends for want of memory alone
 pub wants_memory : (status : Status) (fault : StartFault) (old attached : KeeperView) (faults : ℕ) → (status ≡ ending.KeeperFault) ⊎ ((status ≡ ending.Damaged) ⊎ (status ≡ ending.NoMemory)) → (status ≡ ending.KeeperFault → fault ≡ start.KeeperFault)

@@ -1,7 +1,10 @@
 -- What the top call promises of a run.
 --     EndsQuiet                  a history ends with a check that no key waits or is held
+--     HoldsBetween s t           limits hold from one state to another
+--     Runs opening entries last  a history of the machine leads from one world to another
 --     Leaves                     what a run of a script leaves: one history of the machine, what it writes and what is kept
 --     LeavesWhole, LeavesFront   the same of a run to the script's end;  of one that was cut short
+--     LeavesRead                 of one whose source failed: each line that ended before has its answer
 --     OfRun words source P       there is a script with P, for what the words ask for: the one that the source tells, where it tells
 --     is_cut_short, has_not_begun      what a status says of a run
 --     IsUnbegun                  no run began
@@ -9,20 +12,22 @@
 use Rattle.std.specs.Prelude.{◌≡◌, ◌≤◌, ◌⊎◌, ℕ, Bool, true, false, List, [], ◌∷◌, ◌++◌, IfSome, IsSome, IsSomeAnd, None, Some, length}
 use Rattle.std.specs.declared.option.Option.{Option}
 use Rattle.std.specs.List.{AllByRecursion}
-use Rattle.std.specs.Io.KnownBytes.{Appends}
+use Rattle.std.specs.Io.KnownBytes.{Appends, Consumes}
 use Rattle.hx_ports.specs.Causes.{Rose}
 use Rattle.hx_ports.specs.Views.{KeeperView, SinkView, SourceView}
 use Rattle.hx_words.specs.declared.RunWords.{RunWords}
 use Rattle.hx_model.specs.State.{State}
-use Rattle.hx_model.specs.Overruns.{KeepsLimits}
-use Rattle.hx_model.specs.Machine.{History, Checked, opening_world, IsHistory, replay, loses_to_fault}
+use Rattle.hx_model.specs.Overruns.{IsHeldBetween, KeepsLimits}
+use Rattle.hx_model.specs.Machine.{World, History, Checked, opening_world, IsHistory, replay, loses_to_fault}
 use Rattle.hx_model.specs.Settled.{IsSettled}
-use Rattle.hx_model.specs.Valid.{IsValid}
-use Rattle.hx_core.specs.Refinement.{IsKeptOf, kept_of}
+use Rattle.hx_model.specs.declared.resource.Resource.{Resource}
+use Rattle.hx_model.specs.Excess.{BeginsOnlyThere, HoldsOn}
+use Rattle.hx_model.specs.Known.{SpeaksOfKeys, none_known}
+use Rattle.hx_core.specs.Refinement.{AllValid, IsKeptOf, kept_of}
 use Rattle.hx_core.specs.Starting.{IsUndamaged}
 use Rattle.hnc.specs.declared.top.Status.{Status}
 use Rattle.hnc.specs.declared.top.Status.TheVariants.{Done, Usage, ReadFault, WriteFault, KeeperFault, Damaged, NoMemory, TooLong}
-use Rattle.hx_script.specs.Lines.{Line, script_lines}
+use Rattle.hx_script.specs.Lines.{Line, script_lines, unended}
 use Rattle.hx_script.specs.Running.{LacksLast, OfScript, most_bytes}
 use Rattle.hx_script.specs.Exchanges.{Exchange, IsExchange, lines_of, entries_of, answer_lines}
 
@@ -32,32 +37,46 @@ EndsQuiet [] = ⊥
 EndsQuiet (e ∷ []) = e ≡ Checked 0 0
 EndsQuiet (e ∷ next ∷ entries) = EndsQuiet (next ∷ entries)
 
--- There is a first state, which is valid and under the configuration of the words: the one whose rows the keeper had, where it told them. There is one history of the machine from it, to a valid state. Its entries are those of the script's lines in order, each once, up to the rest.
+-- Limits hold from one state to another: those of a subtree that uses more and took no object in, and those that held where no excess may begin
+pub record HoldsBetween (s t : State) : Type 0 where
+  pub rises : (a : List ℕ) (r : Resource) → IsHeldBetween s t a r
+  pub begins : HoldsOn s t
+
+-- A history of the machine leads from a valid world to another one.
+-- Each state on the way is valid, and so is the one that the store may hold after a fault. Where it ends quiet, its last state is settled: each namespace that takes part holds exactly the copies and the tree labels that its place prescribes.
+-- At each entry where a subtree comes to use more of what quotas limit, and takes in no object, the limits of its quotas hold afterwards: what is admitted passes none. An excess begins only where a quota of it limits more, or a namespace comes below it. That holds of the state after a fault, too.
+-- Each key that a worker takes by itself, and each that is counted as waiting, is a key of a state on the way, or was named by a take.
+pub record Runs (opening : World) (entries : History) (last : World) : Type 0 where
+  pub history : IsHistory opening entries
+  pub leads : replay opening entries ≡ last
+  pub valid : AllValid opening entries
+  pub settled : EndsQuiet entries → IsSettled last.state
+  pub limits : KeepsLimits opening entries
+  pub excess : BeginsOnlyThere opening entries
+  pub torn : IfSome last.torn (HoldsBetween last.state)
+  pub known : SpeaksOfKeys none_known opening entries
+
+-- There is a first state, which is under the configuration of the words: the one whose rows the keeper had, where it told them. There is one history of the machine from it. Its entries are those of the script's lines in order, each once, up to the rest.
 -- What is written are their answers, but for what is lacking of the last one. What the keeper holds is what the history leaves, and it is broken where the history says so; its count rose where a loss to a fault stands in the history, and stayed where none does.
--- Where the history ends quiet, its last state is settled: each namespace that takes part holds exactly the copies and the tree labels that its place prescribes.
--- At each entry where a subtree comes to use more of what quotas limit, and takes in no object, the limits of its quotas hold afterwards: what is admitted passes none.
 -- The keeper was undamaged. It is at the path of the words now, and it tells what it holds if it told before.
 pub record Leaves (run : RunWords) (script : List ℕ) (rest : List Line) (lacking : List ℕ) (sink sink' : SinkView) (keeper keeper' : KeeperView) : Type 0 where
   pub exchanges : List Exchange
   pub text : List ℕ
   pub first : State
+  pub last : World
   pub each : AllByRecursion IsExchange exchanges
   pub lines : script_lines script ≡ lines_of exchanges ++ rest
   pub undamaged : IfSome keeper.kept IsUndamaged
-  pub valid : IsValid first
   pub configured : first.config ≡ run.config
   pub opens : IfSome keeper.kept (λ held. held ≡ kept_of first)
-  pub history : IsHistory (opening_world keeper.broken first) (entries_of exchanges)
-  pub ends : IsValid (replay (opening_world keeper.broken first) (entries_of exchanges)).state
-  pub settled : EndsQuiet (entries_of exchanges) → IsSettled (replay (opening_world keeper.broken first) (entries_of exchanges)).state
-  pub limits : KeepsLimits (opening_world keeper.broken first) (entries_of exchanges)
+  pub runs : Runs (opening_world keeper.broken first) (entries_of exchanges) last
   pub says : answer_lines exchanges ≡ text ++ lacking
   pub lacks : LacksLast exchanges lacking
   pub wrote : Appends sink.written sink'.written text
   pub place : keeper'.place ≡ Some run.db
   pub tells : IfSome keeper.kept (λ _. IsSome keeper'.kept)
-  pub stored : IfSome keeper'.kept (IsKeptOf (replay (opening_world keeper.broken first) (entries_of exchanges)))
-  pub breaks : (replay (opening_world keeper.broken first) (entries_of exchanges)).broken ≡ keeper'.broken
+  pub stored : IfSome keeper'.kept (IsKeptOf last)
+  pub breaks : last.broken ≡ keeper'.broken
   pub lost : loses_to_fault (entries_of exchanges) ≡ true → Rose keeper.faults keeper'.faults
   pub still : loses_to_fault (entries_of exchanges) ≡ false → keeper'.faults ≡ keeper.faults
 
@@ -71,6 +90,12 @@ pub record LeavesFront (run : RunWords) (script : List ℕ) (sink sink' : SinkVi
   pub rest : List Line
   pub lacking : List ℕ
   pub leaves : Leaves run script rest lacking sink sink' keeper keeper'
+
+-- a read failed behind some bytes of the script. Whatever follows them, each line that ends in them has its whole answer, and those from the one that hasn't ended on are left
+pub record LeavesRead (run : RunWords) (source source' : SourceView) (sink sink' : SinkView) (keeper keeper' : KeeperView) : Type 0 where
+  pub bytes : List ℕ
+  pub read : Consumes source.left source'.left bytes
+  pub leaves : (more : List ℕ) → Leaves run (bytes ++ more) (script_lines (unended bytes ++ more)) [] sink sink' keeper keeper'
 
 -- the words are taken, and there is a script with this property. Where the source tells its bytes, it is these.
 abbrev pub OfRun : Option RunWords → SourceView → (RunWords → List ℕ → Type 0) → Type 0

@@ -5,8 +5,11 @@
 mod tests;
 mod top;
 
+ghost use Rattle.std.specs.Prelude.{◌≡◌, true, [], map, IsSomeAnd, string_bytes};
+ghost use Rattle.hx_words.specs.Words.{run_of};
+
 use crate::top::{Ended, Status, top};
-use hx_ports::{Meta, StdSink, StdSource, SureKeeper};
+use hx_ports::{Meta, StdSink, StdSource, StreamFault, SureKeeper};
 use hx_sqlite::{SqlFault, SqlKeeper};
 use hx_words::{WordsFault, first_untaken, read_words};
 use std::alloc::Global;
@@ -42,8 +45,9 @@ struct Outcome {
     status: Status,
     damaged_row: Option<u64>,
     database_fault: Option<SqlFault>,
-    read_fault: Option<io::ErrorKind>,
-    write_fault: Option<io::ErrorKind>,
+    close_fault: Option<SqlFault>,
+    read_fault: Option<StreamFault>,
+    write_fault: Option<StreamFault>,
 }
 
 /// Runs the command over standard input and output.
@@ -56,7 +60,9 @@ fn run(rt: &HostRuntime, words: &[String], keys: RandomState) -> Outcome {
 }
 
 /// Whether the words are taken and name no database.
-fn names_no_database(alloc: Global, words: &[String]) -> bool {
+fn names_no_database(alloc: Global, words: &[String]) -> bool
+    ensures { result ≡ true → IsSomeAnd (run_of (map string_bytes words.now)) (λ run. run.db ≡ []) }
+{
     match read_words(alloc, words) {
         Ok(run) => run.db.as_str().is_empty(),
         Err(_fault) => false,
@@ -64,7 +70,9 @@ fn names_no_database(alloc: Global, words: &[String]) -> bool {
 }
 
 /// Runs the command with the rows in a map of the program's own memory, which is gone with it.
-fn run_in_memory(rt: &HostRuntime, words: &[String], keys: RandomState) -> Outcome {
+fn run_in_memory(rt: &HostRuntime, words: &[String], keys: RandomState) -> Outcome
+    requires { IsSomeAnd (run_of (map string_bytes words.now)) (λ run. run.db ≡ []) }
+{
     let mut source = StdSource::new(rt.stdin());
     let mut sink = StdSink::new(rt.stdout());
     let keeper = SureKeeper::new(Vec::new(rt.alloc()), NO_ROWS, keys);
@@ -73,6 +81,7 @@ fn run_in_memory(rt: &HostRuntime, words: &[String], keys: RandomState) -> Outco
         status: ended.status,
         damaged_row: ended.damaged_row,
         database_fault: None,
+        close_fault: None,
         read_fault: source.last_fault(),
         write_fault: sink.last_fault(),
     }
@@ -91,9 +100,18 @@ fn run_over_database(rt: &HostRuntime, words: &[String], keys: RandomState) -> O
     Outcome {
         status,
         damaged_row,
-        database_fault: keeper.close(),
+        database_fault: keeper.last_fault(),
+        close_fault: close(status, keeper),
         read_fault: source.last_fault(),
         write_fault: sink.last_fault(),
+    }
+}
+
+/// Closes the database behind a run that began, and says why that failed if it did. Where none began the file and its log are left as they were found: with another log beside it a damaged file may be sound.
+fn close(status: Status, keeper: SqlKeeper) -> Option<SqlFault> {
+    match status {
+        Status::KeeperFault | Status::Damaged => None,
+        _ => keeper.close().err(),
     }
 }
 
@@ -106,23 +124,38 @@ fn words_of(rt: &(impl env::Env + AllocGlobal)) -> io::Result<Vec<String>> {
     Ok(words)
 }
 
-/// Says on standard error how a run ended, unless it is `Done` and the database didn't fail, and ends with the status's number.
+/// Says on standard error how a run ended, unless it is `Done`, and where the database wasn't closed, and ends with the status's number.
 fn exit_with(rt: &HostRuntime, words: &[String], outcome: Outcome) -> ExitCode {
+    let _ = match outcome.close_fault {
+        Some(fault) => eprintln!(rt;
+            "hnc: the log could not be brought into the database file: {fault}: keep the two together"
+        ),
+        None => Ok(()),
+    };
     match outcome.status {
         Status::Usage => exit_with_usage(rt, first_untaken(words)),
         Status::ReadFault => exit_with_fault(rt, Status::ReadFault, outcome.read_fault),
         Status::WriteFault => exit_with_fault(rt, Status::WriteFault, outcome.write_fault),
+        Status::KeeperFault => exit_with_keeper_fault(rt, outcome.database_fault),
         Status::Damaged => exit_with_damage(rt, outcome.damaged_row),
-        status => exit_with_status(rt, status, outcome.database_fault),
+        status => exit_with_status(rt, status),
     }
 }
 
-/// Names a status other than `Done`, and why the database failed if it did.
-fn exit_with_status(rt: &HostRuntime, status: Status, fault: Option<SqlFault>) -> ExitCode {
+/// Names a status other than `Done`.
+fn exit_with_status(rt: &HostRuntime, status: Status) -> ExitCode {
+    if status != Status::Done {
+        let _ = eprintln!(rt; "hnc: {status:?}");
+    }
+    ExitCode::from(status.code())
+}
+
+/// Says why the database failed before the first line.
+fn exit_with_keeper_fault(rt: &HostRuntime, fault: Option<SqlFault>) -> ExitCode {
+    let status = Status::KeeperFault;
     let _ = match fault {
         Some(fault) => eprintln!(rt; "hnc: {status:?}: the database failed: {fault}"),
-        None if status != Status::Done => eprintln!(rt; "hnc: {status:?}"),
-        None => Ok(()),
+        None => eprintln!(rt; "hnc: {status:?}"),
     };
     ExitCode::from(status.code())
 }
@@ -140,7 +173,7 @@ fn exit_with_damage(rt: &HostRuntime, row: Option<u64>) -> ExitCode {
 /// Where the words aren't had: a word that isn't UTF-8 isn't taken, and all else is want of memory.
 fn exit_without_words(rt: &HostRuntime, kind: io::ErrorKind) -> ExitCode {
     if kind != io::ErrorKind::InvalidData {
-        return exit_with_status(rt, Status::NoMemory, None);
+        return exit_with_status(rt, Status::NoMemory);
     }
     let _ = eprintln!(rt; "hnc: {:?}: a word is not UTF-8", Status::Usage);
     let _ = eprintln!(rt; "{USAGE}");
@@ -169,8 +202,8 @@ fn exit_with_usage(rt: &HostRuntime, untaken: Option<&str>) -> ExitCode {
 }
 
 /// Says why a read or a write failed. A write that took nothing has no other reason.
-fn exit_with_fault(rt: &HostRuntime, status: Status, fault: Option<io::ErrorKind>) -> ExitCode {
-    let kind = fault.unwrap_or(io::ErrorKind::WriteZero);
-    let _ = eprintln!(rt; "hnc: {status:?}: {kind:?}");
+fn exit_with_fault(rt: &HostRuntime, status: Status, fault: Option<StreamFault>) -> ExitCode {
+    let fault = fault.unwrap_or(StreamFault::Failed(io::ErrorKind::WriteZero));
+    let _ = eprintln!(rt; "hnc: {status:?}: {fault}");
     ExitCode::from(status.code())
 }

@@ -2,7 +2,7 @@
 ghost use Rattle.std.specs.Prelude.{◌<◌};
 
 use crate::top::{Ended, Status, top};
-use hx_object::{List, NoMemory};
+use hx_object::{List, NoMemory, Text};
 use hx_ports::{
     FailCommit, MemKeeper, MemSink, MemSource, Meta, Row, SureKeeper, SureSink, SureSource,
 };
@@ -10,6 +10,8 @@ use std::alloc::{AllocError, Global};
 use std::hash::RandomState;
 use std::mem;
 use std::test::Fail;
+
+mod ample;
 
 // What the ports of a run do.
 #[derive(Drop)]
@@ -33,7 +35,6 @@ const NO_ROWS: Meta = Meta {
     rows: 0,
 };
 
-// The greatest version.
 const MOST_VERSION: u64 = 9_223_372_036_854_775_807;
 
 // Ports that do not fail: calls are counted from 1.
@@ -283,7 +284,7 @@ fn pieces_change_nothing(rt: HostRuntime) -> Result<(), Fail> {
 // The answer to a request that made a row.
 fn answer_of(alloc: Global, row: &Row) -> Result<Vec<u8>, AllocError> {
     let mut answer = Vec::from_slice(alloc, b"201 ")?;
-    answer.extend_from_slice(row.body.as_slice())?;
+    answer.extend_from_slice(row.body.as_bytes())?;
     answer.push(b'\n')?;
     Ok(answer)
 }
@@ -390,6 +391,79 @@ fn a_read_or_a_write_fails(rt: HostRuntime) -> Result<(), Fail> {
     Ok(())
 }
 
+// Creates the namespaces a, b and c, and makes three turns.
+fn settled_lines(alloc: Global) -> Result<Vec<u8>, AllocError> {
+    let mut script = Vec::new(alloc);
+    for name in ["a", "b", "c"] {
+        script.extend_from_slice(create(alloc, name)?.as_str().as_bytes())?;
+    }
+    script.extend_from_slice(b"settle 3\n")?;
+    Ok(script)
+}
+
+// Whether these lines end so, with these codes and this version.
+fn settles(
+    alloc: Global,
+    setting: &Setting,
+    status: Status,
+    codes: &str,
+    version: u64,
+) -> Result<bool, NoMemory> {
+    let script = settled_lines(alloc)?;
+    let left = run(alloc, "run", script.as_slice(), setting)?;
+    let is_ended = ended_with(alloc, &left, status, codes)?;
+    Ok(is_ended && left.version == version)
+}
+
+// The write that fails, the sink's room, the status, the beginnings of the lines, and the version: each of the three turns makes one write, and its lines stand before the next one is made.
+const SETTLES: [(u64, usize, Status, &str, u64); 8] = [
+    (
+        0,
+        8192,
+        Status::Done,
+        "201 201 201 tak fin tak fin tak fin set ",
+        6,
+    ),
+    (3, 8192, Status::WriteFault, "201 201 ", 3),
+    (4, 8192, Status::WriteFault, "201 201 201 ", 4),
+    (5, 8192, Status::WriteFault, "201 201 201 tak fin ", 5),
+    (
+        6,
+        8192,
+        Status::WriteFault,
+        "201 201 201 tak fin tak fin ",
+        6,
+    ),
+    (
+        7,
+        8192,
+        Status::WriteFault,
+        "201 201 201 tak fin tak fin tak fin ",
+        6,
+    ),
+    (
+        8,
+        8192,
+        Status::Done,
+        "201 201 201 tak fin tak fin tak fin set ",
+        6,
+    ),
+    (0, 360, Status::WriteFault, "201 201 201 tak ", 4),
+];
+
+#[test]
+fn a_write_fails_in_a_settle(rt: HostRuntime) -> Result<(), Fail> {
+    let random = RandomState::new(&rt)?;
+    for (write, room, status, codes, version) in SETTLES {
+        let mut setting = plain(random);
+        setting.failing_write = write;
+        setting.room = room;
+        let settles = settles(rt.alloc(), &setting, status, codes, version)?;
+        assert!(rt; settles, "write {write}, room {room}");
+    }
+    Ok(())
+}
+
 // Words, and how a run of them over an empty script ends.
 const WORDS: [(&str, Status); 31] = [
     ("run", Status::Done),
@@ -450,7 +524,7 @@ fn row(alloc: Global, key: &str, version: u64, body: &str) -> Result<Row, NoMemo
     Ok(Row {
         key: List::of(Vec::from_slice(alloc, key.as_bytes())?),
         version,
-        body: List::of(Vec::from_slice(alloc, body.as_bytes())?),
+        body: Text::of(alloc, body)?,
     })
 }
 
@@ -466,7 +540,7 @@ fn acme(alloc: Global) -> Result<Vec<Row>, NoMemory> {
 
 // Whether a run that didn't begin answered nothing and left the row of acme alone.
 fn is_untouched(left: &Left, version: u64) -> bool {
-    let is_kept = matches!(left.rows.as_slice(), [row] if row.body.as_slice() == ACME.as_bytes());
+    let is_kept = matches!(left.rows.as_slice(), [row] if row.body.as_str() == ACME);
     is_kept && left.version == version && left.answers.is_empty()
 }
 
@@ -631,7 +705,7 @@ fn run_part(
 fn is_same_row(row: &Row, other: &Row) -> bool {
     row.version == other.version
         && row.key.as_slice() == other.key.as_slice()
-        && row.body.as_slice() == other.body.as_slice()
+        && row.body.as_str() == other.body.as_str()
 }
 
 fn are_same_rows(rows: &[Row], others: &[Row]) -> bool {

@@ -3,7 +3,7 @@ ghost use Rattle.std.specs.Prelude.{ℕ, ◌≡◌, ◌≢◌, ◌≤◌, ◌<�
 ghost use Rattle.std.specs.Io.KnownBytes.{IsAtEnd};
 ghost use Rattle.hx_ports.specs.Causes.{Rose};
 ghost use Rattle.hx_core.specs.Starting.{IsDamagedAt, IsUndamaged};
-ghost use Rattle.hnc.specs.Headline.{LeavesWhole, LeavesFront, OfRun, IsUnbegun, is_cut_short, has_not_begun, code_of_status};
+ghost use Rattle.hnc.specs.Headline.{LeavesWhole, LeavesFront, LeavesRead, OfRun, IsUnbegun, is_cut_short, has_not_begun, code_of_status};
 ghost use Rattle.hx_words.specs.Words.{run_of};
 ghost use Rattle.hx_script.specs.Running.{IsCalm, most_bytes};
 
@@ -70,6 +70,8 @@ pub fn top<S: Source, W: Sink, K: Keeper>(
     ensures unbegun { has_not_begun result.status ≡ true → IsUnbegun (run_of (map string_bytes words.now)) source.old source.new sink.old sink.new (K.shown keeper) (K.shown result.keeper) }
     ensures memory { result.status ≡ Status.NoMemory → IsUnbegun (run_of (map string_bytes words.now)) source.old source.new sink.old sink.new (K.shown keeper) (K.shown result.keeper) ⊎ OfRun (run_of (map string_bytes words.now)) (S.shown source.old) (λ run script. LeavesFront run script (W.shown sink.old) (W.shown sink.new) (K.shown keeper) (K.shown result.keeper)) }
 
+    ensures unread { result.status ≡ Status.ReadFault → IsSomeAnd (run_of (map string_bytes words.now)) (λ run. LeavesRead run (S.shown source.old) (S.shown source.new) (W.shown sink.old) (W.shown sink.new) (K.shown keeper) (K.shown result.keeper)) }
+
     // Each status has its cause; want of memory alone is free.
     ensures usage { result.status ≡ Status.Usage → run_of (map string_bytes words.now) ≡ None }
     ensures untaken { run_of (map string_bytes words.now) ≡ None → (result.status ≡ Status.Usage) ⊎ (result.status ≡ Status.NoMemory) }
@@ -80,7 +82,8 @@ pub fn top<S: Source, W: Sink, K: Keeper>(
     ensures whole { result.status ≢ Status.Damaged → result.damaged_row ≡ None }
     ensures too_long { result.status ≡ Status.TooLong → OfRun (run_of (map string_bytes words.now)) (S.shown source.old) (λ run script. (most_bytes < length script) × LeavesFront run script (W.shown sink.old) (W.shown sink.new) (K.shown keeper) (K.shown result.keeper)) }
     ensures unasked { result.status ≡ Status.Usage → result.keeper ≡ keeper }
-    ensures calm { result.status ≡ Status.Done → ((S.shown source.new).faults ≡ (S.shown source.old).faults) × IsCalm (W.shown sink.old) (W.shown sink.new) }
+    ensures read_calm { result.status ≢ Status.ReadFault → (S.shown source.new).faults ≡ (S.shown source.old).faults }
+    ensures write_calm { result.status ≢ Status.WriteFault → IsCalm (W.shown sink.old) (W.shown sink.new) }
     ensures end { result.status ≡ Status.Done → IsAtEnd (S.shown source.new).left }
     ensures complete { run_of (map string_bytes words.now) ≢ None
         → (Rose (S.shown source.old).faults (S.shown source.new).faults → ⊥)
@@ -176,6 +179,8 @@ fn status_of_end(end: RunEnd) -> Status
     ensures cut { is_cut_short result ≡ true → end ≢ RunEnd.Done }
     ensures read_fault { result ≡ Status.ReadFault → end ≡ RunEnd.ReadFault }
     ensures write_fault { result ≡ Status.WriteFault → end ≡ RunEnd.WriteFault }
+    ensures reads { end ≡ RunEnd.ReadFault → result ≡ Status.ReadFault }
+    ensures writes { end ≡ RunEnd.WriteFault → result ≡ Status.WriteFault }
     ensures too_long { result ≡ Status.TooLong → end ≡ RunEnd.TooLong }
     ensures memory { result ≡ Status.NoMemory → end ≡ RunEnd.NoMemory }
 {

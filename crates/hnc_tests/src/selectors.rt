@@ -2,7 +2,7 @@
 ghost use Rattle.std.specs.Prelude.{◌≡◌, ◌<◌, IfOk};
 
 use hx_object::{NoMemory, Pairs, Text};
-use hx_select::{SelectFault, Selector, TreeFault, TreeSelect};
+use hx_select::{Matcher, SelectFault, Selector, TreeFault, TreeSelect};
 use std::alloc::Global;
 use std::test::Fail;
 
@@ -579,6 +579,59 @@ fn tree_selectors_are_as_documented(rt: HostRuntime) -> Result<(), Fail> {
         let (text, wanted) = cut(row);
         let told = tree_told(rt.alloc(), text, lists.as_slice())?;
         assert_eq!(rt; told.as_str(), wanted, "{text}");
+    }
+    Ok(())
+}
+
+/// Whether a selector that is made ready holds, for each of the labels.
+fn ready_letters(alloc: Global, selector: Selector, lists: &[Pairs]) -> Result<String, NoMemory> {
+    let matcher = Matcher::of(alloc, selector)?;
+    let mut letters = String::new(alloc);
+    for labels in lists {
+        letters.push(letter(matcher.matches(labels)))?;
+    }
+    Ok(letters)
+}
+
+/// The same of a text's selector, and nothing of a text that isn't read.
+fn ready(alloc: Global, text: &str, lists: &[Pairs]) -> Result<String, NoMemory> {
+    match Selector::read(alloc, text) {
+        Ok(selector) => ready_letters(alloc, selector, lists),
+        Err(_) => Ok(String::new(alloc)),
+    }
+}
+
+/// The same of a text's tree selector, as a label selector.
+fn tree_ready(alloc: Global, text: &str, lists: &[Pairs]) -> Result<String, NoMemory> {
+    match TreeSelect::read(alloc, text) {
+        Ok(select) => ready_letters(alloc, select.to_selector(alloc)?, lists),
+        Err(_) => Ok(String::new(alloc)),
+    }
+}
+
+/// Whether what a selector is asked has the wanted answers, if its text is read.
+fn is_as_wanted(told: &str, wanted: &str) -> bool {
+    told.is_empty() || told == wanted
+}
+
+#[test]
+fn selectors_made_ready_are_as_documented(rt: HostRuntime) -> Result<(), Fail> {
+    let lists = labels(rt.alloc())?;
+    for index in 0..COUNT {
+        let (text, wanted) = cut(row(index));
+        let told = ready(rt.alloc(), text, lists.as_slice())?;
+        assert!(rt; is_as_wanted(told.as_str(), wanted), "{text}");
+    }
+    Ok(())
+}
+
+#[test]
+fn tree_selectors_made_ready_are_as_documented(rt: HostRuntime) -> Result<(), Fail> {
+    let lists = tree_labels(rt.alloc())?;
+    for row in TREE_ROWS {
+        let (text, wanted) = cut(row);
+        let told = tree_ready(rt.alloc(), text, lists.as_slice())?;
+        assert!(rt; is_as_wanted(told.as_str(), wanted), "{text}");
     }
     Ok(())
 }

@@ -65,7 +65,7 @@ asking-kept part = kept_part part (cases_lt (length part) most_kept)
 
 -- ---- a part that goes on
 
-take_twice : (k : ℕ) (xs more : List ℕ) → take k (take k xs ++ more) ≡ take k (xs ++ more)
+pub take_twice : (k : ℕ) (xs more : List ℕ) → take k (take k xs ++ more) ≡ take k (xs ++ more)
 take_twice zero xs more = refl
 take_twice (suc k) [] more = refl
 take_twice (suc k) (x ∷ xs) more = ap (λ l. x ∷ l) (take_twice k xs more)
@@ -100,7 +100,7 @@ same_front xs (part ∷ parts) =
     let same : asking (take most_kept xs ++ part) ≡ asking (xs ++ part) = sym (asking-kept (take most_kept xs ++ part)) ∙ ap asking (take_twice most_kept xs part) ∙ asking-kept (xs ++ part) in
     asking-cons (take most_kept xs ++ part) parts ∙ ap (λ l. l ++ lines_of_parts parts) same ∙ sym (asking-cons (xs ++ part) parts)
 
-HasNoEnd-take : (n : ℕ) (xs : List ℕ) → HasNoEnd xs → HasNoEnd (take n xs)
+pub HasNoEnd-take : (n : ℕ) (xs : List ℕ) → HasNoEnd xs → HasNoEnd (take n xs)
 HasNoEnd-take zero xs none = tt
 HasNoEnd-take (suc n) [] none = tt
 HasNoEnd-take (suc n) (x ∷ xs) none = (none.0, HasNoEnd-take n xs none.1)

@@ -8,5 +8,7 @@ pub mod Making
 pub mod Idling
 pub mod Naming
 pub mod Saying
+pub mod Settling
+pub mod Unended
 pub mod Kept
 pub mod Pieces

@@ -9,10 +9,11 @@ use Rattle.std.proofs.Math.Seq.{drop-cons, take-add}
 use Rattle.std.proofs.lemmas.List.Elements.{All-from_recursion}
 use Rattle.std.proofs.lemmas.List.Splits.{slice_split_at, slice_split_none}
 use Rattle.hx_core.specs.Refinement.{ClusterView}
-use Rattle.hx_script.specs.Lines.{Line, script_lines, asking, lines_of_parts}
-use Rattle.hx_script.specs.Running.{Does, Cuts, OfScript, HasNoEnd, IsWaiting, EndsAt, most_kept, most_bytes, Feeds, CutsPiece, ReadsOn}
+use Rattle.hx_script.specs.Lines.{Line, script_lines, asking, lines_of_parts, unended}
+use Rattle.hx_script.specs.Running.{Ran, Does, Cuts, OfScript, HasNoEnd, IsWaiting, IsKept, EndsAt, most_kept, most_bytes, Feeds, CutsPiece, ReadsOn, ReadsFront}
 use Rattle.hx_script.proofs.Kept.{asking-cons, asking-kept, script_lines-kept, HasNoEnd-append}
-use Rattle.hx_script.proofs.Running.{Ran-none, Does-then, Does-cuts, Cuts-none, Cuts-more}
+use Rattle.hx_script.proofs.Running.{Ran-none, Ran-more, Does-then, Does-cuts, Cuts-none, Cuts-more}
+use Rattle.hx_script.proofs.Unended.{IsKept-start, IsKept-end, IsKept-more, IsKept-then, lines_behind}
 
 -- ---- line feeds
 
@@ -122,6 +123,18 @@ Cuts-line old piece now at end a b c x y z p waits ends cuts =
     Cuts-feed old piece (take at piece ++ stretch) (drop (suc end) (drop at piece)) (now ++ stretch) a b c x y z
     (Feeds-more old (take at piece) now stretch a b x y p) (HasNoEnd-append now stretch waits.no_end ends.before) (split_at piece at end ends) cuts
 
+-- nothing of the line that ends behind the place is kept
+pub IsKept-line : (old piece : List ℕ) (at end : ℕ) → EndsAt (drop at piece) end → IsKept (old ++ take (at + (end + 1)) piece) []
+IsKept-line old piece at end ends =
+    let line = take at piece ++ take end (drop at piece) in
+    subst (λ l. IsKept (old ++ l) []) (sym (taken piece at end ends)) (subst (λ l. IsKept l []) (append_assoc old line (10 ∷ [])) (IsKept-end (old ++ line)))
+
+-- the rest of a piece is kept
+pub IsKept-rest : (old piece now : List ℕ) (at : ℕ) → IsKept (old ++ take at piece) now → HasNoEnd (drop at piece) → IsKept (old ++ piece) (take most_kept (now ++ drop at piece))
+IsKept-rest old piece now at p none =
+    let whole = append_assoc old (take at piece) (drop at piece) ∙ ap (λ l. old ++ l) (take-append-drop at piece) in
+    subst (λ l. IsKept l (take most_kept (now ++ drop at piece))) whole (IsKept-more (old ++ take at piece) (drop at piece) now p none)
+
 -- nothing behind the place was taken
 pub Cuts-rest : (old piece now : List ℕ) (at : ℕ) (a b : ClusterView) (x y : Option (List ℕ)) → Feeds old (take at piece) now a b x y → CutsPiece old piece a b x y
 Cuts-rest old piece now at a b x y p = Cuts-stop old piece (take at piece) (drop at piece) now a b x y p (sym (take-append-drop at piece))
@@ -181,17 +194,18 @@ Consumes-none None = tt
 Consumes-none (Some xs) = refl
 
 pub ReadsOn-start : (s : Option (List ℕ)) (c : ClusterView) (x : Option (List ℕ)) → ReadsOn s s 0 [] c c x x
-ReadsOn-start s c x = record { bytes = []; read = Consumes-none s; many = refl; feeds = Feeds-none [] c x }
+ReadsOn-start s c x = record { bytes = []; read = Consumes-none s; many = refl; kept = IsKept-start [] (record { no_end = tt; few = omega arith }); feeds = Feeds-none [] c x }
 
 -- the next piece was read and taken
 pub ReadsOn-feed : (s l l' : Option (List ℕ)) (into waiting waiting' : List ℕ) (total n : ℕ) (a b c : ClusterView) (x y z : Option (List ℕ)) → ReadsOn s l total waiting a b x y → n ≤ length into → Consumes l l' (take n into)
-    → Feeds waiting (take n into) waiting' b c y z → ReadsOn s l' (total + n) waiting' a c x z
-ReadsOn-feed s l l' into waiting waiting' total n a b c x y z on within read feeds =
+    → IsKept (waiting ++ take n into) waiting' → Feeds waiting (take n into) waiting' b c y z → ReadsOn s l' (total + n) waiting' a c x z
+ReadsOn-feed s l l' into waiting waiting' total n a b c x y z on within read kept feeds =
     let piece = take n into in
     record {
       bytes = on.bytes ++ piece;
       read = Consumes-then s l l' on.bytes piece on.read read;
       many = omega (arith, on.many, length-append on.bytes piece, length-take n into);
+      kept = IsKept-then on.bytes piece waiting waiting' on.kept kept;
       feeds = Feeds-then [] on.bytes waiting piece waiting' a b c x y z on.feeds feeds;
     }
 
@@ -245,6 +259,16 @@ ReadsOn-fault s l l' waiting total a b x y on kept = (
   told_whole s l' on.bytes (Keeps-consumes s l l' on.bytes on.read kept),
   Cuts-front on.bytes waiting (left_of l') a b x y on.feeds,
 )
+
+-- each line that ended in what was read before was answered
+pub ReadsOn-front : (s l l' : Option (List ℕ)) (waiting : List ℕ) (total : ℕ) (a b : ClusterView) (x y : Option (List ℕ)) → ReadsOn s l total waiting a b x y → Keeps l l' → ReadsFront s l' a b x y
+ReadsOn-front s l l' waiting total a b x y on kept =
+    let rest : List ℕ → List Line = λ more. script_lines (unended on.bytes ++ more) in
+    record {
+      bytes = on.bytes;
+      read = Keeps-consumes s l l' on.bytes on.read kept;
+      ran = λ more. subst (λ ls. Ran ls (rest more) [] a b x y) (sym (on.feeds.splits more ∙ ap (λ ls. on.feeds.lines ++ ls) (lines_behind on.bytes more waiting on.kept))) (Ran-more on.feeds.lines [] (rest more) [] a b x y on.feeds.does);
+    }
 
 -- with the next piece the script is too long
 pub ReadsOn-long : (s l l' : Option (List ℕ)) (into waiting : List ℕ) (total n : ℕ) (a b : ClusterView) (x y : Option (List ℕ)) → ReadsOn s l total waiting a b x y → n ≤ length into → Consumes l l' (take n into) → most_bytes < total + n

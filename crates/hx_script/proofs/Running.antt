@@ -15,8 +15,8 @@ use Rattle.hx_model.specs.Machine.{History}
 use Rattle.hx_core.specs.Refinement.{ClusterView, HasWorld, Simulates}
 use Rattle.hx_script.specs.Lines.{Line, line_of_text, asking, is_asking}
 use Rattle.hx_script.specs.Forms.{reading_of}
-use Rattle.hx_script.specs.Exchanges.{made_entries, Exchange, IsExchange, lines_of, entries_of, answer_lines, exchange_line}
-use Rattle.hx_script.specs.Running.{Ran, Does, Cuts, LacksLast, WritesFront, IsCalm, HasMade, Serves}
+use Rattle.hx_script.specs.Exchanges.{made_entries, Exchange, IsExchange, lines_of, entries_of, answer_lines, exchange_line, last_lines}
+use Rattle.hx_script.specs.Running.{Ran, Does, Cuts, LacksLast, IsEndOf, WritesFront, IsCalm, HasMade, Serves}
 use Rattle.hx_script.proofs.Simulating.{Simulates-none, Simulates-after}
 
 -- ---- exchanges one after the other
@@ -45,7 +45,7 @@ texts_together ts us text more lacking p q =
 
 LacksLast-before : (ts us : List Exchange) (lacking : List ℕ) → LacksLast us lacking → LacksLast (ts ++ us) lacking
 LacksLast-before ts us lacking (inl none) = inl none
-LacksLast-before ts us lacking (inr (before, last, front, ends, whole)) = inr (ts ++ before, last, front, ap (λ l. ts ++ l) ends ∙ sym (append_assoc ts before (last ∷ [])), whole)
+LacksLast-before ts us lacking (inr (before, last, ends, whole)) = inr (ts ++ before, last, ap (λ l. ts ++ l) ends ∙ sym (append_assoc ts before (last ∷ [])), whole)
 
 pub Appends-nil : (a : Option (List ℕ)) → Appends a a []
 Appends-nil None = tt
@@ -85,7 +85,7 @@ pub Does-cuts : (ls ks : List Line) (a b c : ClusterView) (x y z : Option (List 
 Does-cuts ls ks a b c x y z p q = record { rest = q.rest; lacking = q.lacking; ran = Ran-then ls ks q.rest q.lacking a b c x y z p q.ran }
 
 -- more lines stay unanswered
-Ran-more : (ls rest more : List Line) (lacking : List ℕ) (a b : ClusterView) (x y : Option (List ℕ)) → Ran ls rest lacking a b x y → Ran (ls ++ more) (rest ++ more) lacking a b x y
+pub Ran-more : (ls rest more : List Line) (lacking : List ℕ) (a b : ClusterView) (x y : Option (List ℕ)) → Ran ls rest lacking a b x y → Ran (ls ++ more) (rest ++ more) lacking a b x y
 Ran-more ls rest more lacking a b x y p =
     record { exchanges = p.exchanges; text = p.text; each = p.each; split = ap (λ l. l ++ more) p.split ∙ append_assoc (lines_of p.exchanges) rest more; simulates = p.simulates; says = p.says; lacks = p.lacks; wrote = p.wrote }
 
@@ -98,45 +98,50 @@ simulates_one : (e : Exchange) (a b : ClusterView) → (HasWorld a → Simulates
 simulates_one e a b p stood = subst (λ es. Simulates a es b) (sym (append-nil (made_entries e.made))) (p stood)
 
 -- it was written
-Does-made : (line : Line) (text : List ℕ) (a b : ClusterView) (x y : Option (List ℕ)) → HasMade (reading_of line) text a b → Appends x y text → Does (line ∷ []) a b x y
-Does-made line text a b x y p wrote =
+Does-made : (line : Line) (head end : List ℕ) (a b : ClusterView) (x y : Option (List ℕ)) → HasMade (reading_of line) head end a b → Appends x y (head ++ end) → Does (line ∷ []) a b x y
+Does-made line head end a b x y p wrote =
     let exchange : Exchange = record { line = line; made = p.made; unsaid = p.unsaid } in
     record {
       exchanges = exchange ∷ [];
-      text = text;
+      text = head ++ end;
       each = (record { makes = p.makes; said = p.said }, tt);
       split = refl;
       simulates = simulates_one exchange a b p.simulates;
-      says = ap (λ l. l ++ []) (sym p.is);
+      says = ap (λ l. l ++ []) p.whole;
       lacks = inl refl;
       wrote = wrote;
     }
 
--- a front of it was written
-Cuts-made : (line : Line) (text : List ℕ) (a b : ClusterView) (x y : Option (List ℕ)) → HasMade (reading_of line) text a b → WritesFront text x y → Cuts (line ∷ []) a b x y
-Cuts-made line text a b x y p q =
+-- an end of an end
+IsEndOf-trans : (text end last : List ℕ) → IsEndOf text end → IsEndOf end last → IsEndOf text last
+IsEndOf-trans text end last (front, p) (more, q) = (front ++ more, p ∙ ap (λ l. front ++ l) q ∙ sym (append_assoc front more last))
+
+-- a front of its end was written, behind its head
+Cuts-made : (line : Line) (head end : List ℕ) (a b : ClusterView) (x y z : Option (List ℕ)) → HasMade (reading_of line) head end a b → Appends x y head → WritesFront end y z → Cuts (line ∷ []) a b x z
+Cuts-made line head end a b x y z p wrote q =
     let exchange : Exchange = record { line = line; made = p.made; unsaid = p.unsaid } in
     record {
       rest = [];
       lacking = q.lacking;
       ran = record {
         exchanges = exchange ∷ [];
-        text = q.front;
+        text = head ++ q.front;
         each = (record { makes = p.makes; said = p.said }, tt);
         split = refl;
         simulates = simulates_one exchange a b p.simulates;
-        says = append-nil (exchange_line exchange) ∙ sym p.is ∙ q.whole;
-        lacks = inr ([], exchange, q.front, refl, sym p.is ∙ q.whole);
-        wrote = q.wrote;
+        says = append-nil (exchange_line exchange) ∙ p.whole ∙ ap (λ l. head ++ l) q.whole ∙ sym (append_assoc head q.front q.lacking);
+        lacks = inr ([], exchange, refl, IsEndOf-trans (last_lines exchange) end q.lacking p.last (q.front, q.whole));
+        wrote = Appends-trans x y z head q.front wrote q.wrote;
       };
     }
 
 -- a line was served
 pub Does-serves : {T E : Type 0} (line : Line) (a b : ClusterView) (x y : SinkView) (r : Result T E) → Serves (reading_of line) a b x y r → OnOk r (Does (line ∷ []) a b x.written y.written)
-Does-serves line a b x y r p = on_ok_weaker r (Does-made line p.text a b x.written y.written p.made) p.says.whole
+Does-serves line a b x y r p =
+    on_ok_weaker r (λ wrote. Does-made line p.head p.end a b x.written y.written p.made (Appends-trans x.written p.between.written y.written p.head p.end p.said.wrote wrote)) p.says.whole
 
 pub Cuts-serves : {T E : Type 0} (line : Line) (a b : ClusterView) (x y : SinkView) (r : Result T E) → Serves (reading_of line) a b x y r → OnErr r (Cuts (line ∷ []) a b x.written y.written)
-Cuts-serves line a b x y r p = on_err_weaker r (Cuts-made line p.text a b x.written y.written p.made) p.says.cut
+Cuts-serves line a b x y r p = on_err_weaker r (Cuts-made line p.head p.end a b x.written p.between.written y.written p.made p.said.wrote) p.says.cut
 
 -- ---- a part between line feeds
 

@@ -1,5 +1,5 @@
 -- Texts that are written one after another.
-use Rattle.std.proofs.Common.{◌≡◌, ◌≤◌, ◌<◌, ℕ, ◌+◌, List, [], ◌∷◌, ◌++◌, Ok, Err, sym, ap, subst, ◌∙◌, append_assoc, append-nil, take, drop, get_or, length, flat_map}
+use Rattle.std.proofs.Common.{◌≡◌, ◌≤◌, ◌<◌, ℕ, ◌+◌, List, [], ◌∷◌, ◌++◌, Ok, Err, refl, sym, ap, subst, ◌∙◌, append_assoc, append-nil, take, drop, get_or, length, flat_map}
 use Rattle.std.specs.Prelude.{IsErrAnd, ◌⊎◌}
 use Rattle.std.specs.declared.option.Option.{Option}
 use Rattle.std.specs.declared.result.Result.{Result}
@@ -9,8 +9,11 @@ use Rattle.std.proofs.lemmas.List.{take_more, take-append-drop}
 use Rattle.std.proofs.lemmas.Result.{on_ok_weaker, on_err_weaker}
 use Rattle.hx_ports.specs.Causes.{Rose}
 use Rattle.hx_ports.specs.Views.{SinkView}
-use Rattle.hx_script.specs.Running.{IsCalm, Said, SaysText, WriteCause, WritesFront}
-use Rattle.hx_script.proofs.Running.{Appends-trans, calm_on}
+use Rattle.hx_model.specs.declared.refusal.Refusal.{Refusal}
+use Rattle.hx_core.specs.Refinement.{ClusterView}
+use Rattle.hx_script.specs.Running.{IsCalm, Said, SaysText, Serves, WriteCause, WritesFront}
+use Rattle.hx_script.specs.declared.order.Order.{Order}
+use Rattle.hx_script.proofs.Running.{Appends-nil, Appends-trans, calm_on}
 
 -- ---- fronts
 
@@ -29,7 +32,19 @@ cause_after a b c r p q =
       still = on_ok_weaker r (λ calm. calm_on a b c p calm) q.still;
     }
 
+-- the causes of a line that was served
+pub Serves-cause : {T E : Type 0} (reading : Result Order Refusal) (a b : ClusterView) (x y : SinkView) (r : Result T E) → Serves reading a b x y r → WriteCause x y r
+Serves-cause reading a b x y r p = cause_after x p.between y r p.said.calm p.says.cause
+
 -- ---- texts
+
+-- nothing was written
+pub Said-none : (a : SinkView) → Said [] a a
+Said-none a = record { calm = record { faults = refl; stalls = refl }; wrote = Appends-nil a.written }
+
+-- one text, then another
+pub Said-then : (s t : List ℕ) (a b c : SinkView) → Said s a b → Said t b c → Said (s ++ t) a c
+Said-then s t a b c p q = record { calm = calm_on a b c p.calm q.calm; wrote = Appends-trans a.written b.written c.written s t p.wrote q.wrote }
 
 pub Said-of : {T E : Type 0} (s : List ℕ) (a b : SinkView) (v : T) → SaysText {T = T} {E = E} s a b (Ok v) → Said s a b
 Said-of s a b v p = record { calm = p.cause.still; wrote = p.whole }

@@ -11,15 +11,15 @@ use Rattle.hx_core.proofs.Simulating.{Simulates-then, HasWorld-after}
 
 -- a refused line changes nothing
 pub Simulates-refused : (c : ClusterView) (refusal : Refusal) → HasWorld c → Simulates c (Refused refusal ∷ []) c
-Simulates-refused c refusal stood = record { stood = stood; steps = λ w stands. ((tt, tt), stands); later = omega arith; cause = λ e. absurd (true≢false (sym e)); still = λ e. refl; tells = refl; place = refl }
+Simulates-refused c refusal stood = record { stood = stood; steps = λ w stands. ((tt, tt), stands); valid = λ w stands. (stands.valid, stands.valid); later = omega arith; cause = λ e. absurd (true≢false (sym e)); still = λ e. refl; tells = refl; place = refl }
 
 -- want of memory changes nothing
 pub Simulates-lost : (c : ClusterView) (ask : Ask) → HasWorld c → Simulates c (LostRequest ask NoMemory ∷ []) c
-Simulates-lost c ask stood = record { stood = stood; steps = λ w stands. ((tt, tt), stands); later = omega arith; cause = λ e. absurd (true≢false (sym e)); still = λ e. refl; tells = refl; place = refl }
+Simulates-lost c ask stood = record { stood = stood; steps = λ w stands. ((tt, tt), stands); valid = λ w stands. (stands.valid, stands.valid); later = omega arith; cause = λ e. absurd (true≢false (sym e)); still = λ e. refl; tells = refl; place = refl }
 
 -- nor does it where a key is taken
 pub Simulates-lost_take : (c : ClusterView) (worker : ℕ) → HasWorld c → Simulates c (LostTake worker ∷ []) c
-Simulates-lost_take c worker stood = record { stood = stood; steps = λ w stands. ((tt, tt), stands); later = omega arith; cause = λ e. absurd (true≢false (sym e)); still = λ e. refl; tells = refl; place = refl }
+Simulates-lost_take c worker stood = record { stood = stood; steps = λ w stands. ((tt, tt), stands); valid = λ w stands. (stands.valid, stands.valid); later = omega arith; cause = λ e. absurd (true≢false (sym e)); still = λ e. refl; tells = refl; place = refl }
 
 -- the same where the first ones are known of a cluster that stands for a world
 pub Simulates-after : (a b c : ClusterView) (h k : History) → (HasWorld a → Simulates a h b) → (HasWorld b → Simulates b k c) → HasWorld a → Simulates a (h ++ k) c

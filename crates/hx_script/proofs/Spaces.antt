@@ -1,5 +1,5 @@
 -- Where the first space of a text is.
-use Rattle.std.proofs.Common.{◌≡◌, ℕ, ◌+◌, cond, List, length, Option, Some, None, get_or, ap, ◌∙◌, sym, refl, arith, IsUtf8}
+use Rattle.std.proofs.Common.{◌≡◌, ℕ, ◌+◌, cond, List, Option, Some, None, get_or, ap, ◌∙◌, sym, refl, arith, IsUtf8}
 use Rattle.std.proofs.lemmas.Bool.{eqb-true, lt-ltb, le-ltb}
 use Rattle.std.proofs.lemmas.List.Quantifiers.{position-Some}
 use Rattle.std.specs.List.{position_or_len}

@@ -3,25 +3,25 @@
 --     Exchange, IsExchange         a line, what it made, and whether the text of its answer found no memory;  the line makes that
 --     lines_of, entries_of the lines and the entries of exchanges
 --     answer_lines         what exchanges write
-use Rattle.std.specs.Prelude.{◌≡◌, ◌≤◌, ◌⊎◌, ℕ, Bool, true, false, List, [], ◌∷◌, ◌++◌, length, map, flat_map, Ok, Err, Option, Some, None, if◌then◌else◌}
+--     last_lines           what an exchange writes at once, at its end
+use Rattle.std.specs.Prelude.{◌≡◌, ◌≢◌, ◌≤◌, ◌⊎◌, ℕ, Bool, true, false, List, [], ◌∷◌, ◌++◌, length, map, flat_map, Ok, Err, Option, Some, None, if◌then◌else◌}
 use Rattle.std.specs.declared.result.Result.{Result}
 use Rattle.hx_model.specs.declared.ask.Answer.{Answer}
 use Rattle.hx_model.specs.declared.ask.Ask.{Ask}
 use Rattle.hx_model.specs.declared.ask.Answer.TheVariants.{Refused as Refusing}
 use Rattle.hx_model.specs.declared.key.Finish.{Finish}
-use Rattle.hx_model.specs.declared.key.Finish.TheVariants as ending
 use Rattle.hx_model.specs.declared.key.Key.{Key}
 use Rattle.hx_model.specs.declared.refusal.Refusal.{Refusal}
 use Rattle.hx_model.specs.declared.refusal.Refusal.TheVariants.{NoMemory}
 use Rattle.hx_model.specs.Machine.{Entry, Refused, Request, LostRequest, Took, Idle, Already, HeldBy, LostTake, Finished, Dropped, Checked, History, answer_of}
-use Rattle.hx_core.specs.Turns.{turns_entries, end_entries, last_end}
+use Rattle.hx_core.specs.Turns.{turns_entries, end_entries, loss_of, LoseLast}
 use Rattle.hx_core.specs.declared.turns.Settle.{Settle}
 use Rattle.hx_core.specs.declared.turns.Settle.TheVariants as settled
 use Rattle.hx_core.specs.declared.turns.Turned.{Turned}
 use Rattle.hx_script.specs.Lines.{Line}
 use Rattle.hx_script.specs.Forms.{reading_of}
 use Rattle.hx_script.specs.Replies.{answer_line}
-use Rattle.hx_script.specs.Turns.{turn_line, settle_lines}
+use Rattle.hx_script.specs.Turns.{turn_line, turned_lines, settle_lines, settled_line}
 use Rattle.hx_script.specs.declared.order.Order.{Order}
 use Rattle.hx_script.specs.declared.order.Order.TheVariants as order
 
@@ -62,13 +62,19 @@ IsRequest ask (Request asked answer) = asked ≡ ask
 IsRequest ask (LostRequest asked cause) = asked ≡ ask
 IsRequest ask _ = ⊥
 
--- At most so many turns were made. They end where no key waits or is held; or keys wait and the turns are used up, or none waits and some are held; or at the last turn, which found no version or met a fault; or for want of memory
-abbrev pub IsSettle : ℕ → List Turned → Settle → Type 0
-IsSettle most turns settled.Settled = length turns ≤ most
-IsSettle most turns (settled.Unsettled waiting held) = (length turns ≤ most) × ((length turns ≡ most) ⊎ (waiting ≡ 0))
-IsSettle most turns settled.Spent = (length turns ≤ most) × (last_end turns ≡ Some ending.Spent)
-IsSettle most turns settled.Fault = (length turns ≤ most) × (last_end turns ≡ Some ending.Fault)
-IsSettle most turns settled.NoMemory = length turns ≤ most
+-- A settle ends by its last turn, where that was lost. Else it ends where no key waits or is held; or the turns are used up and keys wait, or none waits and some are held; or for want of memory
+abbrev pub EndsBy : Option Settle → ℕ → List Turned → Settle → Type 0
+EndsBy (Some loss) most turns end = end ≡ loss
+EndsBy None most turns settled.Settled = Unit {0}
+EndsBy None most turns (settled.Unsettled waiting held) = ((length turns ≡ most) × (waiting ≢ 0)) ⊎ ((waiting ≡ 0) × (held ≢ 0))
+EndsBy None most turns settled.NoMemory = Unit {0}
+EndsBy None most turns _ = ⊥
+
+-- at most so many turns were made, of which none but the last was lost
+pub record IsSettle (most : ℕ) (turns : List Turned) (end : Settle) : Type 0 where
+  pub few : length turns ≤ most
+  pub whole : LoseLast turns
+  pub ends : EndsBy (loss_of turns) most turns end
 
 -- what an order makes, and a line that is refused
 abbrev pub Makes : Result Order Refusal → Made → Type 0
@@ -120,9 +126,32 @@ abbrev pub made_lines : Made → List ℕ
 made_lines (One entry) = entry_line entry
 made_lines (Turns turns end) = settle_lines turns end
 
+-- the lines of its last turn, with that of the end
+abbrev pub last_turn_lines : List Turned → Settle → List ℕ
+last_turn_lines [] end = settled_line end
+last_turn_lines (turned ∷ []) end = turned_lines turned ++ settled_line end
+last_turn_lines (turned ∷ next ∷ turns) end = last_turn_lines (next ∷ turns) end
+
+-- what of the lines is written at once, at their end: the line of an entry; of a settle the lines of its last turn, with that of its end
+abbrev pub last_made_lines : Made → List ℕ
+last_made_lines (One entry) = entry_line entry
+last_made_lines (Turns turns end) = last_turn_lines turns end
+
+-- what is written of what was made: its lines, or the fixed one in their place
+abbrev pub said_lines : Made → Bool → List ℕ
+said_lines made unsaid = if unsaid then no_memory_line else made_lines made
+
+-- what of that is written at once, at its end
+abbrev pub said_last : Made → Bool → List ℕ
+said_last made unsaid = if unsaid then no_memory_line else last_made_lines made
+
 -- what an exchange writes
 abbrev pub exchange_line : Exchange → List ℕ
-exchange_line exchange = if exchange.unsaid then no_memory_line else made_lines exchange.made
+exchange_line exchange = said_lines exchange.made exchange.unsaid
+
+-- what of it is written at once, at its end
+abbrev pub last_lines : Exchange → List ℕ
+last_lines exchange = said_last exchange.made exchange.unsaid
 
 -- what exchanges write
 abbrev pub answer_lines : List Exchange → List ℕ

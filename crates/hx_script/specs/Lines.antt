@@ -3,9 +3,10 @@
 --     is_asking       whether a line is answered: an empty line and one that begins with `#` aren't
 --     asking          the line of a part between line feeds, where it is answered
 --     script_lines    the lines of a script that are answered, in order
+--     unended         the bytes behind the last line feed, which are of a line that hasn't ended
 -- A line ends with a line feed or at the end of the input, and a carriage return before that is dropped.
 use Rattle.std.specs.Prelude.{ℕ, Bool, false, not, ◌==◌, nat_le, List, [], ◌∷◌, filter, length, map, if◌then◌else◌}
-use Rattle.std.specs.List.{slice_split}
+use Rattle.std.specs.List.{list_any, slice_split}
 use Rattle.std.specs.Str.Lines.{strip_carriage_return}
 
 -- the most bytes of a line, without the carriage return at its end
@@ -37,3 +38,12 @@ asking part = lines_of_parts (part ∷ [])
 -- the lines that are answered
 abbrev pub script_lines : List ℕ → List Line
 script_lines bytes = lines_of_parts (slice_split (λ byte. byte == 10) bytes)
+
+-- a line ends in them
+abbrev pub has_end : List ℕ → Bool
+has_end bytes = list_any (λ byte. byte == 10) bytes
+
+-- the bytes behind the last line feed, and all where there is none
+abbrev pub unended : List ℕ → List ℕ
+unended [] = []
+unended (byte ∷ bytes) = if has_end (byte ∷ bytes) then unended bytes else byte ∷ bytes

@@ -1,16 +1,18 @@
 -- What the run of lines does, piece by piece.
---     Ran lines rest lacking ..    all lines but the rest were answered, and what was written lacks the end of the last answer
+--     Ran lines rest lacking ..    all lines but the rest were answered, and what was written lacks an end of the last lines that are written at once
 --     Does, Cuts                   nothing is left, and nothing is lacking;  something may be
 --     SaysText, SaysAnswer         a text was written, or a front of it;  an answer
 --     Said                         a text was written by calls that counted nothing
---     HasMade                      a reading makes something whose lines are a text
+--     HasMade                      a reading makes something whose lines are a text, of which an end is written at once
 --     Serves                       it was made, and its lines were written, or a front of them
---     IsWaiting                    what is kept of a line that hasn't ended
+--     MadeTurns                    so many turns of a settle were made, and their lines written
+--     IsWaiting, IsKept            what is kept of a line that hasn't ended;  behind which bytes
 --     Feeds, CutsPiece             a piece of the script was taken;  it was being taken
 --     OfScript told P              there is a script with P: the one that the source tells, where it tells
 --     ReadsOn                      what was read of the script was answered, but for what waits
+--     ReadsFront                   a read failed: each line that ended before was answered
 --     IsCalm, WriteCause           no write failed or stalled;  when a write may fail
-use Rattle.std.specs.Prelude.{◌≡◌, ◌≢◌, ◌≤◌, ◌<◌, ◌+◌, ◌^◌, ℕ, Bool, false, if◌then◌else◌, List, [], ◌∷◌, ◌++◌, ◌⊎◌, ◌==◌, IfSome, length, take, slice_index, OnOk, OnErr}
+use Rattle.std.specs.Prelude.{◌≡◌, ◌≢◌, ◌≤◌, ◌<◌, ◌+◌, ◌^◌, ℕ, Bool, false, List, [], ◌∷◌, ◌++◌, ◌⊎◌, ◌==◌, IfSome, flat_map, length, take, slice_index, OnOk, OnErr}
 use Rattle.std.specs.declared.option.Option.{Option}
 use Rattle.std.specs.declared.result.Result.{Result}
 use Rattle.std.specs.List.{AllByRecursion}
@@ -22,16 +24,25 @@ use Rattle.hx_model.specs.declared.ask.Answer.TheVariants.{Refused}
 use Rattle.hx_model.specs.declared.refusal.Refusal.{Refusal}
 use Rattle.hx_model.specs.declared.refusal.Refusal.TheVariants.{StoreFailed}
 use Rattle.hx_core.specs.Refinement.{ClusterView, HasWorld, Simulates}
-use Rattle.hx_script.specs.Lines.{Line, most_line_bytes, script_lines}
+use Rattle.hx_core.specs.Settling.{IsWhole}
+use Rattle.hx_core.specs.Turns.{turns_entries}
+use Rattle.hx_core.specs.declared.turns.Turned.{Turned}
+use Rattle.hx_script.specs.Lines.{Line, most_line_bytes, script_lines, unended}
 use Rattle.hx_script.specs.Replies.{answer_line}
-use Rattle.hx_script.specs.Exchanges.{Made, made_entries, made_lines, Makes, MayBeUnsaid, Exchange, IsExchange, lines_of, entries_of, answer_lines, exchange_line, no_memory_line}
+use Rattle.hx_script.specs.Exchanges.{Made, made_entries, Makes, MayBeUnsaid, Exchange, IsExchange, lines_of, entries_of, answer_lines, said_lines, said_last, last_lines, no_memory_line}
+use Rattle.hx_script.specs.Turns.{turned_lines}
 use Rattle.hx_script.specs.declared.order.Order.{Order}
 
--- what is lacking of the exchanges' lines is an end of the last one
+-- an end of a text
+abbrev pub IsEndOf : List ℕ → List ℕ → Type 0
+IsEndOf text end = (front : List ℕ) × (text ≡ front ++ end)
+
+-- What is lacking of the exchanges' lines is an end of the last ones that are written at once. So no line was begun whose predecessor wasn't written, nor a turn of a settle
 abbrev pub LacksLast : List Exchange → List ℕ → Type 0
-LacksLast exchanges lacking = (lacking ≡ []) ⊎ ((before : List Exchange) × (last : Exchange) × (front : List ℕ) × (exchanges ≡ before ++ last ∷ []) × (exchange_line last ≡ front ++ lacking))
+LacksLast exchanges lacking = (lacking ≡ []) ⊎ ((before : List Exchange) × (last : Exchange) × (exchanges ≡ before ++ last ∷ []) × IsEndOf (last_lines last) lacking)
 
 -- All lines but the rest were answered by exchanges, whose entries the cluster made if it stood for a world. What was written are their lines, but for what is lacking of the last one.
+-- Where a write failed in a settle, its exchange has the turns that were made, and ends with the loss of the last one, or else with a take that was lost: that changes nothing, and its line is among what is lacking.
 pub record Ran (lines rest : List Line) (lacking : List ℕ) (old new : ClusterView) (before after : Option (List ℕ)) : Type 0 where
   pub exchanges : List Exchange
   pub text : List ℕ
@@ -92,24 +103,32 @@ pub record Said (text : List ℕ) (old new : SinkView) : Type 0 where
   pub calm : IsCalm old new
   pub wrote : Appends old.written new.written text
 
--- what is written of what was made: its lines, or the fixed one in their place
-abbrev pub said_lines : Made → Bool → List ℕ
-said_lines made unsaid = if unsaid then no_memory_line else made_lines made
-
--- a reading makes something whose lines are the text
-pub record HasMade (reading : Result Order Refusal) (text : List ℕ) (old new : ClusterView) : Type 0 where
+-- a reading makes something whose lines are a head and an end, of which the end is written at once
+pub record HasMade (reading : Result Order Refusal) (head end : List ℕ) (old new : ClusterView) : Type 0 where
   pub made : Made
   pub unsaid : Bool
   pub makes : Makes reading made
   pub said : MayBeUnsaid made unsaid
   pub simulates : HasWorld old → Simulates old (made_entries made) new
-  pub is : text ≡ said_lines made unsaid
+  pub whole : said_lines made unsaid ≡ head ++ end
+  pub last : IsEndOf (said_last made unsaid) end
 
--- what a line orders, or refuses, was made, and its lines were written, or a front of them
+-- what a line orders, or refuses, was made, and its lines were written, or a front of them that lacks an end of the last ones
 pub record Serves {T E : Type 0} (reading : Result Order Refusal) (old new : ClusterView) (before after : SinkView) (result : Result T E) : Type 0 where
-  pub text : List ℕ
-  pub made : HasMade reading text old new
-  pub says : SaysText text before after result
+  pub head : List ℕ
+  pub end : List ℕ
+  pub made : HasMade reading head end old new
+  pub between : SinkView
+  pub said : Said head before between
+  pub says : SaysText end between after result
+
+-- so many turns of a settle were made, none of them was lost, and their lines were written
+pub record MadeTurns (count : ℕ) (old new : ClusterView) (before after : SinkView) : Type 0 where
+  pub turns : List Turned
+  pub many : length turns ≡ count
+  pub whole : IsWhole turns
+  pub simulates : HasWorld old → Simulates old (turns_entries turns) new
+  pub said : Said (flat_map turned_lines turns) before after
 
 -- no line ends in it
 abbrev pub HasNoEnd : List ℕ → Type 0
@@ -134,6 +153,10 @@ pub record IsWaiting (bytes : List ℕ) : Type 0 where
   pub no_end : HasNoEnd bytes
   pub few : length bytes ≤ most_kept
 
+-- what is kept behind the last line feed of these bytes
+pub record IsKept (bytes waiting : List ℕ) : Type 0 where
+  pub is : waiting ≡ take most_kept (unended bytes)
+
 -- whatever follows, these are the lines that the piece ends, and then those of what waits and what follows
 abbrev pub Splits : List ℕ → List ℕ → List Line → List ℕ → Type 0
 Splits old piece lines new = (rest : List ℕ) → script_lines (old ++ (piece ++ rest)) ≡ lines ++ script_lines (new ++ rest)
@@ -157,4 +180,11 @@ pub record ReadsOn (told left : Option (List ℕ)) (total : ℕ) (waiting : List
   pub bytes : List ℕ
   pub read : Consumes told left bytes
   pub many : length bytes ≡ total
+  pub kept : IsKept bytes waiting
   pub feeds : Feeds [] bytes waiting old new before after
+
+-- A read failed behind some bytes. Whatever follows them, the lines that they end were answered, and those from the one that hasn't ended on are left
+pub record ReadsFront (told left : Option (List ℕ)) (old new : ClusterView) (before after : Option (List ℕ)) : Type 0 where
+  pub bytes : List ℕ
+  pub read : Consumes told left bytes
+  pub ran : (more : List ℕ) → Ran (script_lines (bytes ++ more)) (script_lines (unended bytes ++ more)) [] old new before after

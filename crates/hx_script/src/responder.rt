@@ -122,7 +122,7 @@ impl Responder {
             } => take_key(&mut self.line, cluster, sink, worker, key),
             Order::Finish { worker } => finish(&mut self.line, cluster, sink, worker),
             Order::Drop { worker } => drop_hand(&mut self.line, cluster, sink, worker),
-            Order::Settle { turns } => settle(self.alloc, &mut self.line, cluster, sink, turns),
+            Order::Settle { turns } => settle(&mut self.line, cluster, sink, turns),
             Order::Check => check(&mut self.line, cluster, sink),
         }
     }

@@ -5,7 +5,7 @@ ghost use Rattle.std.specs.Io.KnownBytes.{IsAtEnd, ReadConsumes};
 ghost use Rattle.hx_ports.specs.Causes.{HasCause, Rose};
 ghost use Rattle.hx_script.specs.Inside.{IsIdle};
 ghost use Rattle.hx_script.specs.Lines.{asking, script_lines};
-ghost use Rattle.hx_script.specs.Running.{Does, Cuts, OfScript, HasNoEnd, IsWaiting, EndsAt, most_kept, most_bytes, Feeds, CutsPiece, IsCalm};
+ghost use Rattle.hx_script.specs.Running.{Does, Cuts, OfScript, HasNoEnd, IsWaiting, EndsAt, most_kept, most_bytes, Feeds, CutsPiece, IsCalm, IsKept, ReadsFront};
 
 use crate::responder::Responder;
 use crate::writing::Unwritten;
@@ -106,6 +106,7 @@ fn end_line<W: Sink, K: Keeper>(
     ensures later { ((W.shown sink.old).faults ≤ (W.shown sink.new).faults) × ((W.shown sink.old).stalls ≤ (W.shown sink.new).stalls) }
     ensures still { OnOk result (IsCalm (W.shown sink.old) (W.shown sink.new)) }
     ensures cause { IsErrOf result Stop.WriteFault → Rose (W.shown sink.old).faults (W.shown sink.new).faults ⊎ Rose (W.shown sink.old).stalls (W.shown sink.new).stalls }
+    ensures memory { IsErrOf result Stop.NoMemory → IsCalm (W.shown sink.old) (W.shown sink.new) }
 {
     if waiting.is_empty() {
         responder.answer_part(cluster, sink, stretch)?;
@@ -129,11 +130,13 @@ fn feed<W: Sink, K: Keeper>(
     requires idle { IsIdle cluster.old }
     ensures idle { IsIdle cluster.new }
     ensures waits { OnOk result (IsWaiting waiting.new.items) }
+    ensures kept { OnOk result (IsKept (waiting.old.items ++ piece.now) waiting.new.items) }
     ensures feeds { OnOk result (Feeds waiting.old.items piece.now waiting.new.items cluster.old cluster.new (W.shown sink.old).written (W.shown sink.new).written) }
     ensures cut { OnErr result (CutsPiece waiting.old.items piece.now cluster.old cluster.new (W.shown sink.old).written (W.shown sink.new).written) }
     ensures later { ((W.shown sink.old).faults ≤ (W.shown sink.new).faults) × ((W.shown sink.old).stalls ≤ (W.shown sink.new).stalls) }
     ensures still { OnOk result (IsCalm (W.shown sink.old) (W.shown sink.new)) }
     ensures cause { IsErrOf result Stop.WriteFault → Rose (W.shown sink.old).faults (W.shown sink.new).faults ⊎ Rose (W.shown sink.old).stalls (W.shown sink.new).stalls }
+    ensures memory { IsErrOf result Stop.NoMemory → IsCalm (W.shown sink.old) (W.shown sink.new) }
 {
     let mut at = 0;
     while let Some(end) = first_end(&piece[at..]) {
@@ -178,8 +181,10 @@ pub fn run_script<S: Source, W: Sink, K: Keeper>(
     ensures done { result ≡ RunEnd.Done → OfScript (S.shown source.old).left (λ script. (length script ≤ most_bytes) × Does (script_lines script) cluster.old cluster.new (W.shown sink.old).written (W.shown sink.new).written) }
     ensures cut { result ≢ RunEnd.Done → OfScript (S.shown source.old).left (λ script. Cuts (script_lines script) cluster.old cluster.new (W.shown sink.old).written (W.shown sink.new).written) }
     ensures too_long { result ≡ RunEnd.TooLong → OfScript (S.shown source.old).left (λ script. (most_bytes < length script) × Cuts (script_lines script) cluster.old cluster.new (W.shown sink.old).written (W.shown sink.new).written) }
-    ensures calm { result ≡ RunEnd.Done → ((S.shown source.new).faults ≡ (S.shown source.old).faults) × IsCalm (W.shown sink.old) (W.shown sink.new) }
+    ensures unread { result ≡ RunEnd.ReadFault → ReadsFront (S.shown source.old).left (S.shown source.new).left cluster.old cluster.new (W.shown sink.old).written (W.shown sink.new).written }
     ensures end { result ≡ RunEnd.Done → IsAtEnd (S.shown source.new).left }
+    ensures read_calm { result ≢ RunEnd.ReadFault → (S.shown source.new).faults ≡ (S.shown source.old).faults }
+    ensures write_calm { result ≢ RunEnd.WriteFault → IsCalm (W.shown sink.old) (W.shown sink.new) }
     ensures read_fault { result ≡ RunEnd.ReadFault → Rose (S.shown source.old).faults (S.shown source.new).faults }
     ensures write_fault { result ≡ RunEnd.WriteFault → Rose (W.shown sink.old).faults (W.shown sink.new).faults ⊎ Rose (W.shown sink.old).stalls (W.shown sink.new).stalls }
 {

@@ -4,12 +4,13 @@ ghost use Rattle.hx_script.specs.Inside.{IsIdle};
 ghost use Rattle.hx_script.specs.Running.{Serves};
 ghost use Rattle.hx_script.specs.declared.order.Order.{Order};
 
-use crate::turns::{say_check, say_drop, say_finish, say_settle, say_take, say_take_key};
+use crate::turns::{
+    say_check, say_drop, say_finish, say_settled, say_take, say_take_key, say_turned,
+};
 use crate::writing::Unwritten;
-use hx_core::Cluster;
+use hx_core::{Cluster, Turn, end_of};
 use hx_model::Key;
 use hx_ports::{Keeper, Sink};
-use std::alloc::Global;
 
 /// A worker takes a key that waits.
 pub fn take<W: Sink, K: Keeper>(
@@ -94,9 +95,8 @@ pub fn check<W: Sink, K: Keeper>(
     say_check(room, sink, waiting, held)
 }
 
-/// Worker 0 takes, plans and finishes, at most so many times. What it did is kept until it is written.
+/// Worker 0 takes, plans and finishes, at most so many times. The lines of a turn are written before the next one is made.
 pub fn settle<W: Sink, K: Keeper>(
-    alloc: Global,
     room: &mut String,
     cluster: &mut Cluster<K>,
     sink: &mut W,
@@ -106,9 +106,20 @@ pub fn settle<W: Sink, K: Keeper>(
     ensures serves { Serves (Ok (Order.Settle turns)) cluster.old cluster.new (W.shown sink.old) (W.shown sink.new) result }
     ensures idle { IsIdle cluster.new }
 {
-    let mut made = Vec::new(alloc);
-    let end = cluster.settle(turns, &mut made);
-    let said = say_settle(room, sink, made.as_slice(), end);
-    drop(made);
-    said
+    for _made in 0..turns {
+        match cluster.turn() {
+            Turn::Made(turned) => {
+                let end = end_of(turned.end);
+                let said = say_turned(room, sink, &turned);
+                drop(turned);
+                said?;
+                if let Some(end) = end {
+                    return say_settled(room, sink, end);
+                }
+            }
+            Turn::Over(end) => return say_settled(room, sink, end),
+        }
+    }
+    let end = cluster.rest();
+    say_settled(room, sink, end)
 }

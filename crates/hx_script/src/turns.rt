@@ -1,5 +1,5 @@
 // The lines of workers' turns. They need no memory: where none is left, the pieces of a line are written one by one.
-ghost use Rattle.std.specs.Prelude.{◌≡◌, ◌++◌, List, ℕ, OnOk, codes, false, flat_map, option_map, string_bytes};
+ghost use Rattle.std.specs.Prelude.{◌≡◌, ◌++◌, List, ℕ, OnOk, codes, false, option_map, string_bytes};
 ghost use Rattle.hx_object.specs.Kinds.{plural_of};
 ghost use Rattle.hx_model.specs.Machine.{Took, Finished, Dropped, Checked, LostTake};
 ghost use Rattle.hx_model.specs.declared.key.Key.{Key as NamedBy};
@@ -7,7 +7,7 @@ ghost use Rattle.hx_rules.specs.declared.brief.Brief.{Brief};
 ghost use Rattle.hx_core.specs.Turns.{take_entry, take_key_entry, IsOfKey};
 ghost use Rattle.hx_script.specs.Inside.{pieced_line, texts_of};
 ghost use Rattle.hx_script.specs.Running.{SaysText};
-ghost use Rattle.hx_script.specs.Turns.{check_words, end_words, joined, key_words, settle_lines, settled_line, settled_words, turn_line, turned_lines, worker_line};
+ghost use Rattle.hx_script.specs.Turns.{check_words, end_words, joined, key_words, settled_line, settled_words, turn_line, turned_lines, worker_line};
 
 use crate::writing::{Unwritten, empty, write_all};
 use hx_core::{Settle, Take, Turned};
@@ -175,30 +175,26 @@ pub fn say_check<W: Sink>(
 
 // ---- settling
 
-/// Writes the lines of a settle: two for each turn, and its end.
-pub fn say_settle<W: Sink>(
+/// Writes the two lines of a turn of worker 0: at once, or one by one where no room is left to lay both.
+pub fn say_turned<W: Sink>(
     room: &mut String,
     sink: &mut W,
-    turns: &[Turned],
-    end: Settle,
+    turned: &Turned,
 ) -> Result<(), Unwritten>
-    ensures { SaysText (settle_lines turns.now end) (W.shown sink.old) (W.shown sink.new) result }
+    ensures { SaysText (turned_lines turned.now) (W.shown sink.old) (W.shown sink.new) result }
 {
-    say_turns(room, sink, turns)?;
-    say_settled(room, sink, end)
-}
-
-fn say_turns<W: Sink>(room: &mut String, sink: &mut W, turns: &[Turned]) -> Result<(), Unwritten>
-    ensures { SaysText (flat_map turned_lines turns.now) (W.shown sink.old) (W.shown sink.new) result }
-{
-    for turned in turns {
-        say_turned(room, sink, turned)?;
+    match lay_turned(room, turned) {
+        Ok(()) => {
+            let said = write_all(sink, room.as_bytes());
+            empty(room);
+            said
+        }
+        Err(NoMemory) => say_apart(room, sink, turned),
     }
-    Ok(())
 }
 
-/// Writes the two lines of a turn of worker 0.
-fn say_turned<W: Sink>(room: &mut String, sink: &mut W, turned: &Turned) -> Result<(), Unwritten>
+/// Writes the two lines of a turn one by one.
+fn say_apart<W: Sink>(room: &mut String, sink: &mut W, turned: &Turned) -> Result<(), Unwritten>
     ensures { SaysText (turned_lines turned.now) (W.shown sink.old) (W.shown sink.new) result }
 {
     say_taken(room, sink, &turned.key)?;
@@ -213,8 +209,34 @@ fn say_taken<W: Sink>(room: &mut String, sink: &mut W, key: &Key) -> Result<(), 
     say_turn(room, sink, "take", 0, &key_pieces("", key))
 }
 
+/// Lays the two lines of a turn of worker 0 into a buffer.
+fn lay_turned(room: &mut String, turned: &Turned) -> Result<(), NoMemory>
+    ensures { OnOk result (string_bytes room.new ≡ turned_lines turned.now) }
+{
+    room.clear();
+    lay_taken(room, &turned.key)?;
+    lay_finished(room, turned.end)
+}
+
+#[tactic(auto, unfolding(crate::specs::Turns::turn_line))]
+fn lay_taken(room: &mut String, key: &Key) -> Result<(), NoMemory>
+    ensures { OnOk result (string_bytes room.new ≡ string_bytes room.old ++ turn_line (Took 0 key.now false)) }
+{
+    lay_turn(room, "take", 0, &key_pieces("", key))
+}
+
+#[tactic(auto, unfolding(crate::specs::Turns::turn_line))]
+fn lay_finished(room: &mut String, end: Finish) -> Result<(), NoMemory>
+    ensures { OnOk result (string_bytes room.new ≡ string_bytes room.old ++ turn_line (Finished 0 end)) }
+{
+    let mut first = Buffer::new();
+    let mut second = Buffer::new();
+    lay_turn(room, "finish", 0, &end_pieces(end, &mut first, &mut second))
+}
+
+/// Writes the line of a settle's end.
 #[tactic(auto, unfolding(crate::specs::Turns::settled_line))]
-fn say_settled<W: Sink>(room: &mut String, sink: &mut W, end: Settle) -> Result<(), Unwritten>
+pub fn say_settled<W: Sink>(room: &mut String, sink: &mut W, end: Settle) -> Result<(), Unwritten>
     ensures { SaysText (settled_line end) (W.shown sink.old) (W.shown sink.new) result }
 {
     let mut first = Buffer::new();
@@ -361,6 +383,7 @@ fn say_line<W: Sink>(
 ) -> Result<(), Unwritten>
     ensures { SaysText (pieced_line head.now text.now) (W.shown sink.old) (W.shown sink.new) result }
 {
+    room.clear();
     let laid = lay_line(room, head, text);
     let said = match laid {
         Ok(()) => write_all(sink, room.as_bytes()),
@@ -370,11 +393,18 @@ fn say_line<W: Sink>(
     said
 }
 
-/// Lays a line into a buffer.
-fn lay_line(room: &mut String, head: &[&str], text: &[&str]) -> Result<(), NoMemory>
-    ensures { OnOk result (string_bytes room.new ≡ pieced_line head.now text.now) }
+/// Lays a worker's line into a buffer, behind what it has.
+fn lay_turn(room: &mut String, word: &str, worker: u32, text: &[&str]) -> Result<(), NoMemory>
+    ensures { OnOk result (string_bytes room.new ≡ string_bytes room.old ++ worker_line word.now worker (texts_of text.now)) }
 {
-    room.clear();
+    let mut digits = Buffer::new();
+    lay_line(room, &[word, " ", digits.format(worker), ": "], text)
+}
+
+/// Lays a line into a buffer, behind what it has.
+fn lay_line(room: &mut String, head: &[&str], text: &[&str]) -> Result<(), NoMemory>
+    ensures { OnOk result (string_bytes room.new ≡ string_bytes room.old ++ pieced_line head.now text.now) }
+{
     lay(room, head)?;
     lay(room, text)?;
     room.push('\n')?;

@@ -3,11 +3,12 @@ use Rattle.std.proofs.lemmas.List.{take_rest}
 use Rattle.hx_script.specs.Running.{most_kept}
 use Rattle.hx_script.proofs.Running.{calm_on, on_err_all}
 use Rattle.hx_script.proofs.Kept.{IsWaiting-keep}
-use Rattle.hx_script.proofs.Pieces.{add_back, Feeds-none, Feeds-line, Feeds-rest, Cuts-line, Cuts-rest}
+use Rattle.hx_script.proofs.Pieces.{add_back, Feeds-none, Feeds-line, Feeds-rest, IsKept-line, IsKept-rest, Cuts-line, Cuts-rest}
+use Rattle.hx_script.proofs.Unended.{IsKept-start}
 use Rattle.hx_script.proofs.script.feed.Goals as goal
 
 pub loop-end-init : goal.loop-end-init
-loop-end-init g c = record { within = omega arith; waits = c.requires.waits; idle = c.requires.idle; calm = record { faults = refl; stalls = refl }; feeds = Feeds-none _ _ _ }
+loop-end-init g c = record { within = omega arith; waits = c.requires.waits; kept = IsKept-start c.args.waiting.now.items c.requires.waits; idle = c.requires.idle; calm = record { faults = refl; stalls = refl }; feeds = Feeds-none _ _ _ }
 
 pub loop-end-preserved : goal.loop-end-preserved
 loop-end-preserved g c =
@@ -16,6 +17,7 @@ loop-end-preserved g c =
     rw c.in_ok-end_line.ensures.cleared (record {
       within = omega (arith, ends.within, length-drop c.loop-end.at c.args.piece.now);
       waits = record { no_end = tt; few = omega arith };
+      kept = IsKept-line c.args.waiting.now.items c.args.piece.now c.loop-end.at c.in-Some.end ends;
       idle = c.in_ok-end_line.ensures.idle;
       calm = calm_on _ _ _ c.loop-end.invariant.calm c.in_ok-end_line.ensures.still;
       feeds = Feeds-line _ _ _ _ _ _ _ _ _ _ _ c.loop-end.invariant.feeds c.loop-end.invariant.waits ends answered;
@@ -38,3 +40,9 @@ returns-clause-feeds g c =
     let none = rw (take_rest c.args.piece.now c.loop-end.at) at c.in_default.ensures.none in
     let kept = c.in_ok-keep.ensures ∙ ap (λ l. take most_kept (c.loop-end.waiting.items ++ l)) (take_rest c.args.piece.now c.loop-end.at) in
     rw kept (Feeds-rest _ _ _ _ _ _ _ _ c.loop-end.invariant.feeds c.loop-end.invariant.waits none)
+
+pub returns-clause-kept : goal.returns-clause-kept
+returns-clause-kept g c =
+    let none = rw (take_rest c.args.piece.now c.loop-end.at) at c.in_default.ensures.none in
+    let kept = c.in_ok-keep.ensures ∙ ap (λ l. take most_kept (c.loop-end.waiting.items ++ l)) (take_rest c.args.piece.now c.loop-end.at) in
+    rw kept (IsKept-rest c.args.waiting.now.items c.args.piece.now c.loop-end.waiting.items c.loop-end.at c.loop-end.invariant.kept none)

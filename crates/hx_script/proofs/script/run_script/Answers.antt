@@ -2,7 +2,7 @@ use Rattle.std.proofs.Common.{◌<◌, ◌+◌, ◌∙◌, refl, ap, arith}
 use Rattle.hx_model.specs.Hands.{hand_of}
 use Rattle.hx_script.specs.Running.{most_bytes}
 use Rattle.hx_script.proofs.Running.{calm_on}
-use Rattle.hx_script.proofs.Pieces.{Cuts-unread, ReadsOn-start, ReadsOn-feed, ReadsOn-end, ReadsOn-cut, ReadsOn-cut_last, ReadsOn-fault, ReadsOn-long}
+use Rattle.hx_script.proofs.Pieces.{Cuts-unread, ReadsOn-start, ReadsOn-feed, ReadsOn-end, ReadsOn-cut, ReadsOn-cut_last, ReadsOn-fault, ReadsOn-front, ReadsOn-long}
 use Rattle.hx_script.proofs.script.run_script.Goals as goal
 
 pub reading-init : goal.reading-init
@@ -20,13 +20,14 @@ pub reading-preserved : goal.reading-preserved
 reading-preserved g c =
     let fed = c.in_default-feed.ensures in
     let feeds = rw c.deref.ensures.value at fed.feeds in
+    let kept = rw c.deref.ensures.value at fed.kept in
     let read = c.in-Ok-read_piece.ensures.bytes.0 in
     record {
       waits = fed.waits;
       idle = fed.idle;
       room = omega (arith, c.reading.invariant.room, c.in-Ok-read_piece.ensures.same);
       few = omega arith;
-      reads = ReadsOn-feed (g.S.Source.shown c.args.source.now).left (g.S.Source.shown c.reading.source).left (g.S.Source.shown c.read_piece.new.source).left c.read_piece.new.piece.items c.reading.waiting.items c.feed.new.waiting.items c.reading.total c.in-Ok-read_piece.count _ _ _ _ _ _ c.reading.invariant.reads c.in-Ok-read_piece.ensures.bound.0 read feeds;
+      reads = ReadsOn-feed (g.S.Source.shown c.args.source.now).left (g.S.Source.shown c.reading.source).left (g.S.Source.shown c.read_piece.new.source).left c.read_piece.new.piece.items c.reading.waiting.items c.feed.new.waiting.items c.reading.total c.in-Ok-read_piece.count _ _ _ _ _ _ c.reading.invariant.reads c.in-Ok-read_piece.ensures.bound.0 read kept feeds;
       read_calm = c.in-Ok-read_piece.ensures.cause.still ∙ c.reading.invariant.read_calm;
       write_calm = calm_on _ _ _ c.reading.invariant.write_calm fed.still;
     }
@@ -36,6 +37,9 @@ returns-in_default-clause-cut g c = λ _. Cuts-unread (g.S.Source.shown c.args.s
 
 pub returns-in-Err-clause-cut : goal.returns-in-Err-clause-cut
 returns-in-Err-clause-cut g c = λ _. ReadsOn-fault (g.S.Source.shown c.args.source.now).left (g.S.Source.shown c.reading.source).left (g.S.Source.shown c.read_piece.new.source).left c.reading.waiting.items c.reading.total _ _ _ _ c.reading.invariant.reads c.in-Err.ensures.bytes
+
+pub returns-in-Err-clause-unread : goal.returns-in-Err-clause-unread
+returns-in-Err-clause-unread g c = λ _. ReadsOn-front (g.S.Source.shown c.args.source.now).left (g.S.Source.shown c.reading.source).left (g.S.Source.shown c.read_piece.new.source).left c.reading.waiting.items c.reading.total _ _ _ _ c.reading.invariant.reads c.in-Err.ensures.bytes
 
 pub returns-then-total-count-clause-cut : goal.returns-then-total-count-clause-cut
 returns-then-total-count-clause-cut g c =
