@@ -5,23 +5,19 @@
 --     ends_parent, ends_chain      the walk from a parent ends, and those from all that are in its chain
 --     ends_grown, ends_shrunk      walks end as before where a namespace comes or goes
 --     ended_before            who ends with another parent of it, and isn't below it or it ended, ended before
---     parted_chain            who is above one that isn't above it is so too where it has no parent
---     endless                 a walk doesn't end from one that gets a parent from which it doesn't, or that is below it
 use Rattle.std.specs.Prelude.{option_and_then}
-use Rattle.std.proofs.Common.{◌≡◌, ℕ, zero, suc, ◌+◌, ◌-◌, ◌≤◌, ◌⊎◌, Bool, true, false, not, ◌&&◌, Option, Some, None, List, length, refl, sym, ap, ◌∙◌, subst, inl, inr, arith, true≢false}
-use Rattle.std.specs.Option.{option_map_or}
+use Rattle.std.proofs.Common.{◌≡◌, ℕ, zero, suc, ◌+◌, ◌-◌, ◌≤◌, ◌⊎◌, Bool, true, false, ◌&&◌, Option, Some, None, List, length, refl, sym, ap, ◌∙◌, subst, inl, inr, arith, true≢false}
 use Rattle.std.specs.Str.{bytes_eq}
-use Rattle.std.proofs.lemmas.Bool.{and_parts, false_from_ne_true}
-use Rattle.std.proofs.lemmas.Option.{none-some}
+use Rattle.std.proofs.lemmas.Bool.{and_parts}
 use Rattle.hx_model.specs.declared.node.Node.{Node}
-use Rattle.hx_model.specs.Forest.{Forest, is_in, is_there, parent_of, chain_of, in_chain, with_parent as forest_with_parent}
+use Rattle.hx_model.specs.Forest.{Forest, is_in, is_there, parent_of, chain_of, with_parent as forest_with_parent}
 use Rattle.hx_model.specs.Moves.{chain_from}
 use Rattle.hx_model.proofs.Climbing.{Above, itself, through, chain_above, above_chain, few, is_same}
-use Rattle.hx_model.proofs.Moving.{moved_there, moved_parent, other_parent}
-use Rattle.hx_model.proofs.Walking.{Ends, past_top, passing, Ends_length, both, chain_there}
-use Rattle.hx_quota.specs.Inside.{ends_by, ends_up, IsFree}
+use Rattle.hx_model.proofs.Moving.{moved_there, other_parent}
+use Rattle.hx_model.proofs.Walking.{Ends, past_top, passing, Ends_length, chain_there}
+use Rattle.hx_quota.specs.Inside.{ends_by, ends_up}
 use Rattle.hx_quota.proofs.Attaching.{IsNew, alike, chain_new}
-use Rattle.hx_quota.proofs.Ending.{more, shorter, free, there_by, parent_by}
+use Rattle.hx_quota.proofs.Ending.{more, shorter, there_by, parent_by}
 
 abbrev pub IsUnderRoot : Forest → List ℕ → Type 0
 IsUnderRoot f n = (a : List ℕ) × Above f n a × (parent_of f a ≡ None)
@@ -157,73 +153,3 @@ module _ (f : Forest) (n : List ℕ) (parent : Option (List ℕ)) (here : is_the
         | inl was ↦ inl (under_root f (length f) n was)
         | inr never ↦ inr (λ r. true≢false (sym (ends_root then n r) ∙ never))
       ]
-
--- without a parent
-module _ (f : Forest) (n : List ℕ) (here : is_there f n ≡ true) (q : List ℕ) (out_of : in_chain f n q ≡ false) where
-  abbrev parted : Forest
-  parted = forest_with_parent n None f
-
-  cut_step : (x y : List ℕ) → is_there f x ≡ true → parent_of f x ≡ Some y → Above f x q → Above parted y q → (b : Bool) → bytes_eq n x ≡ b → Above parted x q
-  cut_step x y there on up rest true same = absurd (true≢false (sym (subst (λ (k : List ℕ). in_chain f k q ≡ true) (sym (is_same n x same)) (above_chain f x q up)) ∙ out_of))
-  cut_step x y there on up rest false out = through (moved_there f n None x ∙ there) (other_parent f n None x out ∙ on) rest
-
-  cut_way : (x : List ℕ) → Above f x q → Above parted x q
-  cut_way x (itself there) = itself (moved_there f n None x ∙ there)
-  cut_way x (through {p = y} there on rest) = cut_step x y there on (through there on rest) (cut_way y rest) (bytes_eq n x) refl
-
-  joined_step : (x y : List ℕ) → is_there parted x ≡ true → parent_of parted x ≡ Some y → Above f y q → (b : Bool) → bytes_eq n x ≡ b → Above f x q
-  joined_step x y there on rest true same = absurd (none-some y (sym (moved_parent f n None here) ∙ subst (λ (k : List ℕ). parent_of parted k ≡ Some y) (sym (is_same n x same)) on))
-  joined_step x y there on rest false out = through (sym (moved_there f n None x) ∙ there) (sym (other_parent f n None x out) ∙ on) rest
-
-  joined_way : (x : List ℕ) → Above parted x q → Above f x q
-  joined_way x (itself there) = itself (sym (moved_there f n None x) ∙ there)
-  joined_way x (through {p = y} there on rest) = joined_step x y there on (joined_way y rest) (bytes_eq n x) refl
-
-  pub parted_chain : (x : List ℕ) → in_chain f x q ≡ in_chain parted x q
-  parted_chain x = both (in_chain f x q) (in_chain parted x q) (λ h. above_chain parted x q (cut_way x (chain_above f x q h))) (λ h. above_chain f x q (joined_way x (chain_above parted x q h)))
-
--- ---- no end
-
-module _ (f : Forest) (n : List ℕ) (p : List ℕ) (here : is_there f n ≡ true) where
-  abbrev under : Forest
-  under = forest_with_parent n (Some p) f
-
-  it_there : (x : List ℕ) → bytes_eq n x ≡ true → Above under x n
-  it_there x same = subst (λ (k : List ℕ). Above under k n) (is_same n x same) (itself (moved_there f n (Some p) n ∙ here))
-
-  there_before : (x : List ℕ) → is_there under x ≡ true → is_there f x ≡ true
-  there_before x there = sym (moved_there f n (Some p) x) ∙ there
-
-  to_it_step : (x y : List ℕ) → is_there f x ≡ true → parent_of f x ≡ Some y → Above under y n → (b : Bool) → bytes_eq n x ≡ b → Above under x n
-  to_it_step x y there on rest true same = it_there x same
-  to_it_step x y there on rest false out = through (moved_there f n (Some p) x ∙ there) (other_parent f n (Some p) x out ∙ on) rest
-
-  way_to_it : (x : List ℕ) → Above f x n → Above under x n
-  way_to_it x (itself there) = itself (moved_there f n (Some p) x ∙ there)
-  way_to_it x (through {p = y} there on rest) = to_it_step x y there on (way_to_it y rest) (bytes_eq n x) refl
-
-  not_it : (x : List ℕ) → in_chain under x n ≡ false → bytes_eq n x ≡ false
-  not_it x apart = false_from_ne_true (bytes_eq n x) (λ same. true≢false (sym (above_chain under x n (it_there x same)) ∙ apart))
-
-  -- a way up that doesn't come by it was there before
-  way_before : (x a : List ℕ) → Above under x a → in_chain under x n ≡ false → parent_of under a ≡ None → IsUnderRoot f x
-  way_before x a (itself there) apart root = (x, itself (there_before x there), sym (other_parent f n (Some p) x (not_it x apart)) ∙ root)
-  way_before x a (through {p = y} there on rest) apart root =
-      let apart_on : in_chain under y n ≡ false = false_from_ne_true (in_chain under y n) (λ h. true≢false (sym (above_chain under x n (through there on (chain_above under y n h))) ∙ apart)) in
-      let top = way_before y a rest apart_on root in
-      (top.0, through (there_before x there) (sym (other_parent f n (Some p) x (not_it x apart)) ∙ on) top.1, top.2)
-
-  no_end : ends_up under n ≡ true → (in_chain f p n ≡ false) × (ends_up f p ≡ true)
-  no_end h =
-      let on : parent_of under n ≡ Some p = moved_parent f n (Some p) here in
-      let apart : in_chain under p n ≡ false = subst (λ (o : Option (List ℕ)). IsFree under n o) on (free under n h) in
-      let up = under_root under (length under) p (shorter under n p (through (there_by under (length under) n h) on (itself (parent_by under (length under) n p h on))) (length under) h) in (
-        false_from_ne_true (in_chain f p n) (λ above. true≢false (sym (above_chain under p n (way_to_it p (chain_above f p n above))) ∙ apart)),
-        ends_root f p (way_before p up.0 up.1 apart up.2),
-      )
-
-pub endless : (f : Forest) (n : List ℕ) (parent : Option (List ℕ)) → is_there f n ≡ true → (ends_by (length f) f parent && not (option_map_or (λ p. in_chain f p n) parent false)) ≡ false → ends_up (forest_with_parent n parent f) n ≡ false
-endless f n None here h = absurd (true≢false h)
-endless f n (Some p) here h = false_from_ne_true (ends_up (forest_with_parent n (Some p) f) n) (λ e.
-    let no = no_end f n p here e in
-    true≢false (sym (λ i. no.1 i && not (no.0 i)) ∙ h))

@@ -3,23 +3,21 @@
 --     more, shorter          a walk that ends does so in more steps, and from those above
 --     there_by, parent_by    who is on it is there
 --     closed_all             where all walks end, all parents are there
---     all_from               all walks end where all of those from places do
 use Rattle.std.specs.Prelude.{is_some, option_and_then}
-use Rattle.std.proofs.Common.{◌≡◌, ℕ, zero, suc, Bool, true, false, cond, Option, Some, None, List, [], ◌∷◌, length, refl, sym, ap, ◌∙◌, subst, true≢false}
-use Rattle.std.specs.List.{list_all, IsDistinct}
+use Rattle.std.proofs.Common.{◌≡◌, ℕ, zero, suc, true, Option, Some, None, List, ◌∷◌, length, refl, sym, ap, ◌∙◌, subst, true≢false}
+use Rattle.std.specs.List.{IsDistinct}
 use Rattle.std.specs.Str.{bytes_eq}
 use Rattle.std.proofs.lemmas.Bool.{and_parts, and_from, false_from_ne_true}
 use Rattle.std.proofs.lemmas.Option.{none-some}
 use Rattle.hx_model.specs.declared.node.Node.{Node}
 use Rattle.hx_model.specs.Forest.{Forest, node_of, is_there, parent_of, chain_of, in_chain, tail_of}
 use Rattle.hx_model.specs.Moves.{chain_from}
-use Rattle.hx_model.proofs.Climbing.{Above, itself, through, chain_above, is_same, none_there}
+use Rattle.hx_model.proofs.Climbing.{Above, itself, through, chain_above, none_there}
 use Rattle.hx_model.proofs.Opening.{chain_first}
 use Rattle.hx_model.proofs.Walking.{chain_there}
 use Rattle.hx_quota.specs.PlaceRows.{Place}
 use Rattle.hx_quota.specs.Counters.{Entries, tree_of}
 use Rattle.hx_quota.specs.Inside.{Places, place_at, ordered, AreClosed, IsFree, ends_by, ends_up, AllEnd}
-use Rattle.hx_quota.specs.Anew.{all_ended}
 use Rattle.hx_quota.proofs.Moved.{behind}
 use Rattle.hx_quota.proofs.Placed.{entry_in, entry_at}
 use Rattle.hx_quota.proofs.UsedSums.{in_tree}
@@ -87,15 +85,3 @@ in_places places n = in_tree (ordered places) n ∙ ap is_some (entry_at places 
     either : (o : Option Place) → is_some (entry_in o) ≡ is_some o
     either None = refl
     either (Some p) = refl
-
-found_passes : (t : List ℕ → Bool) (es : Places) (n : List ℕ) → list_all (λ e. t e.0) es ≡ true → is_some (place_at es n) ≡ true → t n ≡ true
-found_passes t [] n all there = absurd (true≢false (sym there))
-found_passes t (e ∷ es) n all there =
-    let parts = and_parts (t e.0) (list_all (λ (y : List ℕ × Place). t y.0) es) all in
-    elim (bytes_eq n e.0) as (λ b. bytes_eq n e.0 ≡ b → is_some (cond b (Some e.1) (place_at es n)) ≡ true → t n ≡ true) [
-      | true ↦ λ same h. subst (λ (k : List ℕ). t k ≡ true) (sym (is_same n e.0 same)) parts.0
-      | false ↦ λ out h. found_passes t es n parts.1 h
-    ] refl there
-
-pub all_from : (places : Places) → all_ended places ≡ true → AllEnd (tree_of (ordered places))
-all_from places all n there = found_passes (ends_up (tree_of (ordered places))) places n all (sym (in_places places n) ∙ there)

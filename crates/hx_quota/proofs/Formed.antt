@@ -1,45 +1,33 @@
--- Sums of subtrees that are formed anew: each namespace adds its own to those of its chain.
+-- Sums that are adjusted along a chain, step by step.
 --     step_left                        a chain by indices is its first name and what is behind it
 --     IsUnderway                       the sums along a chain are adjusted, but for those of names that are left
 --     begun, more_of, ended            it is so at first, after a step, and at the end
 --     shorter_left, may_step           less is left after a step;  the next sums may be adjusted
---     parent_index, all_named, named_place, own_is   what is found by an index
---     ends_next                        whether walks from a place and from those behind it end
---     sum_on, sum_on_le                what the first of some entries add, and one more
---     may_add, added, passed_by        what a namespace has may be added, and then one more of the first places is in the sums, as it is where its walk has no end
---     cleared_none                     where no place has sums
---     all_added                        where all are in the sums, these are those of subtrees
-use Rattle.std.specs.Prelude.{is_some, option_and_then, slice_get, slice_index, sum_by, take, drop, get_or, IfSome}
-use Rattle.std.proofs.Common.{◌≡◌, ℕ, zero, suc, ◌+◌, ◌-◌, ◌<◌, ◌≤◌, ◌^◌, Bool, true, false, cond, not, ◌&&◌, Option, Some, None, option_map, List, [], ◌∷◌, length, replicate, refl, sym, ap, ◌∙◌, subst, arith, true≢false}
-use Rattle.std.specs.List.{IsDistinct, list_all}
+--     parent_index, all_named, named_place      what is found by an index
+use Rattle.std.specs.Prelude.{is_some, option_and_then, slice_get, slice_index, take, IfSome}
+use Rattle.std.proofs.Common.{◌≡◌, ℕ, zero, suc, ◌<◌, Bool, true, false, cond, not, ◌&&◌, Option, Some, None, option_map, List, [], ◌∷◌, length, refl, sym, ap, ◌∙◌, subst, arith}
+use Rattle.std.specs.List.{IsDistinct}
 use Rattle.std.specs.Map.{keys_of}
-use Rattle.std.specs.Option.{option_map_or}
 use Rattle.std.specs.Str.{bytes_eq}
-use Rattle.std.proofs.lemmas.List.{take_all}
-use Rattle.std.proofs.lemmas.List.Sums.{sum_by_more, sum_by_more_le}
-use Rattle.std.proofs.lemmas.Bool.{or_left, false_from_ne_true}
+use Rattle.std.proofs.lemmas.Bool.{or_left}
 use Rattle.std.proofs.lemmas.Cmp.{nat_list_eq_equiv}
 use Rattle.std.proofs.lemmas.Map.Entries.{lookup_from_place}
-use Rattle.std.proofs.lemmas.Option.{none-some, same_Some, slice_get_within, slice_get-get_or, get_or_from_slice_get}
-use Rattle.hx_model.specs.Forest.{Forest, is_in, is_there, parent_of, chain_of, in_chain, tail_of}
+use Rattle.std.proofs.lemmas.Option.{none-some, same_Some}
+use Rattle.hx_model.specs.Forest.{is_in, is_there, parent_of, chain_of, tail_of}
 use Rattle.hx_model.specs.Moves.{chain_from}
 use Rattle.hx_model.specs.declared.node.Node.{Node}
-use Rattle.hx_model.specs.declared.resource.Resource.{Resource}
-use Rattle.hx_model.proofs.Climbing.{chain_above, same_itself}
+use Rattle.hx_model.proofs.Climbing.{same_itself}
 use Rattle.hx_model.proofs.Opening.{chain_first}
 use Rattle.hx_quota.specs.Counters.{Entry}
 use Rattle.hx_quota.specs.PlaceRows.{Place, IsFoundAt}
-use Rattle.hx_quota.specs.Counters.{node_for, new_entry, tree_of, own_of, part_of, place_of, AllFit}
-use Rattle.hx_quota.specs.Inside.{Places, entries_from, entries_in, ordered, place_at, adjusted, MayAdjust, IsAdjusted, HasUsage, ends_by, ends_up}
-use Rattle.hx_quota.specs.Anew.{name_at, chain_at, chain_behind, with_sums, cleared, HasFirst}
-use Rattle.hx_quota.proofs.Adjusting.{is_done, here_left, next_distinct, next_inside, may_now, adjusted_one, may_by, was_there}
-use Rattle.hx_quota.proofs.Deltas.{in_place}
-use Rattle.hx_quota.proofs.Ended.{ends_below, ends_chain}
-use Rattle.hx_quota.proofs.Ending.{chain_on, distinct_from, in_places, shorter}
-use Rattle.hx_quota.proofs.Fitting.{has_nothing, used_within}
-use Rattle.hx_quota.proofs.Indexed.{entry_index, found_index, entries_with, place_with, cleared_entries, cleared_first}
-use Rattle.hx_quota.proofs.Placed.{entry_in, entry_at, same_count}
-use Rattle.hx_quota.proofs.Sums.{Pair, sum-entries}
+use Rattle.hx_quota.specs.Counters.{node_for, tree_of}
+use Rattle.hx_quota.specs.Inside.{Places, entries_from, entries_in, ordered, place_at, adjusted, MayAdjust, IsAdjusted, ends_up}
+use Rattle.hx_quota.specs.Anew.{name_at, chain_at, chain_behind, with_sums}
+use Rattle.hx_quota.proofs.Adjusting.{is_done, here_left, next_distinct, next_inside, may_now, adjusted_one}
+use Rattle.hx_quota.proofs.Ending.{chain_on, distinct_from, in_places}
+use Rattle.hx_quota.proofs.Indexed.{entry_index, found_index, entries_with, place_with}
+use Rattle.hx_quota.proofs.Placed.{entry_in, entry_at}
+use Rattle.hx_quota.proofs.Sums.{Pair}
 use Rattle.hx_quota.proofs.Trees.{node_of-tree}
 
 abbrev Rows : Type 0
@@ -210,138 +198,3 @@ named_place places at n distinct named = by (slice_get places at) refl (sym (ap 
     by (Some e) is h =
         let here : slice_get places at ≡ Some (n, e.1) = is ∙ ap (λ (k : List ℕ). Some (k, e.1)) (same_Some e.0 n h) in
         (e.1, here, lookup_from_place nat_list_eq_equiv places at n e.1 distinct here)
-
-pub own_is : (es : Rows) (at : ℕ) (o : Option (List ℕ)) → o ≡ option_map (λ (e : Pair). e.1.own) (slice_get es at) → (n : List ℕ) (entry : Entry) → slice_get es at ≡ Some (n, entry) → o ≡ Some entry.own
-own_is es at o is n entry found = is ∙ ap (λ (w : Option Pair). option_map (λ e. e.1.own) w) found
-
--- whether the walks from the places at an index and behind it end
-pub ends_next : (f : Forest) (places : Places) (at : ℕ) (b : Bool) → at < length places → b ≡ ends_by (length f) f (name_at (entries_in places) at)
-    → list_all (λ (e : List ℕ × Place). ends_up f e.0) (drop at places) ≡ (b && list_all (λ (e : List ℕ × Place). ends_up f e.0) (drop (at + 1) places))
-ends_next f places at b within is = from places at within is ∙ (let on : suc at ≡ at + 1 = omega arith in ap (λ k. b && list_all (λ (e : List ℕ × Place). ends_up f e.0) (drop k places)) on)
-  where
-    from : (xs : Places) (k : ℕ) → k < length xs → b ≡ ends_by (length f) f (name_at (entries_in xs) k)
-        → list_all (λ (e : List ℕ × Place). ends_up f e.0) (drop k xs) ≡ (b && list_all (λ (e : List ℕ × Place). ends_up f e.0) (drop (suc k) xs))
-    from [] k lies at_first = absurd (omega (arith, lies))
-    from (e ∷ xs) zero lies at_first = ap (λ c. c && list_all (λ (x : List ℕ × Place). ends_up f x.0) xs) (sym at_first)
-    from (e ∷ xs) (suc k) lies at_first = from xs k (omega (arith, lies)) at_first
-
--- what the first of some entries add, and one more of them
-module _ (part : Pair → ℕ) (es : Rows) (at : ℕ) (within : at < length es) where
-  row_at : slice_get es at ≡ Some (get_or es at ([], new_entry))
-  row_at = slice_get-get_or es at ([], new_entry) within
-
-  pub sum_on : sum_by part (take (at + 1) es) ≡ sum_by part (take at es) + option_map_or part (slice_get es at) 0
-  sum_on = sum_by_more part es at ([], new_entry) within ∙ sym (ap (λ (o : Option Pair). sum_by part (take at es) + option_map_or part o 0) row_at)
-
-  pub sum_on_le : sum_by part (take at es) + option_map_or part (slice_get es at) 0 ≤ sum_by part es
-  sum_on_le = subst (λ (o : Option Pair). sum_by part (take at es) + option_map_or part o 0 ≤ sum_by part es) (sym row_at) (sum_by_more_le part es at ([], new_entry) within)
-
--- ---- namespace by namespace
-
-module _ (was : Places) (distinct : IsDistinct bytes_eq (keys_of (entries_in was))) (at : ℕ) (n : List ℕ) (entry : Entry) (is : slice_get (entries_in was) at ≡ Some (n, entry)) (so_far : HasFirst at was) where
-  abbrev f : Forest
-  f = tree_of (ordered was)
-
-  -- the chain at the index is that of the name
-  chain_is : chain_at (entries_in was) (Some at) ≡ chain_of f n
-  chain_is = ap (λ (o : Option Pair). chain_from f (option_map (λ e. e.0) o)) is
-
-  at_hand : get_or (entries_in was) at (n, entry) ≡ (n, entry)
-  at_hand = get_or_from_slice_get {X = Pair} (entries_in was) at (n, entry) (n, entry) is
-
-  pub may_add : ends_up f n ≡ true → AllFit (ordered was) → (q : List ℕ) (p : Place) → is_in q (chain_at (entries_in was) (Some at)) ≡ true → place_at was q ≡ Some p → MayAdjust (replicate 15 0) entry.own p.sums
-  may_add ends fits q p inside there = may_by (replicate 15 0) entry.own p.sums (λ r. each r)
-    where
-      has : in_chain f n q ≡ true
-      has = ap (is_in q) (sym chain_is) ∙ inside
-
-      each : (r : Resource) → (slice_index (replicate 15 0) (place_of r) ≤ slice_index p.sums (place_of r)) × (adjusted (replicate 15 0) entry.own p.sums (place_of r) < 2 ^ 128)
-      each r =
-          let part = part_of f q r in
-          let zero_is : slice_index (replicate 15 0) (place_of r) ≡ 0 = has_nothing r in
-          let sum : slice_index p.sums (place_of r) ≡ sum_by part (take at (entries_in was)) = so_far q p there (shorter f n q (chain_above f n q has) (length f) ends) r in
-          let own : part (n, entry) ≡ slice_index entry.own (place_of r) = ap (λ b. cond b (own_of r entry) 0) has in
-          let mine : part (get_or (entries_in was) at (n, entry)) ≡ part (n, entry) = ap part at_hand in
-          let less = sum_by_more_le part (entries_in was) at (n, entry) (slice_get_within (entries_in was) at (n, entry) is) in
-          let whole = sum-entries part (entries_in was) distinct in
-          (omega (arith, zero_is), omega (arith, zero_is, sum, own, mine, less, whole, used_within f q r (ordered was), fits r))
-
-  pub added : (new : Places) → entries_in new ≡ entries_in was → ((q : List ℕ) → IsAdjusted (replicate 15 0) entry.own (is_in q (chain_at (entries_in was) (Some at))) (place_at was q) (place_at new q)) → HasFirst (at + 1) new
-  added new same moved = λ q x there ends r.
-      let part = part_of f q r in
-      let b : Bool = is_in q (chain_at (entries_in was) (Some at)) in
-      let from = was_there (replicate 15 0) entry.own b (place_at was q) x (subst (λ (w : Option Place). IsAdjusted (replicate 15 0) entry.own b (place_at was q) w) there (moved q)) in
-      let sum : slice_index (from.0).sums (place_of r) ≡ sum_by part (take at (entries_in was)) = so_far q from.0 from.1 (ap (λ (xs : Rows). ends_up (tree_of (entries_from xs)) q) (sym same) ∙ ends) r in
-      let next : sum_by part (take (at + 1) (entries_in was)) ≡ sum_by part (take at (entries_in was)) + part (n, entry) =
-      sum_by_more part (entries_in was) at (n, entry) (slice_get_within (entries_in was) at (n, entry) is) ∙ ap (λ (e : Pair). sum_by part (take at (entries_in was)) + part e) at_hand in
-      from.2 (place_of r) (in_place r)
-      ∙ total b (slice_index (from.0).sums (place_of r)) (slice_index (replicate 15 0) (place_of r)) (own_of r entry) (has_nothing r)
-      ∙ (λ i. sum i + cond (is_in q (chain_is i)) (own_of r entry) 0)
-      ∙ sym next ∙ ap (λ (xs : Rows). sum_by (part_of (tree_of (entries_from xs)) q r) (take (at + 1) xs)) (sym same)
-    where
-      total : (b : Bool) (s z k : ℕ) → z ≡ 0 → cond b (s - z + k) s ≡ s + cond b k 0
-      total true s z k none = omega (arith, none)
-      total false s z k none = omega arith
-
-  -- what has no end is in no such sum
-  pub passed_by : ends_up f n ≡ false → HasFirst (at + 1) was
-  passed_by endless = λ q p there ends r.
-      let part = part_of f q r in
-      let out : in_chain f n q ≡ false = false_from_ne_true (in_chain f n q) (λ h. true≢false (sym (ends_below f n q (chain_above f n q h) ends) ∙ endless)) in
-      let nothing : part (n, entry) ≡ 0 = ap (λ b. cond b (own_of r entry) 0) out in
-      let next : sum_by part (take (at + 1) (entries_in was)) ≡ sum_by part (take at (entries_in was)) + part (n, entry) =
-      sum_by_more part (entries_in was) at (n, entry) (slice_get_within (entries_in was) at (n, entry) is) ∙ ap (λ (e : Pair). sum_by part (take at (entries_in was)) + part e) at_hand in
-      let sum = so_far q p there ends r in
-      omega (arith, nothing, next, sum)
-
--- the same, where what the namespace has is read at the index
-module _ (was : Places) (distinct : IsDistinct bytes_eq (keys_of (entries_in was))) (at : ℕ) (within : at < length was) (so_far : HasFirst at was) where
-  abbrev row : Pair
-  row = get_or (entries_in was) at ([], new_entry)
-
-  row_is : slice_get (entries_in was) at ≡ Some (row.0, row.1)
-  row_is = slice_get-get_or (entries_in was) at ([], new_entry) (let long = same_count was in omega (arith, within, long))
-
-  named : name_at (entries_in was) at ≡ Some row.0
-  named = ap (λ (o : Option Pair). option_map (λ e. e.0) o) row_is
-
-  -- whether the walk up from there ends
-  row_ends : (b : Bool) → ends_by (length (tree_of (ordered was))) (tree_of (ordered was)) (name_at (entries_in was) at) ≡ b → ends_up (tree_of (ordered was)) row.0 ≡ b
-  row_ends b is = ap (λ (o : Option (List ℕ)). ends_by (length (tree_of (ordered was))) (tree_of (ordered was)) o) (sym named) ∙ is
-
-  pub passed_endless : ends_by (length (tree_of (ordered was))) (tree_of (ordered was)) (name_at (entries_in was) at) ≡ false → HasFirst (at + 1) was
-  passed_endless is = passed_by was distinct at row.0 row.1 row_is so_far (row_ends false is)
-
-  -- all of its chain end
-  pub chain_ends : ends_by (length (tree_of (ordered was))) (tree_of (ordered was)) (name_at (entries_in was) at) ≡ true → (q : List ℕ) → is_in q (chain_at (entries_in was) (Some at)) ≡ true → ends_up (tree_of (ordered was)) q ≡ true
-  chain_ends is q inside = ends_chain (tree_of (ordered was)) (name_at (entries_in was) at) is q inside
-
-  module _ (own : List ℕ) (own_at : (n : List ℕ) (entry : Entry) → slice_get (entries_in was) at ≡ Some (n, entry) → own ≡ entry.own) where
-    pub may_add_own : ends_by (length (tree_of (ordered was))) (tree_of (ordered was)) (name_at (entries_in was) at) ≡ true → AllFit (ordered was)
-        → (q : List ℕ) (p : Place) → is_in q (chain_at (entries_in was) (Some at)) ≡ true → place_at was q ≡ Some p → MayAdjust (replicate 15 0) own p.sums
-    may_add_own ends fits q p inside there = subst (λ (o : List ℕ). MayAdjust (replicate 15 0) o p.sums) (sym (own_at row.0 row.1 row_is)) (may_add was distinct at row.0 row.1 row_is so_far (row_ends true ends) fits q p inside there)
-
-    pub added_own : (new : Places) → entries_in new ≡ entries_in was → ((q : List ℕ) → IsAdjusted (replicate 15 0) own (is_in q (chain_at (entries_in was) (Some at))) (place_at was q) (place_at new q)) → HasFirst (at + 1) new
-    added_own new same moved = added was distinct at row.0 row.1 row_is so_far new same
-        (subst (λ (o : List ℕ). (q : List ℕ) → IsAdjusted (replicate 15 0) o (is_in q (chain_at (entries_in was) (Some at))) (place_at was q) (place_at new q)) (own_at row.0 row.1 row_is) moved)
-
--- ---- all
-
-module _ (old new : Places) (is : new ≡ cleared old) where
-  stay : entries_in new ≡ entries_in old
-  stay = ap entries_in is ∙ cleared_entries old
-
-  pub cleared_ordered : ordered new ≡ ordered old
-  cleared_ordered = ap entries_from stay
-
-  pub cleared_none : HasFirst 0 new
-  cleared_none = subst (λ (xs : Places). HasFirst 0 xs) (sym is) (cleared_first old)
-
--- all are in the sums
-pub all_added : (was new : Places) → IsDistinct bytes_eq (keys_of (entries_in was)) → entries_in new ≡ entries_in was → HasFirst (length was) new → HasUsage new (ordered new)
-all_added was new distinct same sums n p there ends r =
-    let f = tree_of (ordered new) in
-    sums n p there ends r ∙ ap (sum_by (part_of f n r)) (take_all (length was) (entries_in new) enough) ∙ sym (sum-entries (part_of f n r) (entries_in new) (subst (λ (xs : Rows). IsDistinct bytes_eq (keys_of xs)) (sym same) distinct))
-  where
-    enough : length (entries_in new) ≤ length was
-    enough = let long : length (entries_in new) ≡ length was = ap length same ∙ same_count was in omega (arith, long)

@@ -7,8 +7,8 @@
 --     place_added                   a place that is added
 --     index_found                   the index of a name has that name
 --     cleared_to, clear_one, clear_all, cleared_first      places without sums, from the first one on
-use Rattle.std.specs.Prelude.{slice_get, slice_index, position, find, get_or}
-use Rattle.std.proofs.Common.{◌≡◌, ℕ, zero, suc, ◌<◌, Bool, true, false, cond, Some, None, option_map, List, [], ◌∷◌, ◌++◌, length, replicate, refl, sym, ap, ◌∙◌, subst, true≢false}
+use Rattle.std.specs.Prelude.{slice_get, position, find, get_or}
+use Rattle.std.proofs.Common.{◌≡◌, ℕ, zero, suc, ◌<◌, Bool, true, false, cond, Some, None, option_map, List, [], ◌∷◌, ◌++◌, length, refl, sym, ap, ◌∙◌, subst, true≢false}
 use Rattle.std.specs.List.{AllByRecursion, IsDistinct, position_or_len}
 use Rattle.std.specs.Map.{keys_of}
 use Rattle.std.specs.Str.{bytes_eq}
@@ -20,10 +20,8 @@ use Rattle.std.proofs.lemmas.Option.{none-some, same_Some, cond_some, slice_get-
 use Rattle.hx_model.proofs.Climbing.{is_same, same_itself}
 use Rattle.hx_model.proofs.Objects.{same_test, swap_tests}
 use Rattle.hx_quota.specs.PlaceRows.{Place}
-use Rattle.hx_quota.specs.Counters.{place_of}
 use Rattle.hx_quota.specs.Inside.{Places, place_at, entries_in, SameSums}
-use Rattle.hx_quota.specs.Anew.{changed_at, name_at, with_sums, cleared, HasFirst}
-use Rattle.hx_quota.proofs.Fitting.{has_nothing}
+use Rattle.hx_quota.specs.Anew.{changed_at, name_at, with_sums}
 use Rattle.hx_quota.proofs.Placed.{same_keys}
 
 abbrev Row : Type 0
@@ -130,34 +128,3 @@ index_found n ks i is within =
     let first : position_or_len (bytes_eq n) ks ≡ i = (cond_some _ (position_or_len (bytes_eq n) ks) i is).1 in
     let found : find (bytes_eq n) ks ≡ Some k = find_at (bytes_eq n) ks ∙ ap (slice_get ks) first ∙ at in
     at ∙ ap Some (sym (is_same n k (passes (bytes_eq n) ks k found)))
-
--- ---- no sums
-
-abbrev pub cleared_to : ℕ → Places → Places
-cleared_to zero places = places
-cleared_to (suc at) [] = []
-cleared_to (suc at) (e ∷ places) = (e.0, record (e.1) { sums = replicate 15 0 }) ∷ cleared_to at places
-
-pub clear_one : (at : ℕ) (places : Places) → with_sums at (replicate 15 0) (cleared_to at places) ≡ cleared_to (suc at) places
-clear_one zero [] = refl
-clear_one zero (e ∷ places) = refl
-clear_one (suc at) [] = refl
-clear_one (suc at) (e ∷ places) = ap (λ xs. (e.0, record (e.1) { sums = replicate 15 0 }) ∷ xs) (clear_one at places)
-
-pub clear_all : (places : Places) → cleared_to (length places) places ≡ cleared places
-clear_all [] = refl
-clear_all (e ∷ places) = ap (λ xs. (e.0, record (e.1) { sums = replicate 15 0 }) ∷ xs) (clear_all places)
-
-pub cleared_entries : (places : Places) → entries_in (cleared places) ≡ entries_in places
-cleared_entries [] = refl
-cleared_entries (e ∷ places) = ap (λ xs. (e.0, e.1.entry) ∷ xs) (cleared_entries places)
-
-no_sums : (places : Places) (q : List ℕ) (p : Place) → place_at (cleared places) q ≡ Some p → p.sums ≡ replicate 15 0
-no_sums [] q p is = absurd (none-some p is)
-no_sums (e ∷ places) q p is = elim (bytes_eq q e.0) as (λ b. cond b (Some (record (e.1) { sums = replicate 15 0 })) (place_at (cleared places) q) ≡ Some p → p.sums ≡ replicate 15 0) [
-  | true ↦ λ h. ap (λ (x : Place). x.sums) (sym (same_Some (record (e.1) { sums = replicate 15 0 }) p h))
-  | false ↦ λ h. no_sums places q p h
-] is
-
-pub cleared_first : (places : Places) → HasFirst 0 (cleared places)
-cleared_first places = λ q p there ends r. ap (λ (xs : List ℕ). slice_index xs (place_of r)) (no_sums places q p there) ∙ has_nothing r

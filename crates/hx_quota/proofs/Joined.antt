@@ -1,7 +1,6 @@
 -- Places whose parts lie in three lists.
 --     keys_joined, length_joined              names and length are those of the links
---     sums_joined, name_joined, up_joined, parent_joined, own_entry, own_found, own_such      what is found at an index lies there in its list
---     item_found                              what is read at an index of a slice
+--     sums_joined, name_joined, up_joined, parent_joined, own_found, own_such      what is found at an index lies there in its list
 --     found_keys, found_at                    what is found under a name
 --     joined_link, joined_own, joined_sums    a change at an index in one list is one of the place there
 --     set_row, no_row                         such changes of one list
@@ -10,20 +9,17 @@
 --     table_pushed, joined_push               a place that comes
 --     link_parent, place_out, links_out, distinct_out, place_absent, table_out      one that goes
 use Rattle.std.specs.Prelude.{is_some, option_and_then, position, slice_get, slice_set, swap_remove, take, get_or, IfSome}
-use Rattle.std.proofs.Common.{◌≡◌, ℕ, zero, suc, ◌+◌, ◌-◌, ◌<◌, ◌≤◌, ◌||◌, true, false, cond, Option, Some, None, option_copied, option_map, List, [], ◌∷◌, ◌++◌, length, refl, sym, ap, subst, ◌∙◌, arith, true≢false}
-use Rattle.std.specs.Borrow.{Bor}
+use Rattle.std.proofs.Common.{◌≡◌, ℕ, zero, suc, ◌+◌, ◌-◌, ◌<◌, ◌≤◌, ◌||◌, true, false, cond, Option, Some, None, option_map, List, [], ◌∷◌, ◌++◌, length, refl, sym, ap, subst, ◌∙◌, arith, true≢false}
 use Rattle.std.specs.List.{IsDistinct, list_any}
 use Rattle.std.specs.Map.{keys_of, lookup}
-use Rattle.std.specs.Slice.{IsItemAt}
 use Rattle.std.specs.Str.{bytes_eq}
 use Rattle.std.proofs.lemmas.Cmp.{nat_list_eq_equiv}
 use Rattle.std.proofs.lemmas.Map.Entries.{lookup_from_place}
 use Rattle.std.proofs.lemmas.List.{length-append, length-take, length-set}
-use Rattle.std.proofs.lemmas.Option.{none-some, same_Some, slice_get-get_or, slice_get_past, slice_get_read}
+use Rattle.std.proofs.lemmas.Option.{none-some, same_Some, slice_get-get_or}
 use Rattle.indexmap.specs.IndexMap.{set_value_at}
 use Rattle.indexmap.proofs.RemoveLemmas.{swap_out, none_out}
 use Rattle.hx_quota.specs.PlaceRows.{Place, Places, Link, Links, Rows, first_row, behind, place_of_parts, joined, changed_row, IsTable, place_at, new_place, IsFoundAt}
-use Rattle.hx_quota.specs.Counters.{Entry}
 use Rattle.hx_quota.specs.Inside.{entries_in}
 use Rattle.hx_quota.specs.Anew.{changed_at, name_at, name_from, with_sums, with_parent_at, HasAdjusted}
 use Rattle.hx_quota.specs.SumRows.{AdjustsRow}
@@ -74,18 +70,6 @@ pub parent_joined : (links : Links) (owns sums : Rows) (at : ℕ) → option_and
 parent_joined [] owns sums at = refl
 parent_joined (e ∷ links) owns sums zero = refl
 parent_joined (e ∷ links) owns sums (suc at) = parent_joined links (behind owns) (behind sums) at
-
-pub own_entry : (links : Links) (owns sums : Rows) → length owns ≡ length links → (at : ℕ) → option_map (λ (e : List ℕ × Entry). e.1.own) (slice_get (entries_in (joined links owns sums)) at) ≡ slice_get owns at
-own_entry [] [] sums same at = refl
-own_entry [] (o ∷ owns) sums same at = absurd (omega (arith, same))
-own_entry (e ∷ links) [] sums same at = absurd (omega (arith, same))
-own_entry (e ∷ links) (o ∷ owns) sums same zero = refl
-own_entry (e ∷ links) (o ∷ owns) sums same (suc at) = own_entry links owns (behind sums) (omega (arith, same)) at
-
--- what is read at an index of a slice
-pub item_found : {X : Type 0} (xs : List X) (at : ℕ) (o : Option (Bor X)) → IsItemAt xs at o → option_copied o ≡ slice_get xs at
-item_found xs at None is = sym (slice_get_past xs at is.3)
-item_found xs at (Some x) is = sym (slice_get_read xs (length xs) at x.now refl is.3.0 is.1)
 
 -- what a namespace has by itself lies in its row
 pub own_found : (links : Links) (owns sums : Rows) → length owns ≡ length links → (at : ℕ) (n : List ℕ) (p : Place) → slice_get (joined links owns sums) at ≡ Some (n, p) → slice_get owns at ≡ Some p.entry.own

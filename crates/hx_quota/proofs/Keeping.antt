@@ -1,31 +1,26 @@
 -- The sums of places are those of subtrees after a change.
 --     no_other_child                                  whose parent one isn't
 --     summed_added, summed_removed, summed_moved      after one comes, goes or moves
---     usage_set, usage_taken                          after one gets a parent from which no walk up ends
---     closed_by_shift, closed_by_move                 all parents are there after one gets other sums, or another parent
+--     parent_over                                     the last parent counts
 --     ended_by_shift, ended_by_move                   all walks up end then
 --     all_ends                                        where all do, that from a name ends
-use Rattle.std.specs.Prelude.{slice_index, is_some, option_and_then, IfSome, sum_by}
-use Rattle.std.proofs.Common.{◌≡◌, ℕ, Bool, true, false, cond, Option, Some, None, option_map, List, [], ◌∷◌, length, replicate, refl, sym, ap, subst, ◌∙◌, inr, true≢false}
+use Rattle.std.specs.Prelude.{slice_index, is_some, option_and_then, IfSome}
+use Rattle.std.proofs.Common.{◌≡◌, ℕ, Bool, true, false, cond, Option, Some, None, option_map, List, [], ◌∷◌, length, replicate, refl, sym, ap, subst, ◌∙◌, true≢false}
 use Rattle.std.specs.Str.{bytes_eq}
-use Rattle.std.proofs.lemmas.Bool.{false_from_ne_true}
 use Rattle.std.proofs.lemmas.Option.{none-some, same_Some}
-use Rattle.hx_model.specs.Forest.{Forest, is_there, parent_of, in_chain, subtree_of, with_parent as forest_with_parent}
+use Rattle.hx_model.specs.Forest.{Forest, is_there, parent_of, in_chain, subtree_of}
 use Rattle.hx_model.specs.declared.node.Node.{Node}
 use Rattle.hx_model.specs.declared.resource.Resource.{Resource}
-use Rattle.hx_model.proofs.Climbing.{itself, through, above_chain, chain_above, is_same}
-use Rattle.hx_model.proofs.Moving.{moved_there}
+use Rattle.hx_model.proofs.Climbing.{itself, through, above_chain, is_same}
 use Rattle.hx_forest.proofs.Named.{ascends-values}
 use Rattle.hx_quota.specs.declared.entry.Delta.{Delta}
 use Rattle.hx_quota.specs.PlaceRows.{Place}
-use Rattle.hx_quota.specs.Counters.{Entries, Entry, entry_of, node_for, tree_of, own_of, own_in, part_of, place_of, used_in, with_entry, new_entry, without_entry, with_parent, with_shifted}
+use Rattle.hx_quota.specs.Counters.{Entries, Entry, entry_of, node_for, tree_of, own_in, place_of, used_in, with_entry, new_entry, without_entry, with_parent, with_shifted}
 use Rattle.hx_quota.specs.Inside.{Places, place_at, entries_in, ordered, ends_by, ends_up, AllEnd, HasUsage, SameSums, AreClosed, IsFree}
-use Rattle.hx_quota.proofs.Cutting.{sum-alike}
-use Rattle.hx_quota.proofs.Ended.{ends_below, ends_shrunk, ends_grown, ended_before, parted_chain}
+use Rattle.hx_quota.proofs.Ended.{ends_shrunk, ends_grown}
 use Rattle.hx_quota.proofs.Ending.{in_places}
 use Rattle.hx_quota.proofs.Fitting.{has_nothing}
 use Rattle.hx_quota.proofs.Lasting.{ends_moved}
-use Rattle.hx_quota.proofs.Moved.{tree_moved, usage_kept, closed_moved}
 use Rattle.hx_quota.proofs.Placed.{entry_in, entry_at}
 use Rattle.hx_quota.proofs.Trees.{node_of-tree}
 use Rattle.hx_quota.proofs.UsedSums.{in_tree, alone_apart, among_names, same_tree, used_absent, added_new, used_added, removed_new, used_removed}
@@ -91,8 +86,6 @@ summed_moved old mid new n parent same usage moved sums q p found ends r =
     whole : ordered new ≡ with_parent n parent (ordered old)
     whole = moved ∙ ap (with_parent n parent) same
 
--- ---- a namespace from which the walk up doesn't end
-
 -- the last parent counts
 pub parent_over : (n : List ℕ) (last first : Option (List ℕ)) (es : Entries) → with_parent n last (with_parent n first es) ≡ with_parent n last es
 parent_over n last first [] = refl
@@ -101,71 +94,6 @@ parent_over n last first (e ∷ es) = λ i. (e.0, either (bytes_eq n e.0) i) ∷
     either : (b : Bool) → cond b (record (cond b (record (e.1) { parent = first }) e.1) { parent = last }) (cond b (record (e.1) { parent = first }) e.1) ≡ cond b (record (e.1) { parent = last }) e.1
     either true = refl
     either false = refl
-
--- those above which it isn't have what they would have if it had no parent
-used_parted : (es : Entries) (n : List ℕ) → is_some (entry_of es n) ≡ true → ends_up (tree_of es) n ≡ false → (q : List ℕ) → ends_up (tree_of es) q ≡ true → (r : Resource) → used_in es q r ≡ used_in (with_parent n None es) q r
-used_parted es n here endless q top r =
-    sum-alike (part_of f q r) (part_of parted q r) es (λ e there. ap (λ b. cond b (own_of r e.1) 0) (parted_chain f n (in_tree es n ∙ here) q out e.0))
-    ∙ sym (ap (λ (t : Forest). sum_by (part_of t q r) (with_parent n None es)) (tree_moved n None es) ∙ usage_kept parted n None es q r)
-  where
-    f : Forest
-    f = tree_of es
-
-    parted : Forest
-    parted = forest_with_parent n None f
-
-    out : in_chain f n q ≡ false
-    out = false_from_ne_true (in_chain f n q) (λ h. true≢false (sym (ends_below f n q (chain_above f n q h) top) ∙ endless))
-
--- the sums stay where it gets another parent from which none ends
-module _ (es : Entries) (n : List ℕ) (parent : Option (List ℕ)) (here : is_some (entry_of es n) ≡ true) (endless : ends_up (tree_of (with_parent n parent es)) n ≡ false) where
-  abbrev then : Entries
-  then = with_parent n parent es
-
-  ended : (q : List ℕ) → ends_up (tree_of then) q ≡ true → ends_up (tree_of es) q ≡ true
-  ended q top = ended_before (tree_of es) n parent (in_tree es n ∙ here) (inr (subst (λ (f : Forest). ends_up f n ≡ false) (tree_moved n parent es) endless)) q (subst (λ (f : Forest). ends_up f q ≡ true) (tree_moved n parent es) top)
-
-  here_then : is_some (entry_of then n) ≡ true
-  here_then = sym (in_tree then n) ∙ ap (λ (f : Forest). is_there f n) (tree_moved n parent es) ∙ moved_there (tree_of es) n parent n ∙ in_tree es n ∙ here
-
-  parted_then : (q : List ℕ) → ends_up (tree_of then) q ≡ true → (r : Resource) → used_in then q r ≡ used_in (with_parent n None es) q r
-  parted_then q top r = used_parted then n here_then endless q top r ∙ ap (λ (xs : Entries). used_in xs q r) (parent_over n None parent es)
-
-  -- it didn't end before
-  pub usage_set : (places : Places) → ends_up (tree_of es) n ≡ false → HasUsage places es → HasUsage places then
-  usage_set places never was q p found top r = was q p found (ended q top) r ∙ used_parted es n here never q (ended q top) r ∙ sym (parted_then q top r)
-
--- or what it had was taken from all above it
-pub usage_taken : (places : Places) (es : Entries) (n : List ℕ) (parent : Option (List ℕ)) → is_some (entry_of es n) ≡ true → ends_up (tree_of (with_parent n parent es)) n ≡ false → HasUsage places (with_parent n None es)
-    → HasUsage places (with_parent n parent es)
-usage_taken places es n parent here endless was q p found top r =
-    was q p found (ended parted n parent here_parted endless_parted q top_parted) r
-    ∙ sym (ap (λ (xs : Entries). used_in xs q r) (sym over) ∙ parted_then parted n parent here_parted endless_parted q top_parted r ∙ ap (λ (xs : Entries). used_in xs q r) (parent_over n None None es))
-  where
-    parted : Entries
-    parted = with_parent n None es
-
-    over : with_parent n parent parted ≡ with_parent n parent es
-    over = parent_over n parent None es
-
-    here_parted : is_some (entry_of parted n) ≡ true
-    here_parted = sym (in_tree parted n) ∙ ap (λ (f : Forest). is_there f n) (tree_moved n None es) ∙ moved_there (tree_of es) n None n ∙ in_tree es n ∙ here
-
-    endless_parted : ends_up (tree_of (with_parent n parent parted)) n ≡ false
-    endless_parted = subst (λ (xs : Entries). ends_up (tree_of xs) n ≡ false) (sym over) endless
-
-    top_parted : ends_up (tree_of (with_parent n parent parted)) q ≡ true
-    top_parted = subst (λ (xs : Entries). ends_up (tree_of xs) q ≡ true) (sym over) top
-
--- ---- parents
-
-pub closed_by_shift : (old new : Entries) (n : List ℕ) (deltas : List Delta) → new ≡ with_shifted (n ∷ []) deltas old → AreClosed old → AreClosed new
-closed_by_shift old new n deltas is closed = λ m q on.
-    let tree : tree_of new ≡ tree_of old = ap tree_of is ∙ same_tree n deltas old in
-    subst (λ (f : Forest). is_there f q ≡ true) (sym tree) (closed m q (subst (λ (f : Forest). parent_of f m ≡ Some q) tree on))
-
-pub closed_by_move : (old new : Entries) (n : List ℕ) (parent : Option (List ℕ)) → is_some (entry_of old n) ≡ true → IfSome parent (λ p. is_some (entry_of old p) ≡ true) → new ≡ with_parent n parent old → AreClosed old → AreClosed new
-closed_by_move old new n parent there given is closed = subst (λ (es : Entries). AreClosed es) (sym is) (closed_moved old n parent (in_tree old n ∙ there) (in_forest old parent given) closed)
 
 -- all walks up end as before, where one gets other sums or a parent that isn't below it
 pub ended_by_shift : (old new : Entries) (n : List ℕ) (deltas : List Delta) → new ≡ with_shifted (n ∷ []) deltas old → AllEnd (tree_of old) → AllEnd (tree_of new)

@@ -35,3 +35,7 @@ pub mod CountingRemoved
 pub mod DeltasAmong
 pub mod Staged
 pub mod Rows
+pub mod Around
+pub mod Ringed
+pub mod RingTable
+pub mod Opened

@@ -2,15 +2,14 @@
 --     first_there, above_there         the first of a chain, and a parent with one, are there
 --     between_entries, between_chains  the entries then, and that chains stay
 --     may_shift_sums, sums_shifted     the sums may be adjusted, and are then those of the subtrees
---     sums_stay                        the sums of those that end are as they were, where the walk up from it doesn't end
 use Rattle.std.specs.Prelude.{is_some, IfSome, slice_get, slice_index, sum_by}
-use Rattle.std.proofs.Common.{◌≡◌, ℕ, ◌+◌, ◌-◌, ◌<◌, ◌≤◌, ◌^◌, Bool, true, false, cond, Option, Some, None, List, [], ◌∷◌, refl, sym, ap, subst, ◌∙◌, arith, true≢false}
+use Rattle.std.proofs.Common.{◌≡◌, ℕ, ◌+◌, ◌-◌, ◌<◌, ◌≤◌, ◌^◌, Bool, true, false, cond, Option, Some, None, List, [], ◌∷◌, refl, sym, ap, subst, ◌∙◌, arith}
 use Rattle.std.specs.Str.{bytes_eq}
-use Rattle.std.proofs.lemmas.Bool.{or_left, false_from_ne_true}
+use Rattle.std.proofs.lemmas.Bool.{or_left}
 use Rattle.std.proofs.lemmas.Option.{same_Some}
 use Rattle.hx_model.specs.Forest.{Forest, is_in, is_there, chain_of}
 use Rattle.hx_model.specs.declared.resource.Resource.{Resource}
-use Rattle.hx_model.proofs.Climbing.{chain_above, is_same, same_itself}
+use Rattle.hx_model.proofs.Climbing.{is_same, same_itself}
 use Rattle.hx_model.proofs.Walking.{chain_there}
 use Rattle.hx_forest.specs.Named.{with_changed}
 use Rattle.hx_forest.proofs.Named.{ascends, ascends-values}
@@ -23,7 +22,7 @@ use Rattle.hx_quota.specs.Inside.{Places, place_at, entries_in, ordered, adjuste
 use Rattle.hx_quota.proofs.Adjusting.{may_by, was_there}
 use Rattle.hx_quota.proofs.Cutting.{of_entry, sum-cut}
 use Rattle.hx_quota.proofs.Deltas.{in_place, shift_in}
-use Rattle.hx_quota.proofs.Ended.{ends_below, ends_chain}
+use Rattle.hx_quota.proofs.Ended.{ends_chain}
 use Rattle.hx_quota.proofs.Fitting.{used_within}
 use Rattle.hx_quota.proofs.Placed.{entry_in, entry_at, changed_places, adjusted_entries}
 use Rattle.hx_quota.proofs.UsedSums.{in_tree, same_tree, used_shifted}
@@ -151,14 +150,3 @@ module _ (old mid : Places) (n : List ℕ) (deltas : List Delta) (change : Chang
           → slice_index x.sums (place_of r) ≡ used_in then q r
       at true mem h = h.2 (place_of r) (in_place r) ∙ ap (λ b. cond b (adjusted change.take change.give h.0.sums (place_of r)) (slice_index h.0.sums (place_of r))) mem ∙ adjusted_sum q h.0 h.1 top mem r
       at false out h = h.2 (place_of r) (in_place r) ∙ ap (λ b. cond b (adjusted change.take change.give h.0.sums (place_of r)) (slice_index h.0.sums (place_of r))) out ∙ sums_between q h.0 h.1 top r ∙ sym (stays q r out)
-
-  -- where it doesn't, no sums of those that end change
-  pub sums_stay : ends_up (tree_of es) n ≡ false → HasUsage mid (ordered mid)
-  sums_stay endless q x found ends r =
-      sums_between q x found top r ∙ sym (stays q r out) ∙ sym (ap (λ (xs : Entries). used_in xs q r) changed)
-    where
-      top : ends_up (tree_of es) q ≡ true
-      top = ended_now q ends
-
-      out : is_in q chain ≡ false
-      out = false_from_ne_true (is_in q chain) (λ mem. true≢false (sym (ends_below (tree_of es) n q (chain_above (tree_of es) n q mem) top) ∙ endless))

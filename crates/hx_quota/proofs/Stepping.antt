@@ -1,25 +1,24 @@
 -- Steps up by indices.
 --     up_name, up_chain, up_walks      the name at the index of a parent, and the chain and the walks from it, are those of the parent
---     ends_step, ends_there            whether a walk ends, step by step
 --     walk_above                       whether it passes a name
 --     target_here, target_other      whether an index is that of a name
-use Rattle.std.specs.Prelude.{is_some, option_and_then, slice_get, IfSome}
-use Rattle.std.proofs.Common.{◌≡◌, ℕ, zero, suc, ◌-◌, ◌<◌, true, false, not, ◌&&◌, Option, Some, None, option_map, List, length, refl, ap, ◌∙◌, arith}
+use Rattle.std.specs.Prelude.{option_and_then, slice_get}
+use Rattle.std.proofs.Common.{◌≡◌, ℕ, true, false, Option, Some, None, option_map, List, length, refl, ap, ◌∙◌}
 use Rattle.std.specs.List.{IsDistinct}
 use Rattle.std.specs.Map.{keys_of}
 use Rattle.std.specs.Option.{option_map_or}
 use Rattle.std.specs.Str.{bytes_eq}
 use Rattle.std.proofs.lemmas.Bool.{false_from_ne_true}
-use Rattle.hx_model.specs.Forest.{Forest, is_there, parent_of, in_chain}
+use Rattle.hx_model.specs.Forest.{Forest, parent_of, in_chain}
 use Rattle.hx_model.specs.Moves.{chain_from}
 use Rattle.hx_model.specs.Walks.{walk_has}
 use Rattle.hx_model.proofs.Climbing.{is_same, same_itself}
 use Rattle.hx_model.proofs.Walking.{walk_has_chain}
 use Rattle.hx_quota.specs.PlaceRows.{Place, IsFoundAt}
 use Rattle.hx_quota.specs.Counters.{Entry, tree_of}
-use Rattle.hx_quota.specs.Inside.{Places, entries_in, ordered, ends_by}
+use Rattle.hx_quota.specs.Inside.{Places, entries_in, ordered}
 use Rattle.hx_quota.specs.Anew.{name_at, name_from, chain_at, chain_behind, walk_from, walk_behind}
-use Rattle.hx_quota.proofs.Formed.{parent_index, all_named}
+use Rattle.hx_quota.proofs.Formed.{parent_index}
 use Rattle.hx_quota.proofs.Indexed.{entry_index, same_index}
 use Rattle.hx_quota.proofs.Trees.{has_ended}
 
@@ -45,27 +44,6 @@ module _ (places : Places) (at : ℕ) (up : Option ℕ) (distinct : IsDistinct b
 
   pub up_walks : (left : ℕ) (above : List ℕ) → walk_from left places up above ≡ walk_behind left places at above
   up_walks left above = ap (λ (o : Option (List ℕ)). walk_has left (tree_of (ordered places)) o above) up_name
-
--- a walk from an index goes on from that of the parent
-pub ends_step : (places : Places) (at : ℕ) (left : ℕ) → 0 < left
-    → ends_by left (tree_of (ordered places)) (name_at (entries_in places) at) ≡ ends_by (left - 1) (tree_of (ordered places)) (option_and_then (parent_of (tree_of (ordered places))) (name_at (entries_in places) at))
-ends_step places at left some_left = by left some_left (name_at (entries_in places) at) (all_named places at)
-  where
-    f : Forest
-    f = tree_of (ordered places)
-
-    by : (k : ℕ) → 0 < k → (o : Option (List ℕ)) → IfSome o (λ m. is_there f m ≡ true) → ends_by k f o ≡ ends_by (k - 1) f (option_and_then (parent_of f) o)
-    by k more None there = refl
-    by zero more (Some m) there = let no : ⊥ = omega (arith, more) in absurd no
-    by (suc k) more (Some m) there = ap (λ b. b && ends_by k f (parent_of f m)) there ∙ ap (λ j. ends_by j f (parent_of f m)) (one_less k)
-      where
-        one_less : (j : ℕ) → j ≡ suc j - 1
-        one_less j = omega arith
-
--- one that has come to its last step ends where no namespace lies
-pub ends_there : (f : Forest) (o : Option (List ℕ)) → ends_by 0 f o ≡ not (is_some o)
-ends_there f None = refl
-ends_there f (Some m) = refl
 
 -- whether a walk passes a name
 pub walk_above : (f : Forest) (o : Option (List ℕ)) (above : List ℕ) → walk_has (length f) f o above ≡ option_map_or (λ p. in_chain f p above) o false

@@ -1,23 +1,18 @@
 -- Sums over subtrees that are formed anew, namespace by namespace.
---     all_ended             all walks up the parents from places end at a namespace without one
 --     name_at, name_from, named      the name at an index of entries, at one that may be none, and at one that is there
 --     chain_at              the chain of the name at an index
 --     chain_behind          that of its parent
 --     walk_from, walk_behind      whether a walk up from an index passes a name, and one from its parent
 --     changed_at            places with a change at an index:
 --     with_sums, with_parent_at, with_shifted_at      other sums, another parent, own sums after deltas
---     cleared               places with no sums
 --     HasAdjusted           the sums at an index are adjusted
---     HasFirst              the sums of places from which the walk up ends are those of subtrees, as far as the first places are in them
-use Rattle.std.specs.Prelude.{◌≡◌, ℕ, zero, suc, ◌<◌, Bool, true, List, [], ◌∷◌, map, replicate, sum_by, take, Option, Some, option_and_then, option_map, unwrap_or, slice_get, slice_index}
-use Rattle.std.specs.List.{list_all}
+use Rattle.std.specs.Prelude.{◌≡◌, ℕ, zero, suc, ◌<◌, Bool, List, [], ◌∷◌, Option, Some, option_and_then, option_map, unwrap_or, slice_get, slice_index}
 use Rattle.hx_model.specs.Forest.{parent_of}
 use Rattle.hx_model.specs.Moves.{chain_from}
 use Rattle.hx_model.specs.Walks.{walk_has}
-use Rattle.hx_model.specs.declared.resource.Resource.{Resource}
 use Rattle.hx_quota.specs.declared.entry.Delta.{Delta}
-use Rattle.hx_quota.specs.Counters.{Entry, tree_of, part_of, place_of, shifted}
-use Rattle.hx_quota.specs.Inside.{Place, Places, adjusted, entries_from, entries_in, ordered, place_at, ends_up}
+use Rattle.hx_quota.specs.Counters.{Entry, tree_of, shifted}
+use Rattle.hx_quota.specs.Inside.{Place, Places, adjusted, entries_from, entries_in, ordered}
 
 -- the name at an index
 abbrev pub name_at : List (List ℕ × Entry) → ℕ → Option (List ℕ)
@@ -72,15 +67,3 @@ pub record HasAdjusted (take give : List ℕ) (at : ℕ) (old new : Places) : Ty
   pub found : Some before ≡ option_map (λ (e : List ℕ × Place). e.1.sums) (slice_get old at)
   pub put : new ≡ with_sums at after old
   pub sums : (k : ℕ) → k < 15 → slice_index after k ≡ adjusted take give before k
-
--- with no sums
-abbrev pub cleared : Places → Places
-cleared places = map (λ p. (p.0, record (p.1) { sums = replicate 15 0 })) places
-
--- all walks up from places end at a namespace without a parent
-abbrev pub all_ended : Places → Bool
-all_ended places = list_all (λ p. ends_up (tree_of (ordered places)) p.0) places
-
--- where the walk up from a place ends, its sums are those of the first places that are in its subtree
-abbrev pub HasFirst : ℕ → Places → Type 0
-HasFirst count places = (q : List ℕ) (p : Place) → place_at places q ≡ Some p → ends_up (tree_of (ordered places)) q ≡ true → (r : Resource) → slice_index p.sums (place_of r) ≡ sum_by (part_of (tree_of (ordered places)) q r) (take count (entries_in places))

@@ -1,7 +1,7 @@
 -- Places by the names of their namespaces, as they are kept.
 --     entries_from          the entries in order, of entries in any order
 --     entries_in, ordered   the entries of places, and those in order
---     entries_of            those of a ledger
+--     entries_of            those of a ledger, with the links that close rings
 --     OwnFit                what a namespace has by itself fits
 --     MayShift              deltas may be made one after the other
 --     adjusted              a sum of which something is taken and to which something is added
@@ -16,7 +16,9 @@
 --     AreClosed             all parents are there
 --     IsFree                a namespace isn't in the chain of a parent
 --     HasUsage              the sums of places are those of subtrees, where a walk up ends
---     IsKept                they are, all parents are there, and all walks up end unless it is noted that one may not
+--     IsOpen                they are, and all walks up end
+--     IsParted              a namespace has no parent, and no link that closes a ring
+--     IsKept                that, without the links that close rings, and there are none unless it is noted that there may be
 use Rattle.std.specs.Prelude.{◌≡◌, ℕ, zero, suc, ◌+◌, ◌-◌, ◌<◌, ◌≤◌, ◌^◌, Bool, true, false, ◌&&◌, List, [], ◌∷◌, length, map, Option, Some, None, slice_index, slice_set, if◌then◌else◌}
 use Rattle.std.specs.Option.{option_map_or}
 use Rattle.std.specs.Str.{bytes_eq}
@@ -26,8 +28,9 @@ use Rattle.hx_forest.specs.Named.{values_from}
 use Rattle.hx_quota.specs.declared.entry.Delta.{Delta}
 use Rattle.hx_quota.specs.declared.places.Change.{Change}
 use Rattle.hx_quota.specs.declared.ledger.Ledger.{Ledger}
-pub use Rattle.hx_quota.specs.PlaceRows.{Place, Places, place_at}
+pub use Rattle.hx_quota.specs.PlaceRows.{Place, Places, place_at, ring_in}
 use Rattle.hx_quota.specs.Counters.{Entry, Entries, tree_of, place_of, used_in, shifted}
+use Rattle.hx_quota.specs.RingLinks.{with_rings, AreRings}
 
 -- the entries in order: of two with one name the first one counts
 abbrev pub entries_from : List (List ℕ × Entry) → Entries
@@ -41,9 +44,9 @@ entries_in places = map (λ p. (p.0, p.1.entry)) places
 abbrev pub ordered : Places → Entries
 ordered places = entries_from (entries_in places)
 
--- those of a ledger
+-- those of a ledger, with the links that close rings
 abbrev pub entries_of : Ledger → Entries
-entries_of ledger = ordered ledger.places.entries
+entries_of ledger = with_rings ledger.places.rings (ordered ledger.places.entries)
 
 -- what a namespace has by itself fits
 abbrev pub OwnFit : List ℕ → Type 0
@@ -122,8 +125,18 @@ IsFree f n parent = option_map_or (λ p. in_chain f p n) parent false ≡ false
 abbrev pub HasUsage : Places → Entries → Type 0
 HasUsage places es = (n : List ℕ) (p : Place) → place_at places n ≡ Some p → ends_up (tree_of es) n ≡ true → (r : Resource) → slice_index p.sums (place_of r) ≡ used_in es n r
 
--- that; all parents are there; and all walks up end, unless it is noted that one may not
+-- that, and all walks up end
+pub record IsOpen (places : Places) : Type 0 where
+  pub summed : HasUsage places (ordered places)
+  pub ended : AllEnd (tree_of (ordered places))
+
+-- that, without the links that close rings, and there are none unless it is noted that there may be
 pub record IsKept (ledger : Ledger) : Type 0 where
-  pub summed : HasUsage ledger.places.entries (entries_of ledger)
-  pub closed : AreClosed (entries_of ledger)
-  pub ended : ledger.circular ≡ false → AllEnd (tree_of (entries_of ledger))
+  pub opened : IsOpen ledger.places.entries
+  pub rings : AreRings (ring_in ledger.places.rings) (tree_of (ordered ledger.places.entries))
+  pub none : ledger.circular ≡ false → (n : List ℕ) → ring_in ledger.places.rings n ≡ None
+
+-- a namespace has no parent, and no link that closes a ring
+pub record IsParted (ledger : Ledger) (n : List ℕ) : Type 0 where
+  pub root : parent_of (tree_of (ordered ledger.places.entries)) n ≡ None
+  pub free : ring_in ledger.places.rings n ≡ None

@@ -6,3 +6,4 @@ pub mod Inside
 pub mod SubtreeUsage
 pub mod Anew
 pub mod SumRows
+pub mod RingLinks

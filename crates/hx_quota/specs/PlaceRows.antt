@@ -1,7 +1,8 @@
 -- What is kept of namespaces.
 --     Place, Places            what is kept of a namespace;  of all, under their names, in the order in which it lies
---     PlacesView               the places, and how many more fit without taking memory
+--     PlacesView               the places, the links that close rings, and how many more fit without taking memory
 --     new_place                the place of a namespace that comes
+--     ring_in                  the link of a namespace that closes a ring
 --     linked                   names with those of their parents, which lie at indices
 --     joined                   the places whose parts lie in three lists
 --     placed                   those of names, the indices of parents, and rows
@@ -12,7 +13,7 @@
 --     relinked                 an index where one lies that lay at another
 --     IsFoundAt                the place of a name lies at an index, or it has none
 use Rattle.std.specs.Prelude.{◌≡◌, ℕ, zero, suc, ◌<◌, nat_eq, List, [], ◌∷◌, length, replicate, slice_get, Option, Some, None, option_and_then, IfSome, if◌then◌else◌, refl}
-use Rattle.std.specs.Coded.{Coded, code_by, coded×, coded_list, coded_ℕ}
+use Rattle.std.specs.Coded.{Coded, code_by, coded×, coded_list, coded_option, coded_ℕ}
 use Rattle.std.specs.List.{IsDistinct}
 use Rattle.std.specs.Map.{keys_of, lookup}
 use Rattle.std.specs.Str.{bytes_eq}
@@ -33,27 +34,32 @@ Places = List (List ℕ × Place)
 abbrev pub place_at : Places → List ℕ → Option Place
 place_at places n = lookup (bytes_eq n) places
 
--- the places, and how many more fit without taking memory
-pub record PlacesView : Type 0 where
-  pub entries : Places
-  pub spare : ℕ
-
-abbrev pub places_code : Coded PlacesView
-places_code = code_by (Places × ℕ) (coded× (coded_list (coded× (coded_list coded_ℕ) place_code)) coded_ℕ)
-    (λ v. (v.entries, v.spare)) (λ p. record { entries = p.0; spare = p.1 }) (λ _. refl)
-
--- the place of a namespace that comes
-abbrev pub new_place : Place
-new_place = record { entry = new_entry; sums = replicate 15 0 }
-
--- ---- three lists
-
 -- a parent, or none
 abbrev pub Link : Type 0
 Link = Option (List ℕ)
 
 abbrev pub Links : Type 0
 Links = List (List ℕ × Link)
+
+-- the link of a namespace that closes a ring, where there is one
+abbrev pub ring_in : Links → List ℕ → Link
+ring_in rings n = option_and_then (λ (link : Link). link) (lookup (bytes_eq n) rings)
+
+-- the places, the links that close rings, and how many more fit without taking memory
+pub record PlacesView : Type 0 where
+  pub entries : Places
+  pub rings : Links
+  pub spare : ℕ
+
+abbrev pub places_code : Coded PlacesView
+places_code = code_by (Places × (Links × ℕ)) (coded× (coded_list (coded× (coded_list coded_ℕ) place_code)) (coded× (coded_list (coded× (coded_list coded_ℕ) (coded_option (coded_list coded_ℕ)))) coded_ℕ))
+    (λ v. (v.entries, (v.rings, v.spare))) (λ p. record { entries = p.0; rings = p.1.0; spare = p.1.1 }) (λ _. refl)
+
+-- the place of a namespace that comes
+abbrev pub new_place : Place
+new_place = record { entry = new_entry; sums = replicate 15 0 }
+
+-- ---- three lists
 
 abbrev pub Rows : Type 0
 Rows = List (List ℕ)

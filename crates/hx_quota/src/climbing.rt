@@ -1,16 +1,16 @@
 // Walks up the places by their indices, and sums that are adjusted along them.
-ghost use Rattle.std.specs.Prelude.{◌≡◌, ℕ, ◌<◌, ◌≤◌, not, true, Some, is_some, IfSome, List, length, option_copied, option_and_then};
+ghost use Rattle.std.specs.Prelude.{◌≡◌, ℕ, ◌<◌, ◌≤◌, true, Some, None, is_some, IfSome, List, length, option_copied, option_and_then};
 ghost use Rattle.std.specs.List.{IsDistinct};
 ghost use Rattle.std.specs.Map.{keys_of};
 ghost use Rattle.std.specs.Str.{bytes_eq};
-ghost use Rattle.hx_model.specs.Forest.{is_in, parent_of};
+ghost use Rattle.hx_model.specs.Forest.{is_in, in_chain, parent_of};
 ghost use Rattle.hx_quota.specs.Counters.{entry_of, tree_of, with_parent, AllFit};
 ghost use Rattle.hx_quota.specs.PlaceRows.{Place, place_at};
-ghost use Rattle.hx_quota.specs.Inside.{entries_in, ordered, MayAdjust, IsAdjusted, HasUsage, IsFree, ends_by, ends_up};
+ghost use Rattle.hx_quota.specs.Inside.{entries_in, ordered, MayAdjust, IsAdjusted, HasUsage, IsFree, IsOpen, AllEnd, ends_by, ends_up};
 ghost use Rattle.hx_quota.specs.Anew.{name_at, name_from, named, chain_at, chain_behind, walk_from, walk_behind};
 
 use crate::place_table::PlaceTable;
-use crate::places::Change;
+use crate::places::{Change, set_parent};
 use hx_object::Text;
 
 /// Takes the sums of the namespace at an index, which gets another parent, from the namespaces above it to those above that one. The walks up end then as before. It takes no memory.
@@ -22,6 +22,7 @@ pub(crate) fn take_over(places: &mut PlaceTable, at: usize, up: Option<usize>)
     requires fits { AllFit (ordered places.old.entries) }
     requires summed { HasUsage places.old.entries (ordered places.old.entries) }
     ensures entries { entries_in places.new.entries ≡ entries_in places.old.entries }
+    ensures rings { places.new.rings ≡ places.old.rings }
     ensures sums { HasUsage places.new.entries (with_parent (named (entries_in places.old.entries) at) (name_from (entries_in places.old.entries) up) (ordered places.old.entries)) }
     ensures room { places.old.spare ≤ places.new.spare }
 {
@@ -41,12 +42,30 @@ pub(crate) fn take_over(places: &mut PlaceTable, at: usize, up: Option<usize>)
     adjust_up(places, up, &on);
 }
 
+/// Gives the namespace at an index another parent, or none, that isn't below it, and takes its sums from the namespaces above it to those above that one. It takes no memory.
+pub(crate) fn move_open(places: &mut PlaceTable, at: usize, up: Option<usize>)
+    requires within { at < length places.old.entries }
+    requires given { IfSome up (λ i. i < length places.old.entries) }
+    requires free { IsFree (tree_of (ordered places.old.entries)) (named (entries_in places.old.entries) at) (name_from (entries_in places.old.entries) up) }
+    requires fits { AllFit (ordered places.old.entries) }
+    requires opened { IsOpen places.old.entries }
+    ensures entries { ordered places.new.entries ≡ with_parent (named (entries_in places.old.entries) at) (name_from (entries_in places.old.entries) up) (ordered places.old.entries) }
+    ensures names { keys_of places.new.entries ≡ keys_of places.old.entries }
+    ensures rings { places.new.rings ≡ places.old.rings }
+    ensures opened { IsOpen places.new.entries }
+    ensures room { places.old.spare ≤ places.new.spare }
+{
+    take_over(places, at, up);
+    set_parent(places, at, up);
+}
+
 /// Changes the sums of the namespace at an index, and of all above it. It takes no memory. Where nothing changes, it looks at none.
 pub(crate) fn adjust_up(places: &mut PlaceTable, first: Option<usize>, change: &Change)
     requires ends { (q : List ℕ) → is_in q (chain_at (entries_in places.old.entries) first) ≡ true → ends_up (tree_of (ordered places.old.entries)) q ≡ true }
     requires distinct { IsDistinct bytes_eq (keys_of (entries_in places.old.entries)) }
     requires may { (q : List ℕ) (p : Place) → is_in q (chain_at (entries_in places.old.entries) first) ≡ true → place_at places.old.entries q ≡ Some p → MayAdjust change.now.take change.now.give p.sums }
     ensures entries { entries_in places.new.entries ≡ entries_in places.old.entries }
+    ensures rings { places.new.rings ≡ places.old.rings }
     ensures sums { (q : List ℕ) → IsAdjusted change.now.take change.now.give (is_in q (chain_at (entries_in places.old.entries) first)) (place_at places.old.entries q) (place_at places.new.entries q) }
     ensures room { places.old.spare ≤ places.new.spare }
 {
@@ -89,30 +108,21 @@ pub(crate) fn passes(places: &PlaceTable, first: Option<usize>, target: usize) -
     false
 }
 
-/// Whether the walk up from an index, where there is one, ends at a namespace without a parent. It is at most as long as there are namespaces.
-pub(crate) fn ends(places: &PlaceTable, first: Option<usize>) -> bool
-    ensures { result ≡ ends_by (length (tree_of (ordered places.now.entries))) (tree_of (ordered places.now.entries)) (name_from (entries_in places.now.entries) first) }
+/// The index of the namespace without a parent at which the walk up from an index ends.
+pub(crate) fn top_of(places: &PlaceTable, first: usize) -> usize
+    requires within { first < length places.now.entries }
+    requires ended { AllEnd (tree_of (ordered places.now.entries)) }
+    ensures within { result < length places.now.entries }
+    ensures root { parent_of (tree_of (ordered places.now.entries)) (named (entries_in places.now.entries) result) ≡ None }
+    ensures above { in_chain (tree_of (ordered places.now.entries)) (named (entries_in places.now.entries) first) (named (entries_in places.now.entries) result) ≡ true }
 {
-    let mut next = first;
-    let mut left = count(places);
-    while left > 0 {
-        left -= 1;
-        let Some(at) = next else {
-            return true;
-        };
+    let mut top = first;
+    let mut next = parent_index(places, first);
+    while let Some(at) = next {
+        top = at;
         next = parent_index(places, at);
     }
-    is_past(places, next)
-}
-
-/// Whether no namespace lies at an index that may be none.
-fn is_past(places: &PlaceTable, at: Option<usize>) -> bool
-    ensures { result ≡ not (is_some (name_from (entries_in places.now.entries) at)) }
-{
-    match at {
-        Some(at) => places.name_at(at).is_none(),
-        None => true,
-    }
+    top
 }
 
 /// How many namespaces there are.
@@ -125,6 +135,7 @@ fn count(places: &PlaceTable) -> usize
 
 /// The index of the parent of the namespace at an index.
 fn parent_index(places: &PlaceTable, at: usize) -> Option<usize>
+    ensures within { IfSome result (λ i. i < length places.now.entries) }
     ensures name { name_from (entries_in places.now.entries) result ≡ option_and_then (parent_of (tree_of (ordered places.now.entries))) (name_at (entries_in places.now.entries) at) }
     ensures chain { chain_at (entries_in places.now.entries) result ≡ chain_behind (entries_in places.now.entries) at }
     ensures walks { (left : ℕ) (above : List ℕ) → walk_from left places.now.entries result above ≡ walk_behind left places.now.entries at above }

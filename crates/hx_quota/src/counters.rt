@@ -15,7 +15,7 @@ use std::marker::Model;
 ///
 /// What all namespaces have together of a resource is below 2^128. Room is made first, and all changes are made without taking memory.
 ///
-/// The sums over subtrees are kept too, and each change goes along a chain. Where a walk up the parents comes to no end, in a cycle or below one, they aren't kept, and are formed by a walk from each namespace where they are asked for; all others are kept beside it. A move out of a cycle, or from below one, forms the sums anew.
+/// The sums over subtrees are kept too, and each change goes along a chain. Where the parents go in a ring, one of its links lies apart, and the sums are kept as if it weren't there: all that are in the ring have what its last one has.
 pub struct Counters {
     pub(crate) ledger: Ledger,
 }

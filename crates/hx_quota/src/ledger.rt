@@ -1,16 +1,18 @@
 // Namespaces, what they have by themselves, and with all below them.
-ghost use Rattle.std.specs.Prelude.{◌≡◌, ◌+◌, ◌<◌, ◌≤◌, true, false, None, is_some, [], ◌∷◌, IfSome, OnOk, length, option_copied};
+ghost use Rattle.std.specs.Prelude.{◌≡◌, ◌+◌, ◌<◌, ◌≤◌, true, Some, None, is_some, [], ◌∷◌, IfSome, OnOk, length, option_copied};
+ghost use Rattle.std.specs.Map.{keys_of};
 ghost use Rattle.hx_model.specs.Forest.{subtree_of};
 ghost use Rattle.hx_model.specs.declared.resource.Resource.{Resource};
 ghost use Rattle.hx_quota.specs.Counters.{entry_of, tree_of, own_in, with_entry, new_entry, without_entry, with_parent, with_shifted, sums_of, AreApart, HaveOld, AllFit};
-ghost use Rattle.hx_quota.specs.Inside.{entries_in, entries_of, IsKept, ends_up};
+ghost use Rattle.hx_quota.specs.PlaceRows.{ring_in};
+ghost use Rattle.hx_quota.specs.RingLinks.{IsRingTop};
+ghost use Rattle.hx_quota.specs.Inside.{entries_in, entries_of, ordered, IsKept, IsParted};
 ghost use Rattle.hx_quota.specs.Anew.{name_from, named};
 
-use crate::climbing::{adjust_up, index_from, take_over};
+use crate::climbing::{adjust_up, index_from, move_open};
 use crate::entry::Delta;
-use crate::forming::form_anew;
 use crate::place_table::PlaceTable;
-use crate::places::{set_parent, shift_own};
+use crate::places::{ring_at, set_ring, shift_own};
 use hx_model::Resource;
 use hx_object::{NoMemory, Text};
 use std::alloc::Global;
@@ -25,9 +27,9 @@ pub(crate) struct Hints {
 
 /// Places by the names of their namespaces, in no order.
 pub(crate) struct Ledger {
-    /// With the sums of subtrees, where the walk up the parents ends at a namespace without one. Below a cycle, and in it, they aren't kept.
+    /// With the sums of subtrees. The link of each ring that closed it lies apart, so that all walks up the others end, and the sums are those of subtrees without it.
     pub(crate) places: PlaceTable,
-    /// Some walk up may not end, so that each is made to see whether it does.
+    /// There are rings, or it isn't known that there are none.
     pub(crate) circular: bool,
 }
 
@@ -101,16 +103,11 @@ impl Ledger {
         let Some(at) = self.places.index_near(hint, ns) else {
             return;
         };
-        let ends = self.ends(Some(at));
         let change = shift_own(&mut self.places, at, deltas);
-        if ends {
-            adjust_up(&mut self.places, Some(at), &change);
-        }
+        adjust_up(&mut self.places, Some(at), &change);
     }
 
     /// Gives a namespace another parent, or none, and takes what it has with all below it from the namespaces that were above it to those that are. It takes no memory.
-    ///
-    /// Where it comes out of a cycle, or from below one, all sums are formed anew, in as many steps as all chains together have members, and as all walks that come to no end have.
     pub(crate) fn move_subtree(&mut self, hints: Hints, moved: &Text, parent: Option<&Text>)
         requires there { is_some (entry_of (entries_of self.old) moved.now) ≡ true }
         requires given { IfSome (option_copied parent) (λ p. is_some (entry_of (entries_of self.old) p) ≡ true) }
@@ -137,36 +134,91 @@ impl Ledger {
         ensures room { self.old.places.spare ≤ self.new.places.spare }
         ensures kept { IsKept self.new }
     {
-        if !self.ends(Some(at)) {
-            self.move_endless(at, up);
-            return;
-        }
-        if self.stays_ended(at, up) {
-            take_over(&mut self.places, at, up);
-            set_parent(&mut self.places, at, up);
-        } else {
-            take_over(&mut self.places, at, None);
-            set_parent(&mut self.places, at, up);
-            self.circular = true;
+        self.part(at);
+        self.join(at, up);
+    }
+
+    /// Takes the namespace at an index from its parent.
+    fn part(&mut self, at: usize)
+        requires within { at < length self.old.places.entries }
+        requires fits { AllFit (entries_of self.old) }
+        requires kept { IsKept self.old }
+        ensures entries { entries_of self.new ≡ with_parent (named (entries_in self.old.places.entries) at) None (entries_of self.old) }
+        ensures names { keys_of self.new.places.entries ≡ keys_of self.old.places.entries }
+        ensures free { IsParted self.new (named (entries_in self.old.places.entries) at) }
+        ensures room { self.old.places.spare ≤ self.new.places.spare }
+        ensures kept { IsKept self.new }
+    {
+        match self.ring_top(at) {
+            Some(top) => self.open_ring(at, top),
+            None => move_open(&mut self.places, at, None),
         }
     }
 
-    /// The same where the walk up comes to no end before.
-    fn move_endless(&mut self, at: usize, up: Option<usize>)
+    /// The same where it is in the ring that the link of another one closes, or its own. That one is then a link as all others.
+    fn open_ring(&mut self, at: usize, top: usize)
         requires within { at < length self.old.places.entries }
-        requires given { IfSome up (λ i. i < length self.old.places.entries) }
+        requires inside { top < length self.old.places.entries }
+        requires top { IsRingTop (ring_in self.old.places.rings) (tree_of (ordered self.old.places.entries)) (named (entries_in self.old.places.entries) at) (Some (named (entries_in self.old.places.entries) top)) }
         requires fits { AllFit (entries_of self.old) }
         requires kept { IsKept self.old }
-        requires endless { ends_up (tree_of (entries_of self.old)) (named (entries_in self.old.places.entries) at) ≡ false }
+        ensures entries { entries_of self.new ≡ with_parent (named (entries_in self.old.places.entries) at) None (entries_of self.old) }
+        ensures names { keys_of self.new.places.entries ≡ keys_of self.old.places.entries }
+        ensures free { IsParted self.new (named (entries_in self.old.places.entries) at) }
+        ensures room { self.old.places.spare ≤ self.new.places.spare }
+        ensures kept { IsKept self.new }
+    {
+        self.turn_ring(at, top);
+        self.note_rings();
+    }
+
+    /// Notes where there are no rings. It looks at all namespaces.
+    fn note_rings(&mut self)
+        requires kept { IsKept self.old }
+        ensures places { self.new.places ≡ self.old.places }
+        ensures kept { IsKept self.new }
+    {
+        self.circular = self.places.has_rings();
+    }
+
+    /// The same, where it isn't noted yet that there may be no ring any more.
+    fn turn_ring(&mut self, at: usize, top: usize)
+        requires within { at < length self.old.places.entries }
+        requires inside { top < length self.old.places.entries }
+        requires top { IsRingTop (ring_in self.old.places.rings) (tree_of (ordered self.old.places.entries)) (named (entries_in self.old.places.entries) at) (Some (named (entries_in self.old.places.entries) top)) }
+        requires fits { AllFit (entries_of self.old) }
+        requires kept { IsKept self.old }
+        ensures entries { entries_of self.new ≡ with_parent (named (entries_in self.old.places.entries) at) None (entries_of self.old) }
+        ensures names { keys_of self.new.places.entries ≡ keys_of self.old.places.entries }
+        ensures free { IsParted self.new (named (entries_in self.old.places.entries) at) }
+        ensures room { self.old.places.spare ≤ self.new.places.spare }
+        ensures kept { IsKept self.new }
+    {
+        let up = ring_at(&self.places, top);
+        set_ring(&mut self.places, top, None);
+        if top == at {
+            return;
+        }
+        move_open(&mut self.places, at, None);
+        move_open(&mut self.places, top, up);
+    }
+
+    /// Gives the namespace at an index, which has no parent, one at an index, or none. Where that one is below it, the link closes a ring.
+    fn join(&mut self, at: usize, up: Option<usize>)
+        requires within { at < length self.old.places.entries }
+        requires given { IfSome up (λ i. i < length self.old.places.entries) }
+        requires free { IsParted self.old (named (entries_in self.old.places.entries) at) }
+        requires fits { AllFit (entries_of self.old) }
+        requires kept { IsKept self.old }
         ensures entries { entries_of self.new ≡ with_parent (named (entries_in self.old.places.entries) at) (name_from (entries_in self.old.places.entries) up) (entries_of self.old) }
         ensures room { self.old.places.spare ≤ self.new.places.spare }
         ensures kept { IsKept self.new }
     {
-        let ends = self.ends(up);
-        set_parent(&mut self.places, at, up);
-        if ends {
-            let ended = form_anew(&mut self.places);
-            self.circular = !ended;
+        if self.has_above(up, at) {
+            self.circular = true;
+            set_ring(&mut self.places, at, up);
+            return;
         }
+        move_open(&mut self.places, at, up);
     }
 }

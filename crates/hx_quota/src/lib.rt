@@ -8,7 +8,6 @@ mod changing;
 mod climbing;
 mod counters;
 mod entry;
-mod forming;
 mod ledger;
 mod limiting;
 mod place_table;

@@ -79,7 +79,7 @@ impl Usage {
 
     /// What all objects of a subtree are charged for a resource, in thousandths.
     ///
-    /// It is one look-up, unless the counts are lost, or the namespace is in a cycle of parents or below one. A sum that doesn't fit 128 bits fits no memory, either.
+    /// It is one look-up, unless the counts are lost, or there is a cycle of parents somewhere: then it is at most two walks up. A sum that doesn't fit 128 bits fits no memory, either.
     pub fn used(
         &self,
         store: &Store,

@@ -192,28 +192,6 @@ fn adjust_all(columns: &mut Columns, filled: &mut [bool; 15], at: usize, change:
     }
 }
 
-/// Gives an index other sums, where it is there.
-fn set_all(columns: &mut Columns, at: usize, sums: &[u128; 15])
-    ensures long { length columns.new ≡ 15 }
-    ensures sums { (k : ℕ) → k < 15 → (column_at columns.new k).sums ≡ slice_set (column_at columns.old k).sums at (slice_index sums.now k) }
-    ensures room { (k : ℕ) → k < 15 → (column_at columns.old k).spare ≤ (column_at columns.new k).spare }
-{
-    for place in 0..15 {
-        columns[place].set(at, sums[place]);
-    }
-}
-
-/// Which sums aren't 0.
-fn filled_by(sums: &[u128; 15]) -> [bool; 15]
-    ensures { (k : ℕ) → k < 15 → flag_of result k ≡ false → slice_index sums.now k ≡ 0 }
-{
-    let mut filled = [true; 15];
-    for place in 0..15 {
-        filled[place] = sums[place] != 0;
-    }
-    filled
-}
-
 /// Which sums of a namespace may be other than 0, by its index.
 struct Filled {
     flags: Vec<[bool; 15]>,
@@ -400,14 +378,5 @@ impl SumTable {
         } else {
             false
         }
-    }
-
-    /// Gives an index other sums, where it is there.
-    pub(crate) fn set(&mut self, at: usize, sums: [u128; 15])
-        ensures rows { self.new.rows ≡ slice_set self.old.rows at sums }
-        ensures room { self.old.spare ≤ self.new.spare }
-    {
-        set_all(&mut self.columns, at, &sums);
-        self.filled.set(at, filled_by(&sums));
     }
 }

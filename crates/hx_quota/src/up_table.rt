@@ -1,5 +1,6 @@
 // Where the parents of namespaces lie.
-ghost use Rattle.std.specs.Prelude.{◌≡◌, ◌+◌, ◌-◌, ◌<◌, ◌≤◌, ◌^◌, false, None, [], ◌∷◌, ◌++◌, OnOk, IfSome, length, map, option_and_then, slice_get, slice_set, swap_remove, nat_eq, vec_len};
+ghost use Rattle.std.specs.Prelude.{◌≡◌, ◌+◌, ◌-◌, ◌<◌, ◌≤◌, ◌^◌, false, None, [], ◌∷◌, ◌++◌, OnOk, IfSome, is_some, length, map, option_and_then, slice_get, slice_set, swap_remove, nat_eq, vec_len};
+ghost use Rattle.std.specs.List.{list_any};
 ghost use Rattle.std.specs.Option.{option_map_or};
 ghost use Rattle.std.specs.Vec.{vec_capacity};
 ghost use Rattle.hx_quota.specs.PlaceRows.{relinked};
@@ -74,6 +75,13 @@ impl UpTable {
             Some(up) => wide(*up),
             None => None,
         }
+    }
+
+    /// Whether any has a parent.
+    pub(crate) fn any(&self) -> bool
+        ensures { result ≡ list_any (λ up. is_some up) self.now.items }
+    {
+        self.ups.iter().any(|up| up.is_some())
     }
 
     /// Gives the one at an index another parent, or none, where it is there.

@@ -1,4 +1,4 @@
-use Rattle.std.proofs.Common.{rules}
+use Rattle.std.proofs.Common.{rules, refl, ◌∙◌}
 use Rattle.hx_quota.specs.Inside.{entries_in}
 use Rattle.hx_quota.specs.Anew.{chain_at, HasAdjusted}
 use Rattle.hx_quota.proofs.Formed.{begun, may_step, more_of, shorter_left}
@@ -7,6 +7,7 @@ use Rattle.hx_quota.proofs.climbing.adjust_up.Goals as goal
 pub loop-next-init : goal.loop-next-init
 loop-next-init c = record {
   underway = begun c.args.change.now.take c.args.change.now.give c.args.places.now.entries c.args.first;
+  rings = refl;
   room = search rules;
 }
 
@@ -27,5 +28,6 @@ loop-next-preserved c =
     record {
       underway = more_of c.args.change.now.take c.args.change.now.give c.args.places.now.entries c.loop-next.places.entries (chain_at (entries_in c.args.places.now.entries) c.args.first) c.requires.ends c.requires.distinct c.in-Some.at c.loop-next.next c.in-Some.is
           has.before has.found c.loop-next.invariant.underway c.adjust.new.self.entries has.after has.put c.parent_index-next.result c.parent_index-next.ensures.chain has.sums;
+      rings = c.adjust.ensures.rings ∙ c.loop-next.invariant.rings;
       room = search rules;
     }

@@ -78,3 +78,6 @@ returns-clause-sums c =
     let on = subst (λ (s : List ℕ). (q : List ℕ) → IsAdjusted none s (is_in q (chain_from f (name_from es c.args.up))) (place_at mid q) (place_at new q)) (sym mine.2)
     (subst (λ (ns : List (List ℕ)). (q : List ℕ) → IsAdjusted none sums (is_in q ns) (place_at mid q) (place_at new q)) over c.adjust_up-2.ensures.sums) in
     sums_taken old n (name_from es c.args.up) there c.requires.ended c.requires.ends c.requires.open c.requires.fits c.requires.summed mine.0 mine.1 mid off new on
+
+pub returns-clause-rings : goal.returns-clause-rings
+returns-clause-rings c = c.adjust_up-2.ensures.rings ∙ c.adjust_up.ensures.rings

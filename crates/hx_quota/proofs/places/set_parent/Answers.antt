@@ -1,10 +1,11 @@
 use Rattle.std.proofs.Common.{◌≡◌, ap, sym, refl, subst, ◌∙◌, Some, List, ℕ, cond}
 use Rattle.std.specs.List.{IsDistinct}
+use Rattle.std.specs.Map.{keys_of}
 use Rattle.std.specs.Str.{bytes_eq}
 use Rattle.hx_quota.specs.PlaceRows.{Place, place_at, IsFoundAt}
 use Rattle.hx_quota.specs.Inside.{entries_in}
 use Rattle.hx_quota.specs.Anew.{name_from, named}
-use Rattle.hx_quota.proofs.Indexed.{place_changed, kept_sums}
+use Rattle.hx_quota.proofs.Indexed.{keys_changed, place_changed, kept_sums}
 use Rattle.hx_quota.proofs.Placed.{same_keys, changed_places}
 use Rattle.hx_quota.proofs.Reached.{lies_at}
 use Rattle.hx_quota.proofs.places.set_parent.Goals as goal
@@ -31,3 +32,6 @@ pub returns-clause-sums : goal.returns-clause-sums
 returns-clause-sums c =
     let places = c.args.places.now.entries in
     kept_sums places c.set_parent.new.self.entries (named (entries_in places) c.args.at) (lies c).0 (changed c (lies c).0) (lies c).2 refl (looks c)
+
+pub returns-clause-names : goal.returns-clause-names
+returns-clause-names c = ap (λ xs. keys_of xs) c.set_parent.ensures.entries ∙ keys_changed c.args.at (changed c) c.args.places.now.entries

@@ -1,11 +1,11 @@
 use Rattle.std.proofs.Common.{◌∙◌}
 use Rattle.hx_quota.specs.Counters.{tree_of}
-use Rattle.hx_quota.specs.Inside.{entries_in, entries_of}
+use Rattle.hx_quota.specs.Inside.{entries_in, ordered}
 use Rattle.hx_quota.specs.Anew.{name_from, named}
 use Rattle.hx_quota.proofs.Stepping.{walk_above}
 use Rattle.hx_quota.proofs.ledger.Ledger.has_above.Goals as goal
 
 pub returns : goal.returns
 returns c =
-    let es = entries_in c.args.self.now.places.entries in
-    c.passes.ensures ∙ walk_above (tree_of (entries_of c.args.self.now)) (name_from es c.args.first) (named es c.args.above)
+    let places = c.args.self.now.places.entries in
+    c.passes.ensures ∙ walk_above (tree_of (ordered places)) (name_from (entries_in places) c.args.first) (named (entries_in places) c.args.above)

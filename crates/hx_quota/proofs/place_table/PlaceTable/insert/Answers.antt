@@ -10,7 +10,7 @@ abbrev zeros : Rows
 zeros = replicate 15 0 ∷ []
 
 -- the names are then those before, and the new one
-named : (c : goal.After-push-2) → c.insert.new.self.keys ≡ c.self.inside.names.keys ++ c.args.name ∷ []
+named : (c : goal.After-push-3) → c.insert.new.self.keys ≡ c.self.inside.names.keys ++ c.args.name ∷ []
 named c =
     let t = c.self.inside in
     let links = linked t.names.keys t.names.keys t.ups.items in
@@ -21,7 +21,7 @@ named c =
     put ∙ ap (λ b. if b then t.names.keys else t.names.keys ++ c.args.name ∷ []) away
 
 -- and so are the links
-links_then : (c : goal.After-push-2) → linked c.insert.new.self.keys c.insert.new.self.keys (c.self.inside.ups.items ++ None ∷ [])
+links_then : (c : goal.After-push-3) → linked c.insert.new.self.keys c.insert.new.self.keys (c.self.inside.ups.items ++ None ∷ [])
     ≡ linked c.self.inside.names.keys c.self.inside.names.keys c.self.inside.ups.items ++ (c.args.name, None) ∷ []
 links_then c =
     let t = c.self.inside in
@@ -35,6 +35,7 @@ invariant_of-self c =
     let name = c.args.name in
     let own : c.push_reserved.new.self.items ≡ t.own.items ++ zeros = search rules in
     let ups : c.push.new.self.items ≡ t.ups.items ++ None ∷ [] = search rules in
+    let rings : c.push-3.new.self.items ≡ t.rings.items ++ None ∷ [] = search rules in
     let new_links = linked new new (t.ups.items ++ None ∷ []) in
     let distinct = subst (λ (ks : Names). IsDistinct bytes_eq ks) (sym (keys_linked new new (t.ups.items ++ None ∷ []))) c.insert.ensures.unique in (
       subst (λ (us : Ups). IsTable (linked new new us) c.push_reserved.new.self.items c.push-2.new.self.rows) (sym ups)
@@ -42,6 +43,7 @@ invariant_of-self c =
           (subst (λ (rows : Rows). IsTable new_links rows (t.sums.rows ++ zeros)) (sym own)
           (table_pushed links new_links t.own.items t.sums.rows name None (replicate 15 0) (replicate 15 0) c.self.invariant.0 (links_then c) distinct))),
       subst (λ (us : Ups). AreUps new us) (sym ups) (subst (λ (ns : Names). AreUps ns (t.ups.items ++ None ∷ [])) (sym (named c)) (ups_push t.names.keys t.ups.items name c.self.invariant.1)),
+      subst (λ (us : Ups). AreUps new us) (sym rings) (subst (λ (ns : Names). AreUps ns (t.rings.items ++ None ∷ [])) (sym (named c)) (ups_push t.names.keys t.rings.items name c.self.invariant.2)),
     )
 
 pub returns-clause-entries : goal.returns-clause-entries
@@ -54,3 +56,10 @@ returns-clause-entries c =
     rw (← c.self.view_is)
     ((λ i. joined (linked c.insert.new.self.keys c.insert.new.self.keys (ups i)) (own i) (whole i)) ∙ ap (λ xs. joined xs (t.own.items ++ zeros) (t.sums.rows ++ zeros)) (links_then c)
     ∙ joined_push links t.own.items t.sums.rows c.self.invariant.0.own c.self.invariant.0.whole c.args.name None (replicate 15 0) (replicate 15 0))
+
+pub returns-clause-rings : goal.returns-clause-rings
+returns-clause-rings c =
+    let t = c.self.inside in
+    let rings : c.push-3.new.self.items ≡ t.rings.items ++ None ∷ [] = search rules in
+    rw (← c.self.view_is)
+    (ap (linked c.insert.new.self.keys c.insert.new.self.keys) rings ∙ ap (λ (ns : Names). linked ns ns (t.rings.items ++ None ∷ [])) (named c) ∙ linked_push t.names.keys t.rings.items c.args.name c.self.invariant.2)

@@ -33,6 +33,7 @@ invariant_of-self c =
     subst (λ (k : ℕ). IfSome c.args.up (λ i. i < k)) (length_joined links t.own.items t.sums.rows ∙ length_linked names names t.ups.items) (subst (λ (v : PlacesView). IfSome c.args.up (λ i. i < length v.entries)) (sym c.self.view_is) c.requires) in (
       subst (λ (new : Links). IsTable new t.own.items t.sums.rows) (sym (links_then c)) (table_linked links t.own.items t.sums.rows c.args.at (option_and_then (slice_get names) c.args.up) c.self.invariant.0),
       subst (λ (ups : Ups). AreUps names ups) (sym c.set.ensures.items) (ups_set names t.ups.items c.args.at c.args.up within c.self.invariant.1),
+      c.self.invariant.2,
     )
 
 pub returns-clause-entries : goal.returns-clause-entries

@@ -27,6 +27,7 @@ invariant_of-self c =
     let links = linked t.names.keys t.names.keys t.ups.items in (
       subst (λ (rows : Rows). IsTable links rows t.sums.rows) (sym c.shift_row.ensures.rows) (table_shifted links t.own.items t.sums.rows c.args.at (shifted c.args.deltas.now) c.self.invariant.0),
       c.self.invariant.1,
+      c.self.invariant.2,
     )
 
 pub returns-clause-entries : goal.returns-clause-entries
