@@ -3,6 +3,7 @@
 --     conflict_alike   not there, where the source that it replaces went to the same labels
 --     reached_down     a place is reached from one of the namespaces above
 --     reached_none     and not where no source of its kind and name lies in another namespace
+--     reached_beside   where the source in one namespace doesn't go there, the others tell
 use Rattle.std.proofs.Common.{◌≡◌, ℕ, Bool, true, false, cond, not, ◌&&◌, ◌||◌, Option, Some, None, List, [], ◌∷◌, ◌⊎◌, filter, refl, sym, ap, ◌∙◌, subst, true≢false, eqb, eq-eqb, eqb-true, inl, inr}
 use Rattle.std.specs.Prelude.{is_some, is_none, option_and_then, Result, IfOk}
 use Rattle.hx_object.specs.declared.memory.NoMemory.{NoMemory}
@@ -15,6 +16,7 @@ use Rattle.hx_object.specs.Kinds.{number_of, can_be_copied, is_anchor}
 use Rattle.hx_object.specs.declared.kind.Kind.{Kind}
 use Rattle.hx_object.specs.declared.object.Id.{Id}
 use Rattle.hx_object.specs.declared.object.Mode.{Mode}
+use Rattle.hx_object.specs.declared.object.Mode.TheVariants.{Propagate}
 use Rattle.hx_object.specs.declared.object.Object.{Object}
 use Rattle.hx_select.specs.Selectors.{selector_of}
 use Rattle.hx_select.specs.TreeSelects.{tree_select_of}
@@ -32,8 +34,10 @@ use Rattle.hx_model.proofs.Climbing.{is_same, same_itself}
 use Rattle.hx_model.proofs.Conflicting.{found_any, any_found, goes_from, unpropagated, reached_any, tail_in, tail_chain, head_out, reaches, overwritten_by, overwritten_now, overwritten_put, other_at, conflict_found, conflict_of}
 use Rattle.hx_model.proofs.Objects.{is_same_id, same_kind, object_at-filter, found_id, found_again}
 use Rattle.hx_model.proofs.Walking.{both, passes_in}
+use Rattle.hx_rules.specs.Reaches.{reaches as reach_has}
+use Rattle.hx_rules.specs.declared.reach.Reach.{Reach}
 use Rattle.hx_store.specs.Sources.{HasNoneBeside, indexed_in}
-use Rattle.hx_admit.specs.Conflicting.{with_object, is_source_of, is_source_in, is_alike, goes_as_before, goes_down, is_reached, is_taken, is_hit, hits}
+use Rattle.hx_admit.specs.Conflicting.{with_object, is_source_of, is_source_in, is_alike, goes_as_before, IsReachOf, goes_down, goes_beside, is_reached, is_taken, is_hit, hits}
 
 -- ---- names
 
@@ -469,6 +473,52 @@ pub hit_anew : (s : State) (x : Object) (m : List ℕ) (mode : Mode) → bytes_e
 unfolding is_hit
 hit_anew s x m mode other below takes_part is goes =
     sym (λ i. not (other i) && (below i && (takes_part i && ((ap (λ k. goes_to k x (labels_at s m)) (sym is) ∙ goes) i && not (is_reached s m x.id.kind x.id.name)))))
+
+-- ---- a source that was read before
+
+-- a name that doesn't pass may be left out
+any_but : (P : List ℕ → Bool) (n : List ℕ) (names : List (List ℕ)) → P n ≡ false → list_any (λ a. not (bytes_eq a n) && P a) names ≡ list_any P names
+any_but P n [] out = refl
+any_but P n (a ∷ names) out = λ i. by (bytes_eq a n) refl i || any_but P n names out i
+  where
+    by : (b : Bool) → bytes_eq a n ≡ b → (not b && P a) ≡ P a
+    by true e = sym (ap P (is_same a n e) ∙ out)
+    by false e = refl
+
+propagates : (mode : Mode) → is_propagated mode ≡ true → mode ≡ Propagate
+propagates Propagate e = refl
+propagates _ e = absurd (true≢false (sym e))
+
+-- where the source in one namespace doesn't go there, the others tell
+pub reached_beside : (s : State) (x : Object) (m : List ℕ) (before : Reach) → IsReachOf before (object_at s.objects x.id) → is_propagated (mode_of s x.id.kind) ≡ true → reach_has before (labels_at s m) ≡ false
+    → list_any (goes_beside s x.id.ns m x.id.kind x.id.name) (tail_of (chain_of (forest_of s) m)) ≡ is_reached s m x.id.kind x.id.name
+unfolding goes_beside goes_down
+reached_beside s x m before read spreads out =
+    any_but (goes_down s Propagate m x.id.kind x.id.name) x.id.ns (tail_of (chain_of (forest_of s) m)) (sym (read (labels_at s m)) ∙ out)
+    ∙ reached_down s m x.id.kind x.id.name Propagate (sym (propagates (mode_of s x.id.kind) spreads))
+
+-- a source goes to no place anew where the one that it replaces went
+pub hit_before : (s : State) (x : Object) (m : List ℕ) (before : Reach) → IsReachOf before (object_at s.objects x.id) → is_propagated (mode_of s x.id.kind) ≡ true → bytes_eq m x.id.ns ≡ false → in_chain (forest_of s) m x.id.ns ≡ true → reach_has before (labels_at s m) ≡ true
+    → false ≡ is_hit s x m
+unfolding is_hit goes_down
+hit_before s x m before read spreads other below went =
+    let apart : bytes_eq x.id.ns m ≡ false = false_from_ne_true (bytes_eq x.id.ns m) (λ h. true≢false (sym (same_itself m) ∙ ap (bytes_eq m) (sym (is_same x.id.ns m h)) ∙ other)) in
+    let reached : is_reached s m x.id.kind x.id.name ≡ true =
+    sym (reached_down s m x.id.kind x.id.name Propagate (sym (propagates (mode_of s x.id.kind) spreads)))
+    ∙ passes_in (goes_down s Propagate m x.id.kind x.id.name) x.id.ns (tail_of (chain_of (forest_of s) m)) (tail_in (forest_of s) m x.id.ns apart below) (sym (read (labels_at s m)) ∙ went) in
+    sym (and_right (not (bytes_eq m x.id.ns)) _ (and_right (in_chain (forest_of s) m x.id.ns) _ (and_right (is_open (forest_of s) m) _ (and_right (goes_to (mode_of s x.id.kind) x (labels_at s m)) _ (ap not reached)))))
+
+-- what was read of a source tells where it goes
+pub read_goes : (s : State) (x : Object) (m : List ℕ) (after : Reach) (b : Bool) → IsReachOf after (Some x) → is_propagated (mode_of s x.id.kind) ≡ true → reach_has after (labels_at s m) ≡ b → goes_to (mode_of s x.id.kind) x (labels_at s m) ≡ b
+read_goes s x m after b read spreads is = ap (λ mode. goes_to mode x (labels_at s m)) (propagates (mode_of s x.id.kind) spreads) ∙ sym (read (labels_at s m)) ∙ is
+
+pub beside_home : (s : State) (home ns : List ℕ) (kind : Kind) (name a : List ℕ) → bytes_eq a home ≡ true → false ≡ goes_beside s home ns kind name a
+unfolding goes_beside
+beside_home s home ns kind name a e = sym (and_left (not (bytes_eq a home)) _ (ap not e))
+
+pub beside_other : (s : State) (home ns : List ℕ) (kind : Kind) (name a : List ℕ) → bytes_eq a home ≡ false → goes_down s Propagate ns kind name a ≡ goes_beside s home ns kind name a
+unfolding goes_beside
+beside_other s home ns kind name a e = sym (ap (λ b. not b && goes_down s Propagate ns kind name a) e)
 
 pub hits_is : (s : State) (x : Object) → list_any (λ (y : Object). is_hit s x y.id.ns) (filter (is_source_of x.id.kind x.id.name) s.objects) ≡ hits s x
 unfolding hits

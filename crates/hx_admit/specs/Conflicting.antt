@@ -1,14 +1,16 @@
 -- Where a write is looked at for conflicts.
 --     with_object s x                the state with an object put
 --     goes_as_before found x         what is found is a source with the same exceptions, which goes somewhere
+--     IsReachOf reach found          what is found goes to the labels that a reach has
 --     goes_down s mode ns kind name a   the source of a kind and name in a namespace goes to the labels of a place
+--     goes_beside s home ns kind name a   the same of a kind that is propagated, but for the source in one namespace
 --     is_reached s ns kind name      a source from above goes to a place
 --     is_taken s x                   there was no source in the place of x, whose namespace takes part, and one from above goes there
 --     is_hit s x m                   x goes to a namespace below its own that takes part, and none went there before
 --     hits s x                       it does so where a source of its kind and name lies
 --     config_after s id new          the HNCConfiguration that counts then
 --     comes_over s found kind        a kind comes to be propagated, and some source of it lies where a source from above goes
-use Rattle.std.specs.Prelude.{ℕ, Bool, false, not, ◌&&◌, List, [], ◌∷◌, filter, is_none, is_some, Option, None, if◌then◌else◌}
+use Rattle.std.specs.Prelude.{◌≡◌, ℕ, Bool, false, not, ◌&&◌, List, [], ◌∷◌, filter, is_none, is_some, Option, None, if◌then◌else◌}
 use Rattle.std.specs.List.{list_any}
 use Rattle.std.specs.Option.{option_map_or}
 use Rattle.std.specs.Str.{bytes_eq}
@@ -30,6 +32,8 @@ use Rattle.hx_model.specs.Propagation.{is_propagated, is_source, goes_to, id_in,
 use Rattle.hx_model.specs.State.{State, object_at, put}
 use Rattle.hx_model.specs.Tree.{forest_of}
 use Rattle.hx_model.specs.TreeLabels.{is_open}
+use Rattle.hx_rules.specs.Reaches.{reaches}
+use Rattle.hx_rules.specs.declared.reach.Reach.{Reach}
 pub use Rattle.hx_store.specs.Sources.{is_source_of}
 
 -- the state with an object put
@@ -52,9 +56,17 @@ is_alike old x =
 abbrev pub goes_as_before : Option Object → Object → Bool
 goes_as_before found x = option_map_or (λ old. is_alike old x) found false
 
+-- what is found goes to the labels that a reach has, where its kind is propagated
+abbrev pub IsReachOf : Reach → Option Object → Type 0
+IsReachOf reach found = (labels : List (List ℕ × List ℕ)) → reaches reach labels ≡ option_map_or (λ x. goes_to Propagate x labels) found false
+
 -- the source of a kind and name in a namespace goes to the labels of a place
 unfoldable pub goes_down : State → Mode → List ℕ → Kind → List ℕ → List ℕ → Bool
 goes_down s mode ns kind name a = option_map_or (λ x. goes_to mode x (labels_at s ns)) (object_at s.objects (id_in kind name a)) false
+
+-- the same of a kind that is propagated, but for the source in one namespace
+unfoldable pub goes_beside : State → List ℕ → List ℕ → Kind → List ℕ → List ℕ → Bool
+goes_beside s home ns kind name a = not (bytes_eq a home) && goes_down s Propagate ns kind name a
 
 -- a source from above goes to a place
 unfoldable pub is_reached : State → List ℕ → Kind → List ℕ → Bool

@@ -14,7 +14,8 @@ ghost use Rattle.hx_model.specs.Propagation.{goes_to, is_propagated, is_source};
 ghost use Rattle.hx_model.specs.State.{object_at, ascends};
 ghost use Rattle.hx_model.specs.Tree.{forest_of};
 ghost use Rattle.hx_model.specs.TreeLabels.{is_open};
-ghost use Rattle.hx_admit.specs.Conflicting.{with_object, is_source_of, is_source_in, goes_as_before, goes_down, is_reached, is_taken, is_hit, hits, with_written, would_go, has_overwritten, comes_over};
+ghost use Rattle.hx_rules.specs.Reaches.{reaches};
+ghost use Rattle.hx_admit.specs.Conflicting.{with_object, is_source_of, is_source_in, goes_as_before, IsReachOf, goes_beside, goes_down, is_reached, is_taken, is_hit, hits, with_written, would_go, has_overwritten, comes_over};
 
 use crate::indexed_state::IndexedState;
 use crate::moves::{labels_along, mode_at};
@@ -44,7 +45,7 @@ impl IndexedState {
         if goes_as_before(old, new) {
             return Ok(false);
         }
-        self.hits(new)
+        self.hits(old, new)
     }
 
     /// Whether an HNCConfiguration makes a conflict where it is written as `new`, or is removed: some source of a kind that comes to be propagated lies where a source from above is copied to (HNC user guide, "Modify object propagation").
@@ -163,7 +164,10 @@ impl IndexedState {
     }
 
     /// Whether a source that is written goes to where a source of its kind and name lies, below its namespace, and none went before.
-    fn hits(&self, new: &Object) -> Result<bool, NoMemory>
+    ///
+    /// Its exceptions are read once, and so are those of what it replaces, however many places are asked.
+    fn hits(&self, old: Option<&Object>, new: &Object) -> Result<bool, NoMemory>
+        requires there { object_at self.now.state.objects new.now.id ≡ option_copied old }
         ensures { IfOk result (λ found. found ≡ hits self.now.state new.now) }
     {
         let id = &new.id;
@@ -171,14 +175,26 @@ impl IndexedState {
             return Ok(false);
         }
         let others = self.sources(id.kind, &id.name)?;
-        self.any_hit(new, &others)
+        let alloc = self.store.allocator();
+        let before = reach_in(alloc, old)?;
+        let after = Reach::of(alloc, new)?;
+        self.any_hit(new, &before, &after, &others)
     }
 
-    fn any_hit(&self, new: &Object, others: &[Shared]) -> Result<bool, NoMemory>
+    fn any_hit(
+        &self,
+        new: &Object,
+        before: &Reach,
+        after: &Reach,
+        others: &[Shared],
+    ) -> Result<bool, NoMemory>
+        requires propagated { is_propagated (mode_of self.now.state new.now.id.kind) ≡ true }
+        requires before { IsReachOf before.now (object_at self.now.state.objects new.now.id) }
+        requires after { IsReachOf after.now (Some new.now) }
         ensures { IfOk result (λ found. found ≡ list_any (λ y. is_hit self.now.state new.now y.id.ns) others.now) }
     {
         for other in others {
-            if self.is_hit(new, &other.object().id.ns)? {
+            if self.is_hit(new, before, after, &other.object().id.ns)? {
                 return Ok(true);
             }
         }
@@ -186,18 +202,89 @@ impl IndexedState {
     }
 
     /// Whether a source that is written goes to a namespace below its own that takes part, and none went there before.
-    fn is_hit(&self, new: &Object, ns: &Text) -> Result<bool, NoMemory>
+    fn is_hit(
+        &self,
+        new: &Object,
+        before: &Reach,
+        after: &Reach,
+        ns: &Text,
+    ) -> Result<bool, NoMemory>
+        requires propagated { is_propagated (mode_of self.now.state new.now.id.kind) ≡ true }
+        requires before { IsReachOf before.now (object_at self.now.state.objects new.now.id) }
+        requires after { IsReachOf after.now (Some new.now) }
         ensures { IfOk result (λ found. found ≡ is_hit self.now.state new.now ns.now) }
     {
         let id = &new.id;
         if ns.as_str() == id.ns.as_str() || !self.is_below(ns, &id.ns) || !self.is_open(ns) {
             return Ok(false);
         }
-        if !self.goes_at(self.mode(id.kind), new, ns)? {
+        if !self.has_at(after, ns)? {
             return Ok(false);
         }
-        let is_reached = self.is_reached(ns, id.kind, &id.name)?;
+        if self.has_at(before, ns)? {
+            return Ok(false);
+        }
+        let is_reached = self.is_reached_beside(&id.ns, ns, id.kind, &id.name)?;
         Ok(!is_reached)
+    }
+
+    /// Whether a reach has the labels that the place of a namespace prescribes. They are made only where they count.
+    fn has_at(&self, reach: &Reach, ns: &Text) -> Result<bool, NoMemory>
+        ensures { IfOk result (λ has. has ≡ reaches reach.now (labels_at self.now.state ns.now)) }
+    {
+        if reach.looks_at_labels() {
+            return Ok(reach.has(&self.labels_at(ns)?));
+        }
+        Ok(reach.has(&Pairs::new(self.store.allocator())))
+    }
+
+    /// Whether a source from above, beside the one in a namespace, goes to the place of a kind and a name that is propagated.
+    fn is_reached_beside(
+        &self,
+        home: &Text,
+        ns: &Text,
+        kind: Kind,
+        name: &Text,
+    ) -> Result<bool, NoMemory>
+        ensures { IfOk result (λ reached. reached ≡ list_any (goes_beside self.now.state home.now ns.now kind name.now) (tail_of (chain_of (forest_of self.now.state) ns.now))) }
+    {
+        let mut above = self.forest.ancestors(ns);
+        let _itself = above.next();
+        self.any_beside(above, home, ns, kind, name)
+    }
+
+    fn any_beside(
+        &self,
+        above: Ancestors,
+        home: &Text,
+        ns: &Text,
+        kind: Kind,
+        name: &Text,
+    ) -> Result<bool, NoMemory>
+        ensures { IfOk result (λ goes. goes ≡ list_any (goes_beside self.now.state home.now ns.now kind name.now) above.entry) }
+    {
+        for ancestor in above {
+            if self.goes_beside(ancestor, home, ns, kind, name)? {
+                return Ok(true);
+            }
+        }
+        Ok(false)
+    }
+
+    fn goes_beside(
+        &self,
+        ancestor: &Text,
+        home: &Text,
+        ns: &Text,
+        kind: Kind,
+        name: &Text,
+    ) -> Result<bool, NoMemory>
+        ensures { IfOk result (λ goes. goes ≡ goes_beside self.now.state home.now ns.now kind name.now ancestor.now) }
+    {
+        if ancestor.as_str() == home.as_str() {
+            return Ok(false);
+        }
+        self.goes_down(ancestor, Mode::Propagate, ns, kind, name)
     }
 
     /// The sources of a kind and a name, in ascending order of identities.
@@ -325,6 +412,16 @@ fn is_source_in(found: Option<&Object>) -> bool
     match found {
         Some(object) => is_source(object),
         None => false,
+    }
+}
+
+/// The reach of what is found, which goes nowhere where nothing is.
+fn reach_in(alloc: Global, found: Option<&Object>) -> Result<Reach, NoMemory>
+    ensures { IfOk result (λ reach. IsReachOf reach (option_copied found.entry)) }
+{
+    match found {
+        Some(object) => Reach::of(alloc, object),
+        None => Ok(Reach::Nowhere),
     }
 }
 

@@ -1,6 +1,7 @@
-use Rattle.std.proofs.Common.{◌∙◌, sym, ap, not}
+use Rattle.std.proofs.Common.{◌∙◌, refl, sym, ap, not, true, false}
 use Rattle.std.specs.Str.{bytes_eq}
-use Rattle.hx_admit.proofs.Conflicting.{hit_itself, hit_beside, hit_closed, hit_missed, hit_anew}
+use Rattle.hx_model.specs.Modes.{mode_of}
+use Rattle.hx_admit.proofs.Conflicting.{hit_itself, hit_beside, hit_closed, hit_missed, hit_anew, read_goes, hit_before, reached_beside}
 use Rattle.hx_admit.proofs.indexed_state.IndexedState.is_hit.Goals as goal
 use Rattle.hx_admit.proofs.indexed_state.IndexedState.is_hit.Goals.{then-eq-via-then-eq, then-eq-via-else-eq+then-not-is_below, then-eq-via-else-eq+else-not-is_below+then-not-is_open}
 
@@ -12,9 +13,17 @@ returns-then-eq c = elim c.then-eq.branch [
 ]
 
 pub returns-then-not-branch : goal.returns-then-not-branch
-returns-then-not-branch c = hit_missed c.args.self.now.state c.args.new.now c.args.ns.now c.mode.result c.mode.ensures (sym c.in_ok-goes_at.ensures ∙ c.if-not-branch.true)
+returns-then-not-branch c =
+    hit_missed c.args.self.now.state c.args.new.now c.args.ns.now (mode_of c.args.self.now.state c.args.new.now.id.kind) refl
+    (read_goes c.args.self.now.state c.args.new.now c.args.ns.now c.args.after.now false c.requires.after c.requires.propagated (sym c.in_ok-has_at.ensures ∙ c.if-not-branch.true))
+
+pub returns-then-branch : goal.returns-then-branch
+returns-then-branch c =
+    hit_before c.args.self.now.state c.args.new.now c.args.ns.now c.args.before.now c.requires.before c.requires.propagated ((λ i. bytes_eq ((sym c.as_str.ensures.value) i) ((sym c.as_str-2.ensures.value) i)) ∙ sym c.eq.ensures ∙ c.if-eq.false) (sym c.is_below.ensures ∙ c.if-not-is_below.false)
+    (sym c.in_ok-has_at-2.ensures ∙ c.if-branch.true)
 
 pub returns : goal.returns
 returns c =
-    ap not c.in_ok-is_reached.ensures
-    ∙ hit_anew c.args.self.now.state c.args.new.now c.args.ns.now c.mode.result ((λ i. bytes_eq ((sym c.as_str.ensures.value) i) ((sym c.as_str-2.ensures.value) i)) ∙ sym c.eq.ensures ∙ c.if-eq.false) (sym c.is_below.ensures ∙ c.if-not-is_below.false) (sym c.is_open.ensures.«open» ∙ c.if-not-is_open.false) c.mode.ensures (sym c.in_ok-goes_at.ensures ∙ c.if-not-branch.false)
+    ap not (c.in_ok-is_reached.ensures ∙ reached_beside c.args.self.now.state c.args.new.now c.args.ns.now c.args.before.now c.requires.before c.requires.propagated (sym c.in_ok-has_at-2.ensures ∙ c.if-branch.false))
+    ∙ hit_anew c.args.self.now.state c.args.new.now c.args.ns.now (mode_of c.args.self.now.state c.args.new.now.id.kind) ((λ i. bytes_eq ((sym c.as_str.ensures.value) i) ((sym c.as_str-2.ensures.value) i)) ∙ sym c.eq.ensures ∙ c.if-eq.false) (sym c.is_below.ensures ∙ c.if-not-is_below.false) (sym c.is_open.ensures.«open» ∙ c.if-not-is_open.false) refl
+    (read_goes c.args.self.now.state c.args.new.now c.args.ns.now c.args.after.now true c.requires.after c.requires.propagated (sym c.in_ok-has_at.ensures ∙ c.if-not-branch.false))
