@@ -2,6 +2,7 @@ pub mod Batching
 pub mod Storing
 pub mod Behind
 pub mod Loading
+pub mod Damaging
 pub mod Laws
 pub mod Holding
 pub mod Covering

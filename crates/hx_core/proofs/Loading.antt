@@ -1,13 +1,14 @@
 -- What the rows that were taken say of the state, row by row.
---     takeable            the object that a row was read as may be taken, or none may
---     untakeable          a row that was read as none may not
+--     takeable            the object that a row was read as may be taken, or its namespace isn't there
+--     untakeable          a row that was read as none is no object's
+--     hindered            what hinders a row lets nobody take it
 --     is_new              an object whose key lies behind those of all others is not there yet
 --     loaded_next         the row behind the last one was taken
---     damaged_missing, damaged_unsound      it is missing, or can't be taken
+--     damaged_none, damaged_some            it is missing, or can't be taken
 --     not_one_more        no row lies behind as many as there are
 --     holds_loaded, undamaged_loaded        what a keeper holds once all were taken
-use Rattle.std.proofs.Common.{◌≡◌, ◌≤◌, ◌<◌, ◌+◌, ℕ, suc, Bool, true, false, cond, not, ◌||◌, ◌==◌, nat_lt, List, [], ◌∷◌, ◌++◌, map, length, Option, Some, None, IfSome, is_some, Ordering, Less, Equal, Greater, refl, sym, ap, subst, ◌∙◌, arith, true≢false, eqb-true, length-append, append-nil, codes}
-use Rattle.std.specs.Prelude.{filter, option_map, option_and_then, IfNone, IfErr, IsErrAnd, IsUtf8, if◌then◌else◌, take, drop, find as find_first}
+use Rattle.std.proofs.Common.{◌≡◌, ◌≤◌, ◌<◌, ◌+◌, ℕ, suc, Bool, true, false, cond, not, ◌||◌, ◌==◌, nat_lt, List, [], ◌∷◌, ◌++◌, map, length, Option, Some, None, IfSome, is_some, Ordering, Less, Equal, Greater, refl, sym, ap, subst, ◌∙◌, arith, inl, inr, true≢false, eqb-true, length-append, append-nil, codes}
+use Rattle.std.specs.Prelude.{filter, option_map, option_and_then, IfOk, IfErr, IsErrAnd, IsUtf8, if◌then◌else◌, take, drop, find as find_first}
 use Rattle.std.specs.List.{AllByRecursion}
 use Rattle.std.specs.declared.result.Result.{Result}
 use Rattle.std.specs.declared.result.Result.TheVariants.{Ok, Err}
@@ -39,11 +40,15 @@ use Rattle.hx_model.proofs.Legality.{keyed_legal}
 use Rattle.hx_model.proofs.Objects.{found_id, ascends-put}
 use Rattle.hx_model.proofs.Storing.{All-put, All-found, HasNoSlash, IsKeyed, key_text-injective, rows_of_objects-put, stored_contains, same_bytes}
 use Rattle.hx_model.proofs.Writes.{key_apart}
-use Rattle.hx_core.specs.Loading.{Asked, HasRowBehind, IsTakeable, Takes, IsUntakeable, IsBehindAll, IsFront, IsLoaded}
+use Rattle.hx_core.specs.Loading.{Asked, HasRowBehind, IsTakeable, Takes, IsUntakeable, IsFlaw, Hinders, IfUntaken, IsBehindAll, IsFront, IsLoaded}
 use Rattle.hx_core.specs.Refinement.{kept_of}
+use Rattle.hx_core.specs.declared.damage.Damage.{Damage}
+use Rattle.hx_core.specs.declared.damage.Damage.TheVariants as damage
 use Rattle.hx_core.specs.declared.start.StartFault.{StartFault}
-use Rattle.hx_core.specs.declared.start.StartFault.TheVariants.{KeeperFault, Damaged, NoMemory}
-use Rattle.hx_core.specs.Starting.{IfDamaged, has_home_row, IsSoundRow, IsUndamaged, rows_behind, given_rows, IsUnsoundNext, IsDamagedAt}
+use Rattle.hx_core.specs.declared.start.StartFault.TheVariants.{KeeperFault}
+use Rattle.hx_core.specs.declared.start.Untaken.{Untaken}
+use Rattle.hx_core.specs.declared.start.Untaken.TheVariants as untaken
+use Rattle.hx_core.specs.Starting.{has_home_row, IsSoundRow, IsUndamaged, rows_behind, given_rows, IsUnsoundNext, IsDamagedAt}
 use Rattle.hx_core.proofs.Behind.{is_behind, less_of, found_passes, none_behind, filter_at_most, filter_whole, next_behind, is_some-front, is_some-split, is_some-filter, not_found}
 use Rattle.hx_core.proofs.Storing.{stored_keyed}
 
@@ -59,10 +64,10 @@ stored_read last version key body x is given known =
     let same : x.version ≡ version = ap (λ (e : Entry). e.1.0) is.is in
     record { served = is.served; given = omega (arith, same, given); known = omega (arith, same, known) }
 
--- the object that a row was read as may be taken where its namespace is there, and else none may
-pub takeable : (s : State) (row : Row) (key body : List ℕ) (x : Object) (o : Option Object) → key ≡ row.key → body ≡ row.body → IsRowOf key row.version body x → 1 ≤ row.version → row.version ≤ s.last → o ≡ (if has_home s.objects x.id then Some x else None)
-    → IfSome o (IsTakeable s row) × IfNone o ((y : Object) → IsTakeable s row y → ⊥)
-takeable s row key body x o same_key same_body is_of given known says = by (has_home s.objects x.id) refl
+-- the object that a row was read as may be taken where its namespace is there, and else that is the flaw
+pub takeable : (s : State) (row : Row) (key body : List ℕ) (x : Object) (r : Result Object Untaken) → key ≡ row.key → body ≡ row.body → IsRowOf key row.version body x → 1 ≤ row.version → row.version ≤ s.last → r ≡ (if has_home s.objects x.id then Ok x else Err (untaken.Damaged damage.NoNamespace))
+    → IfOk r (IsTakeable s row) × IfErr r (λ fault. IfUntaken fault (IsFlaw s row))
+takeable s row key body x r same_key same_body is_of given known says = by (has_home s.objects x.id) refl
   where
     is : IsRowOf row.key row.version row.body x
     is = subst (λ b. IsRowOf row.key row.version b x) same_body (subst (λ k. IsRowOf k row.version body x) same_key is_of)
@@ -70,19 +75,34 @@ takeable s row key body x o same_key same_body is_of given known says = by (has_
     stored : IsStored s.last x
     stored = stored_read s.last row.version row.key row.body x is given known
 
-    by : (b : Bool) → has_home s.objects x.id ≡ b → IfSome o (IsTakeable s row) × IfNone o ((y : Object) → IsTakeable s row y → ⊥)
+    by : (b : Bool) → has_home s.objects x.id ≡ b → IfOk r (IsTakeable s row) × IfErr r (λ fault. IfUntaken fault (IsFlaw s row))
     by true home =
-        let some : o ≡ Some x = says ∙ ap (λ b. if b then Some x else None) home in
-        subst (λ p. IfSome p (IsTakeable s row) × IfNone p ((y : Object) → IsTakeable s row y → ⊥)) (sym some) (record { stored = stored; entry = is.is; home = home }, tt)
+        let found : r ≡ Ok x = says ∙ ap (λ b. if b then Ok x else Err (untaken.Damaged damage.NoNamespace)) home in
+        subst (λ (p : Result Object Untaken). IfOk p (IsTakeable s row) × IfErr p (λ fault. IfUntaken fault (IsFlaw s row))) (sym found) (record { stored = stored; entry = is.is; home = home }, tt)
     by false home =
-        let none : o ≡ None = says ∙ ap (λ b. if b then Some x else None) home in
-        let nobody : (y : Object) → IsTakeable s row y → ⊥ = λ y takes. true≢false (sym takes.home ∙ ap (λ (q : Id). has_home s.objects q) (same_row_id s row x y takes stored is.is) ∙ home) in
-        subst (λ p. IfSome p (IsTakeable s row) × IfNone p ((y : Object) → IsTakeable s row y → ⊥)) (sym none) (tt, nobody)
+        let lost : r ≡ Err (untaken.Damaged damage.NoNamespace) = says ∙ ap (λ b. if b then Ok x else Err (untaken.Damaged damage.NoNamespace)) home in
+        subst (λ (p : Result Object Untaken). IfOk p (IsTakeable s row) × IfErr p (λ fault. IfUntaken fault (IsFlaw s row))) (sym lost) (tt, (x, stored, is.is, home))
 
--- a row that was read as no object is none that may be taken
-pub untakeable : (s : State) (row : Row) (key body : List ℕ) → key ≡ row.key → body ≡ row.body → IsUtf8 row.body → HasNoObject key row.version body → (y : Object) → IsTakeable s row y → ⊥
-untakeable s row key body same_key same_body text none y takes =
-    none y (record { served = takes.stored.served; text = subst IsUtf8 (sym same_body) text; is = takes.entry ∙ (λ i. (sym same_key i, (row.version, sym same_body i))) })
+-- a row that was read as none is no object's
+pub untakeable : (s : State) (row : Row) (key body : List ℕ) → key ≡ row.key → body ≡ row.body → IsUtf8 row.body → 1 ≤ row.version → row.version ≤ s.last → HasNoObject key row.version body → IsFlaw s row damage.NoObject
+untakeable s row key body same_key same_body text given known none = (
+  given,
+  known,
+  λ y stored entry. none y (record { served = stored.served; text = subst IsUtf8 (sym same_body) text; is = entry ∙ (λ i. (sym same_key i, (row.version, sym same_body i))) }),
+)
+
+-- what hinders a row lets the state take no object of it
+pub hindered : (s : State) (key : List ℕ) (row : Row) (d : Damage) → Hinders s key row d → IsUntakeable s key row
+hindered s key row damage.KeyOrder out = λ behind x takes. true≢false (sym behind ∙ out)
+hindered s key row damage.RowVersion out = λ behind x takes.
+    let same : x.version ≡ row.version = ap (λ (e : Entry). e.1.0) takes.entry in
+    elim out [
+      | inl none ↦ let given : 1 ≤ x.version = takes.stored.given in omega (arith, same, none, given)
+      | inr past ↦ let known : x.version ≤ s.last = takes.stored.known in omega (arith, same, past, known)
+    ]
+hindered s key row damage.NoObject out = λ behind x takes. out.2 x takes.stored takes.entry
+hindered s key row damage.NoNamespace out = λ behind y takes. true≢false (sym takes.home ∙ ap (λ (q : Id). has_home s.objects q) (same_row_id s row out.0 y takes out.1 out.2) ∙ out.3)
+hindered s key row _ out = absurd out
 
 -- an object whose key lies behind those of all others is not there yet
 pub is_new : (key : List ℕ) (x : Object) (objects : Objects) → IsBehindAll key objects → is_lt (bytes_cmp key (key_text x.id)) ≡ true → object_at objects x.id ≡ None
@@ -101,13 +121,26 @@ behind_from key next b says is = by (bytes_cmp key next) (sym says ∙ is)
     by Equal e = absurd (true≢false e)
     by Greater e = absurd (true≢false e)
 
-pub not_behind : (key next : List ℕ) (b : Bool) → b ≡ is_ge (bytes_cmp key next) → b ≡ true → is_lt (bytes_cmp key next) ≡ true → ⊥
-not_behind key next b says is behind = by (bytes_cmp key next) (sym says ∙ is) behind
+pub ahead_from : (key next : List ℕ) (b : Bool) → b ≡ is_ge (bytes_cmp key next) → b ≡ true → is_lt (bytes_cmp key next) ≡ false
+ahead_from key next b says is = by (bytes_cmp key next) (sym says ∙ is)
   where
-    by : (r : Ordering) → is_ge r ≡ true → is_lt r ≡ true → ⊥
-    by Less e f = true≢false (sym e)
-    by Equal e f = true≢false (sym f)
-    by Greater e f = true≢false (sym f)
+    by : (r : Ordering) → is_ge r ≡ true → is_lt r ≡ false
+    by Less e = absurd (true≢false (sym e))
+    by Equal e = refl
+    by Greater e = refl
+
+-- a flaw hinders a row, whatever key it is to lie behind
+pub hindered_on : {T : Type 0} (r : Result T Untaken) (error : Untaken) (s : State) (key : List ℕ) (row : Row) → IsErrAnd r (λ found. found ≡ error) → IfUntaken error (IsFlaw s row) → IfErr r (λ fault. IfUntaken fault (Hinders s key row))
+hindered_on (Ok x) error s key row is flaw = tt
+hindered_on (Err found) error s key row is flaw = subst (λ fault. IfUntaken fault (Hinders s key row)) (sym is) (by error flaw)
+  where
+    hinders : (d : Damage) → IsFlaw s row d → Hinders s key row d
+    hinders damage.KeyOrder flaw = absurd flaw
+    hinders _ flaw = flaw
+
+    by : (fault : Untaken) → IfUntaken fault (IsFlaw s row) → IfUntaken fault (Hinders s key row)
+    by (untaken.Damaged d) flaw = hinders d flaw
+    by untaken.NoMemory flaw = tt
 
 -- ---- namespaces
 
@@ -187,7 +220,7 @@ module _ (held : Kept) (s : State) (key : List ℕ) (count : ℕ) (front : IsFro
   -- ---- the next row
 
   module _ (e : Entry) (next : find_first (is_behind key) (entries held.rows) ≡ Some e) where
-    rest_is : rows_behind key held ≡ e ∷ rows_behind e.0 held
+    pub rest_is : rows_behind key held ≡ e ∷ rows_behind e.0 held
     rest_is = next_behind key (entries held.rows) e (entries_sorted held.rows) next
 
     -- it is none of those that were taken
@@ -231,7 +264,7 @@ module _ (held : Kept) (s : State) (key : List ℕ) (count : ℕ) (front : IsFro
         all_more P (x ∷ xs) y all p = (all.0, all_more P xs y all.1 p)
 
     -- nobody may take it: then it isn't sound
-    unsound_next : IsUntakeable s key (row_of_entry e) → IsSoundRow held e → ⊥
+    pub unsound_next : IsUntakeable s key (row_of_entry e) → IsSoundRow held e → ⊥
     unsound_next untaken sound =
         let x = sound.object in
         untaken (found_passes (is_behind key) (entries held.rows) e next) x (record { stored = subst (λ last. IsStored last x) (sym front.version) sound.stored; entry = sound.row; home = home sound })
@@ -257,17 +290,21 @@ module _ (held : Kept) (s : State) (key : List ℕ) (count : ℕ) (front : IsFro
 
   -- ---- damage
 
+  -- the rows behind as many as were taken
+  pub left_is : drop count (given_rows held) ≡ rows_behind key held
+  left_is = ap (drop count) front.splits ∙ ap (λ n. drop n (front.taken ++ rows_behind key held)) (sym front.counts) ∙ drop-append_seam front.taken (rows_behind key held)
+
   damaged_next : count < finite.len held.rows → IsUnsoundNext held (rows_behind key held) → IsDamagedAt held (count + 1)
   damaged_next within next =
       let more : suc count ≡ count + 1 = omega arith in
-      let drops : drop count (given_rows held) ≡ rows_behind key held = ap (drop count) front.splits ∙ ap (λ n. drop n (front.taken ++ rows_behind key held)) (sym front.counts) ∙ drop-append_seam front.taken (rows_behind key held) in
+      let drops = left_is in
       let takes : take count (given_rows held) ≡ front.taken = ap (take count) front.splits ∙ ap (λ n. take n (front.taken ++ rows_behind key held)) (sym front.counts) ∙ take-append_seam front.taken (rows_behind key held) in
       subst (IsDamagedAt held) more (front.fits, record { within = within; sound = subst (AllByRecursion (IsSoundRow held)) (sym takes) front.sound; next = subst (IsUnsoundNext held) (sym drops) next })
 
-  damaged_none : count < finite.len held.rows → find_first (is_behind key) (entries held.rows) ≡ None → IsDamagedAt held (count + 1)
+  pub damaged_none : count < finite.len held.rows → find_first (is_behind key) (entries held.rows) ≡ None → IsDamagedAt held (count + 1)
   damaged_none within none = damaged_next within (subst (IsUnsoundNext held) (sym (none_behind (is_behind key) (entries held.rows) none)) tt)
 
-  damaged_some : count < finite.len held.rows → (e : Entry) → find_first (is_behind key) (entries held.rows) ≡ Some e → IsUntakeable s key (row_of_entry e) → IsDamagedAt held (count + 1)
+  pub damaged_some : count < finite.len held.rows → (e : Entry) → find_first (is_behind key) (entries held.rows) ≡ Some e → IsUntakeable s key (row_of_entry e) → IsDamagedAt held (count + 1)
   damaged_some within e next untaken = damaged_next within (subst (IsUnsoundNext held) (sym (rest_is e next)) (unsound_next e next untaken))
 
   -- ---- the end
@@ -309,7 +346,7 @@ module _ (held : Kept) (s : State) (key : List ℕ) (count : ℕ) (front : IsFro
 -- ---- whatever the keeper tells
 
 -- the row that a keeper gives behind a key, where it gives one
-by_next : (kept : Option Kept) (key : List ℕ) (row : Row) (P : Kept → Type 0) → IfSome kept (λ held. Some row ≡ row_after key held) → ((held : Kept) (e : Entry) → find_first (is_behind key) (entries held.rows) ≡ Some e → row ≡ row_of_entry e → P held) → IfSome kept P
+pub by_next : (kept : Option Kept) (key : List ℕ) (row : Row) (P : Kept → Type 0) → IfSome kept (λ held. Some row ≡ row_after key held) → ((held : Kept) (e : Entry) → find_first (is_behind key) (entries held.rows) ≡ Some e → row ≡ row_of_entry e → P held) → IfSome kept P
 by_next None key row P gives step = tt
 by_next (Some held) key row P gives step = by (find_first (is_behind key) (entries held.rows)) refl gives
   where
@@ -349,25 +386,6 @@ loaded_next s t kept key row count loaded gives text takes =
     both_told (Some held) front g = by_next (Some held) key row (λ h. IsFront h s key count → IsFront h t row.key (count + 1)) g (λ h e next same was.
         subst (λ k. IsFront h t k (count + 1)) (sym (ap (λ (r : Row). r.key) same)) (front_next h s key count was loaded.valid e next t loaded.last (subst (λ r. Takes s key r t) same takes))) front
 
--- what is damaged, where a keeper of so many rows tells them
-by_none : (kept : Option Kept) (s : State) (key : List ℕ) (count : ℕ) → IsLoaded s kept key count → IfSome kept (λ held. None ≡ row_after key held) → IfSome kept (λ held. count < finite.len held.rows) → IfSome kept (λ held. IsDamagedAt held (count + 1))
-by_none None s key count loaded gives within = tt
-by_none (Some held) s key count loaded gives within = by (find_first (is_behind key) (entries held.rows)) refl gives
-  where
-    by : (o : Option Entry) → find_first (is_behind key) (entries held.rows) ≡ o → None ≡ option_map row_of_entry o → IsDamagedAt held (count + 1)
-    by None is none = damaged_none held s key count loaded.front loaded.valid within is
-    by (Some e) is none = absurd (let h : None ≡ Some (row_of_entry e) = none in cc)
-
--- the row is missing
-pub damaged_missing : (kept : Option Kept) (s : State) (key : List ℕ) (count : ℕ) (found : Option Row) → IsLoaded s kept key count → IfSome kept (λ held. found ≡ row_after key held) → IfSome kept (λ held. count < finite.len held.rows) → found ≡ None → IfSome kept (λ held. IsDamagedAt held (count + 1))
-damaged_missing kept s key count found loaded gives within none = by_none kept s key count loaded (subst (λ o. IfSome kept (λ held. o ≡ row_after key held)) none gives) within
-
--- the row can't be taken
-pub damaged_unsound : (kept : Option Kept) (s : State) (key : List ℕ) (count : ℕ) (row : Row) → IsLoaded s kept key count → IfSome kept (λ held. Some row ≡ row_after key held) → IfSome kept (λ held. count < finite.len held.rows) → IsUntakeable s key row → IfSome kept (λ held. IsDamagedAt held (count + 1))
-damaged_unsound None s key count row loaded gives within untaken = tt
-damaged_unsound (Some held) s key count row loaded gives within untaken = by_next (Some held) key row (λ h. IsFront h s key count → count < finite.len h.rows → IsDamagedAt h (count + 1)) gives (λ h e next same front more.
-    damaged_some h s key count front loaded.valid more e next (subst (IsUntakeable s key) same untaken)) loaded.front within
-
 -- no row lies behind as many as there are
 pub not_one_more : (kept : Option Kept) (s : State) (key : List ℕ) (count : ℕ) (P : Kept → Type 0) → IsLoaded s kept key count → IfSome kept (λ held. count ≡ finite.len held.rows) → IfSome kept (HasRowBehind key) → IfSome kept P
 not_one_more None s key count P loaded full more = tt
@@ -395,22 +413,6 @@ undamaged_loaded (Some held) s key count loaded full = undamaged_all held s key 
 pub none_if : {A : Type 0} (o : Option A) → ((x : A) → o ≡ Some x → ⊥) → o ≡ None
 none_if None never = refl
 none_if (Some x) never = absurd (never x refl)
-
--- no start ends because a row is one too many, where the keeper tells its rows
-pub never_more : {T : Type 0} (r : Result T StartFault) (error : StartFault) (kept now : Option Kept) (s : State) (key : List ℕ) (count : ℕ) → IsErrAnd r (λ found. found ≡ error) → now ≡ kept → IfDamaged error (λ row. IfSome now (HasRowBehind key))
-    → IsLoaded s kept key count → IfSome kept (λ held. count ≡ finite.len held.rows) → IfErr r (λ fault. IfDamaged fault (λ row. IfSome kept (λ held. IsDamagedAt held row)))
-never_more (Ok x) error kept now s key count is same more loaded full = tt
-never_more (Err found) error kept now s key count is same more loaded full = subst (λ fault. IfDamaged fault (λ row. IfSome kept (λ held. IsDamagedAt held row))) (sym is) (by error (subst (λ k. IfDamaged error (λ row. IfSome k (HasRowBehind key))) same more))
-  where
-    by : (fault : StartFault) → IfDamaged fault (λ row. IfSome kept (HasRowBehind key)) → IfDamaged fault (λ row. IfSome kept (λ held. IsDamagedAt held row))
-    by KeeperFault given = tt
-    by (Damaged row) given = not_one_more kept s key count (λ held. IsDamagedAt held row) loaded full given
-    by NoMemory given = tt
-
--- what is damaged in what a keeper held before calls that succeeded, by the fault of the last one
-pub damaged_on : {T : Type 0} (r : Result T StartFault) (error : StartFault) (kept now : Option Kept) → IsErrAnd r (λ found. found ≡ error) → now ≡ kept → IfDamaged error (λ row. IfSome now (λ held. IsDamagedAt held row)) → IfErr r (λ fault. IfDamaged fault (λ row. IfSome kept (λ held. IsDamagedAt held row)))
-damaged_on (Ok x) error kept now is same damaged = tt
-damaged_on (Err found) error kept now is same damaged = subst (λ fault. IfDamaged fault (λ row. IfSome kept (λ held. IsDamagedAt held row))) (sym is) (subst (λ k. IfDamaged error (λ row. IfSome k (λ held. IsDamagedAt held row))) same damaged)
 
 -- a keeper that holds on, and whose count stayed, shows the same
 pub same_view : (first old : KeeperView) → HoldsOn first old → old.faults ≡ first.faults → old ≡ first

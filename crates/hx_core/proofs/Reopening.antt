@@ -160,5 +160,5 @@ never_damaged kept s row valid is damaged = never_both (kept_of s) row (undamage
 
 pub intact : (kept : Option Kept) (fault : StartFault) → IfDamaged fault (λ row. IfSome kept (λ held. IsDamagedAt held row)) → IfDamaged fault (λ row. (s : State) → IsValid s → kept ≡ Some (kept_of s) → ⊥)
 intact kept KeeperFault damaged = tt
-intact kept (Damaged row) damaged = λ s valid is. never_damaged kept s row valid is damaged
+intact kept (Damaged row damage) damaged = λ s valid is. never_damaged kept s row valid is damaged
 intact kept NoMemory damaged = tt

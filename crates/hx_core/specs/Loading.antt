@@ -4,10 +4,13 @@
 --     IsTakeable s row x           the row is that of an object which the state may take
 --     Takes s key row t            the row behind a key was taken
 --     IsUntakeable s key row       it can't be
+--     IsFlaw s row damage          what keeps a state from taking the object of a row
+--     Hinders s key row damage     the same, or that the row doesn't lie behind a key
+--     IfUntaken                    a fact for what is damaged
 --     IsBehindAll key objects      no object has a key behind this one
 --     IsFront held s key count     so many rows were taken, up to this key, and the state has their objects
 --     IsLoaded s kept key count    a valid state of them, wherever the keeper tells its rows
-use Rattle.std.specs.Prelude.{◌≡◌, ◌≤◌, ℕ, true, false, List, ◌++◌, length, Option, Some, IfSome, IsErrOf, IsUtf8}
+use Rattle.std.specs.Prelude.{◌≡◌, ◌≤◌, ◌<◌, ◌⊎◌, ℕ, true, false, List, ◌++◌, length, Option, Some, IfSome, IsErrOf, IsUtf8}
 use Rattle.std.specs.List.{AllByRecursion}
 use Rattle.std.specs.Ordering.{is_lt}
 use Rattle.std.specs.FinMap as map
@@ -22,8 +25,12 @@ use Rattle.hx_ports.specs.declared.keeper.Row.{Row}
 use Rattle.hx_model.specs.State.{State, Objects, put, has_home}
 use Rattle.hx_model.specs.Texts.{key_text, stored_entry, rows_of_objects}
 use Rattle.hx_model.specs.Valid.{IsValid, IsStored}
+use Rattle.hx_core.specs.declared.damage.Damage.{Damage}
+use Rattle.hx_core.specs.declared.damage.Damage.TheVariants.{KeyOrder, RowVersion, NoObject, NoNamespace}
 use Rattle.hx_core.specs.declared.start.StartFault.{StartFault}
 use Rattle.hx_core.specs.declared.start.StartFault.TheVariants.{KeeperFault}
+use Rattle.hx_core.specs.declared.start.Untaken.{Untaken}
+use Rattle.hx_core.specs.declared.start.Untaken.TheVariants.{Damaged, NoMemory}
 use Rattle.hx_core.specs.Starting.{IsSoundRow, is_misfit, rows_behind, given_rows}
 
 -- a keeper was asked: it holds what it held, and its count rose where it failed, and stayed where it didn't
@@ -53,6 +60,23 @@ pub record Takes (s : State) (key : List ℕ) (row : Row) (t : State) : Type 0 w
 -- the row doesn't lie behind a key, or is of no object which the state may take
 abbrev pub IsUntakeable : State → List ℕ → Row → Type 0
 IsUntakeable s key row = is_lt (bytes_cmp key row.key) ≡ true → (x : Object) → IsTakeable s row x → ⊥
+
+-- its version is 0 or past the last one; no object has it; or its object's namespace isn't there
+abbrev pub IsFlaw : State → Row → Damage → Type 0
+IsFlaw s row RowVersion = (row.version ≡ 0) ⊎ (s.last < row.version)
+IsFlaw s row NoObject = (1 ≤ row.version) × (row.version ≤ s.last) × ((x : Object) → IsStored s.last x → stored_entry x ≡ entry_of row → ⊥)
+IsFlaw s row NoNamespace = (x : Object) × IsStored s.last x × (stored_entry x ≡ entry_of row) × (has_home s.objects x.id ≡ false)
+IsFlaw s row _ = ⊥
+
+-- the row doesn't lie behind a key, or has such a flaw
+abbrev pub Hinders : State → List ℕ → Row → Damage → Type 0
+Hinders s key row KeyOrder = is_lt (bytes_cmp key row.key) ≡ false
+Hinders s key row damage = IsFlaw s row damage
+
+-- a fact for what is damaged of a row that isn't taken
+abbrev pub IfUntaken : Untaken → (Damage → Type 0) → Type 0
+IfUntaken (Damaged damage) P = P damage
+IfUntaken NoMemory P = Unit {0}
 
 -- no object has a key behind this one
 abbrev pub IsBehindAll : List ℕ → Objects → Type 0

@@ -19,14 +19,14 @@ ghost use Rattle.hx_core.specs.Loading.{Asked};
 ghost use Rattle.hx_core.specs.Queued.{writes_in};
 ghost use Rattle.hx_core.specs.Reaching.{IsReachOf};
 ghost use Rattle.hx_core.specs.Refinement.{Represents, HasWorld, Simulates, kept_of};
-ghost use Rattle.hx_core.specs.Starting.{IsDamagedAt, IfDamaged, IsUndamaged, IsUntouched};
+ghost use Rattle.hx_core.specs.Starting.{IsDamagedAt, IsDamageOf, key_at, IfDamage, IfDamaged, IfWhole, IsUndamaged, IsUntouched, Tells};
 
 use crate::commit::{CommitFault, write_marked};
 use crate::marking::mark_wanting;
 use crate::start::{StartFault, load_state};
 use hx_admit::{IndexedState, Reviewed};
 use hx_model::{Answer, Ask, Key, Refusal, RunConfig};
-use hx_object::NoMemory;
+use hx_object::{List, NoMemory};
 use hx_ports::Keeper;
 use hx_queue::Workers;
 use hx_store::Change;
@@ -61,6 +61,8 @@ impl<K: Keeper> Model for Cluster<K> {
 /// A keeper that no cluster was started on.
 pub struct Unstarted<K> {
     pub fault: StartFault,
+    /// The key of the damaged row, where it is there. It need not be UTF-8.
+    pub damaged_key: Option<List<u8>>,
     pub keeper: K,
 }
 
@@ -94,14 +96,22 @@ impl<K: Keeper> Cluster<K> {
         ensures failed { IfErr result (λ u. u.fault ≡ StartFault.KeeperFault → Rose (K.shown keeper).faults (K.shown u.keeper).faults) }
         ensures still { IfErr result (λ u. u.fault ≢ StartFault.KeeperFault → K.shown u.keeper ≡ K.shown keeper) }
         ensures damaged { IfErr result (λ u. IfDamaged u.fault (λ row. IfSome (K.shown keeper).kept (λ held. IsDamagedAt held row))) }
+        ensures damage { IfErr result (λ u. IfDamage u.fault (λ row damage. IfSome (K.shown keeper).kept (λ held. IsDamageOf held row damage))) }
+        ensures key { IfErr result (λ u. IfDamaged u.fault (λ row. IfSome (K.shown keeper).kept (λ held. u.damaged_key ≡ key_at held row))) }
+        ensures keyless { IfErr result (λ u. IfWhole u.fault (u.damaged_key ≡ None)) }
     {
-        match load_work(alloc, &mut keeper, config, keys) {
+        let mut damaged_key = None;
+        match load_work(alloc, &mut keeper, config, keys, &mut damaged_key) {
             Ok((state, workers)) => Ok(Cluster {
                 keeper,
                 state,
                 workers,
             }),
-            Err(fault) => Err(Unstarted { fault, keeper }),
+            Err(fault) => Err(Unstarted {
+                fault,
+                damaged_key,
+                keeper,
+            }),
         }
     }
 
@@ -129,6 +139,13 @@ impl<K: Keeper> Cluster<K> {
                 }
             }
         }
+    }
+
+    /// What is fixed for the run.
+    pub fn config(&self) -> &RunConfig
+        ensures { result.now ≡ self.now.state.config }
+    {
+        self.state.config()
     }
 
     /// Ends the cluster, and gives its keeper back.
@@ -189,20 +206,23 @@ fn load_work<K: Keeper>(
     keeper: &mut K,
     config: RunConfig,
     keys: RandomState,
+    damaged_key: &mut Option<List<u8>>,
 ) -> Result<(IndexedState, Workers), StartFault>
+    requires { damaged_key.old ≡ None }
     ensures config { IfOk result (λ p. p.0.state.config ≡ config) }
     ensures staged { IfOk result (λ p. p.0.staged ≡ []) }
     ensures valid { IfOk result (λ p. IsValid p.0.state) }
     ensures holds { IfOk result (λ p. IfSome (K.shown keeper.old).kept (λ held. held ≡ kept_of p.0.state)) }
     ensures undamaged { IfOk result (λ p. IfSome (K.shown keeper.old).kept IsUndamaged) }
-    ensures damaged { IfErr result (λ fault. IfDamaged fault (λ row. IfSome (K.shown keeper.old).kept (λ held. IsDamagedAt held row))) }
+    ensures damaged { IfErr result (λ fault. IfDamage fault (λ row damage. IfSome (K.shown keeper.old).kept (λ held. Tells held row damage damaged_key.new))) }
+    ensures keyless { IfErr result (λ fault. IfWhole fault (damaged_key.new ≡ None)) }
     ensures asked { Asked (K.shown keeper.old) (K.shown keeper.new) result }
     ensures waiting { IfOk result (λ p. (k : key_of) → is_among k p.1.seen.waiting ≡ wants p.0.state k) }
     ensures hands { IfOk result (λ p. p.1.seen.hands ≡ []) }
     ensures again { IfOk result (λ p. p.1.seen.again ≡ []) }
     ensures reach { IfOk result (λ p. IsReachOf (forest_of p.0.state) p.1.reach) }
 {
-    let state = load_state(alloc, keeper, config, keys)?;
+    let state = load_state(alloc, keeper, config, keys, damaged_key)?;
     let mut workers = Workers::new(alloc, keys);
     match mark_wanting(&state, &mut workers) {
         Ok(()) => Ok((state, workers)),

@@ -7,6 +7,7 @@
 mod briefs;
 mod cluster;
 mod commit;
+mod damage;
 mod finish;
 mod law;
 mod marking;
@@ -20,6 +21,7 @@ mod wanted;
 mod working;
 
 pub use cluster::{Cluster, Unstarted};
+pub use damage::Damage;
 pub use law::law_of_rows;
 pub use rows::SCHEMA;
 pub use settle::end_of;

@@ -1,4 +1,4 @@
-use Rattle.std.proofs.Common.{◌≡◌, []}
+use Rattle.std.proofs.Common.{◌≡◌, [], None}
 use Rattle.hx_core.specs.Loading.{IsLoaded}
 use Rattle.hx_core.proofs.start.load_rows.Given as goal
 
@@ -8,3 +8,4 @@ invariant-loop-before g l =
     × IsLoaded l.state.state (g.K.Keeper.shown l.fn.keeper).kept l.key l.before
     × (l.state.state.config ≡ l.fn.state.state.config)
     × (l.state.staged ≡ [])
+    × (l.damaged_key ≡ None)
