@@ -1,0 +1,9 @@
+pub mod Nearest
+pub mod Ordered
+pub mod Lowest
+pub mod Holding
+pub mod Senders
+pub mod Keeping
+pub mod Finding
+pub mod Auditing
+mod Rows

@@ -1,0 +1,8 @@
+pub mod Words
+pub mod Outline
+pub mod Outlined
+pub mod Trees
+pub mod Describing
+pub mod Sums
+pub mod Totals
+pub mod Inside

@@ -1,0 +1,17 @@
+//! The texts of reports: the tree of namespaces, what is told of one of them, and what is used of quotas.
+//!
+//! Each is made of a [`Survey`](hx_survey::Survey), which reads a list of stored objects, and ends each of its lines with a line feed.
+#![tactic(auto)]
+
+mod describing;
+mod laws;
+mod outline;
+mod quotas;
+mod totals;
+mod trees;
+mod words;
+
+pub use describing::describe;
+pub use laws::law_of_lines;
+pub use quotas::quota;
+pub use trees::tree;

@@ -1,0 +1,9 @@
+pub mod Runs
+pub mod Sides
+pub mod Placed
+pub mod Walked
+pub mod Climbed
+pub mod Homes
+pub mod Charged
+pub mod Least
+pub mod Rows

@@ -1,0 +1,10 @@
+use Rattle.std.proofs.Common.{◌≡◌, length, is_some}
+use Rattle.hx_survey.specs.Inside.{halt_at, walk_at}
+use Rattle.hx_survey.proofs.walks.passes_halted.Given as goal
+
+-- what is left of the walk tells what the whole one does
+abbrev pub invariant-loop-left : goal.invariant-loop-left
+invariant-loop-left l = walk_at (λ place. is_some (halt_at l.halts place)) l.left l.ups l.at ≡ walk_at (λ place. is_some (halt_at l.halts place)) (length l.ups) l.ups l.fn.first
+
+abbrev pub decreases-loop-left : goal.decreases-loop-left
+decreases-loop-left l = l.left

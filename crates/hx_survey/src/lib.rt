@@ -1,0 +1,18 @@
+//! What a list of stored objects says of its tree, found by walking the list.
+//!
+//! A [`Survey`] answers by the definitions of `hx_model` over the plain list alone, with small tables of its own that are made once. It shares no code with what a cluster keeps beside its objects, so that it can tell whether that is right.
+#![tactic(auto)]
+
+mod ancestry;
+mod building;
+mod chains;
+mod conditions;
+mod places;
+mod reading;
+mod search;
+mod survey;
+mod tree;
+mod usage;
+mod walks;
+
+pub use survey::Survey;
