@@ -6,7 +6,7 @@ ghost use Rattle.hx_sqlite.specs.Paths.{path_in};
 
 use crate::database::{AskCommit, AskMeta, AskRow};
 use crate::fault::{Refusal, SqlFault};
-use crate::place::Place;
+use crate::place::{Access, Place};
 use hx_ports::{Batch, Meta, Row};
 use std::alloc::Global;
 
@@ -36,8 +36,25 @@ pub fn load_at(
     }
 }
 
-/// Writes the batch as a whole, or rolls it back.
-pub fn commit_at(place: &mut Option<Place>, alloc: Global, batch: &Batch) -> Result<(), Refusal>
+/// Writes the batch as a whole, or rolls it back. One for a place that is only read is refused unasked.
+pub fn commit_at(
+    place: &mut Option<Place>,
+    access: Access,
+    alloc: Global,
+    batch: &Batch,
+) -> Result<(), Refusal>
+    requires { AllByRecursion IsPut batch.now.puts }
+    ensures nowhere { path_in place.old ≡ None → (fault : SqlFault) × (result ≡ Err (Refusal.Fault fault)) }
+    ensures read { access ≡ Access.Read → (result ≡ Err (Refusal.Fault SqlFault.OnlyRead)) × (place.new ≡ place.old) }
+    ensures path { path_in place.new ≡ path_in place.old }
+{
+    match access {
+        Access::Write => write_at(place, alloc, batch),
+        Access::Read => Err(Refusal::Fault(SqlFault::OnlyRead)),
+    }
+}
+
+fn write_at(place: &mut Option<Place>, alloc: Global, batch: &Batch) -> Result<(), Refusal>
     requires { AllByRecursion IsPut batch.now.puts }
     ensures nowhere { path_in place.old ≡ None → result ≡ Err (Refusal.Fault SqlFault.Unattached) }
     ensures path { path_in place.new ≡ path_in place.old }

@@ -133,6 +133,21 @@ impl<S: Alter + Drop> Database<S> {
         )
     }
 
+    /// Takes a database that has the tables. One that has none is refused, and gets none.
+    pub fn found(alloc: Global, mut connection: Connection<S>) -> Result<Box<Self>, Refusal>
+        requires { connection.in_transaction ≡ false }
+    {
+        let (reads, writes) = ready_if_made(&mut connection)?;
+        boxed(
+            alloc,
+            Database {
+                connection,
+                reads,
+                writes,
+            },
+        )
+    }
+
     /// The connection, without the statements.
     pub fn into_connection(self) -> Connection<S> {
         let Database {
@@ -227,6 +242,23 @@ fn ready<S: Alter>(connection: &mut Connection<S>) -> Result<(Reads, Writes), Re
     if is_empty(connection)? {
         make_tables(connection)?;
     }
+    prepare(connection)
+}
+
+/// Prepares the statements where there are tables.
+fn ready_if_made<S: Alter>(connection: &mut Connection<S>) -> Result<(Reads, Writes), Refusal>
+    requires { connection.old.in_transaction ≡ false }
+    ensures { connection.new.in_transaction ≡ false }
+{
+    if is_empty(connection)? {
+        return Err(Refusal::Fault(SqlFault::NoTables));
+    }
+    prepare(connection)
+}
+
+fn prepare<S: Alter>(connection: &mut Connection<S>) -> Result<(Reads, Writes), Refusal>
+    ensures { connection.old.in_transaction ≡ false → connection.new.in_transaction ≡ false }
+{
     let reads = prepare_reads(connection)?;
     let writes = prepare_writes(connection)?;
     Ok((reads, writes))

@@ -23,6 +23,8 @@ pub enum SqlFault {
     Denied,
     /// The folder of the file isn't there.
     NoFolder,
+    /// A keeper for reading was given a path at which no file is.
+    NoFile,
     /// The file can't be opened, or can't be made, for another reason.
     CannotOpen,
     /// SQLite was stopped in a transaction and left a rollback journal beside the file.
@@ -39,6 +41,10 @@ pub enum SqlFault {
     Unattached,
     /// The tables in the database aren't those of a keeper.
     OtherTables,
+    /// A keeper for reading was given a database without tables.
+    NoTables,
+    /// A keeper for reading was given a batch.
+    OnlyRead,
     /// A stored value isn't of its column's type, or is no UTF-8.
     Unreadable,
     /// A row that a commit cuts isn't there, or the row of `meta`.
@@ -75,6 +81,7 @@ impl fmt::Display for SqlFault {
             SqlFault::Denied =>
                 "the file, its log or their folder may not be read and written by this user",
             SqlFault::NoFolder => "the folder of the file is not there",
+            SqlFault::NoFile => "no file is there",
             SqlFault::CannotOpen => "the file can't be opened or made",
             SqlFault::HotJournal =>
                 "SQLite left a rollback journal beside the file: open it with sqlite3 first",
@@ -84,6 +91,8 @@ impl fmt::Display for SqlFault {
             SqlFault::Closed => "an earlier failure of the disk closed the database",
             SqlFault::Unattached => "no database is attached",
             SqlFault::OtherTables => "the tables of the database are not those of hnc",
+            SqlFault::NoTables => "the database has no tables of hnc",
+            SqlFault::OnlyRead => "the database is only read",
             SqlFault::Unreadable => "a stored value is not of its column's type, or not UTF-8",
             SqlFault::RowMissing => "a row that is to be cut, or the row of meta, is not there",
             SqlFault::Refused(error) => return write!(
@@ -105,7 +114,7 @@ pub enum Refusal {
 
 impl Refusal {
     /// What the system refuses where a file is opened or made.
-    fn of_kind(kind: ErrorKind) -> Refusal
+    pub fn of_kind(kind: ErrorKind) -> Refusal
         ensures { result ≡ refusal_of_kind kind }
     {
         match kind {

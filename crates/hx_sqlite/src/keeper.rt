@@ -7,16 +7,19 @@ ghost use Rattle.hx_ports.specs.Views.{HoldsOn};
 
 use crate::asking;
 use crate::fault::{Refusal, SqlFault};
-use crate::place::{self, Place};
+use crate::place::{self, Access, Place};
 use hx_ports::{Batch, KeepFault, Keeper, Meta, Row};
 
 /// Keeps rows in an SQLite database, and tells nothing of what it holds. `attach` opens the file at a path, which it makes where there is none, or a database in memory for the empty path.
+///
+/// A keeper for reading changes no byte of a file or its log: `attach` copies both into memory, and refuses a path at which no file is and a database without tables. It takes no batch.
 ///
 /// A call before `attach` is a fault, and so is a value that isn't of its column's type. A number below 0 is told as one over 2^63 - 1, and a database without the row of `meta` has schema 0 and version 0.
 ///
 /// A commit that finds no memory was rolled back. One that fails otherwise breaks the keeper, which says so on standard error: the rows stay as they were while it lasts, and the next `attach` finds them so, or with the whole batch.
 pub struct SqlKeeper {
     rt: HostRuntime,
+    access: Access,
     place: Option<Place>,
     broken: bool,
     faults: u64,
@@ -27,6 +30,7 @@ impl Drop for SqlKeeper {
     fn drop(self) {
         let SqlKeeper {
             rt: _,
+            access: _,
             place: _,
             broken: _,
             faults: _,
@@ -36,15 +40,34 @@ impl Drop for SqlKeeper {
 }
 
 impl SqlKeeper {
-    ghost use Rattle.hx_sqlite.specs.Shown.{place_of, why_failed};
+    ghost use Rattle.hx_sqlite.specs.Shown.{place_of, reads_only, why_failed};
 
     /// A keeper with no place yet. It takes no memory, and the runtime's files are first used by `attach`.
     pub fn new(rt: &HostRuntime) -> Self
         ensures shown { ⟦<SqlKeeper as Keeper>⟧.shown result ≡ record { place = None; kept = None; broken = false; faults = 0 } }
         ensures fault { why_failed result ≡ None }
+        ensures access { reads_only result ≡ false }
+    {
+        Self::of(rt, Access::Write)
+    }
+
+    /// The same for reading alone. Where the file has a log, what was committed to it is read too; what an `attach` may leave is an empty log where there was none.
+    pub fn for_reading(rt: &HostRuntime) -> Self
+        ensures shown { ⟦<SqlKeeper as Keeper>⟧.shown result ≡ record { place = None; kept = None; broken = false; faults = 0 } }
+        ensures fault { why_failed result ≡ None }
+        ensures access { reads_only result ≡ true }
+    {
+        Self::of(rt, Access::Read)
+    }
+
+    fn of(rt: &HostRuntime, access: Access) -> Self
+        ensures shown { ⟦<SqlKeeper as Keeper>⟧.shown result ≡ record { place = None; kept = None; broken = false; faults = 0 } }
+        ensures fault { why_failed result ≡ None }
+        ensures access { result.access ≡ access }
     {
         SqlKeeper {
             rt: *rt,
+            access,
             place: None,
             broken: false,
             faults: 0,
@@ -73,12 +96,13 @@ impl SqlKeeper {
 
     /// Closes the database. All that was committed is then in its file, and the log beside it is empty. Where that fails the log has what the file lacks, and the two belong together.
     ///
-    /// A keeper that is dropped leaves both as they are.
+    /// A keeper that is dropped leaves both as they are, and so does one for reading that is closed.
     pub fn close(self) -> Result<(), SqlFault>
         ensures { place_of self ≡ None → IsOk result }
     {
         let SqlKeeper {
             rt: _,
+            access: _,
             place,
             broken: _,
             faults: _,
@@ -135,22 +159,24 @@ impl SqlKeeper {
 
 impl Keeper for SqlKeeper {
     ghost use Rattle.hx_sqlite.specs.Paths.{path_in};
-    ghost use Rattle.hx_sqlite.specs.Seats.{are_in_file, names_a_file};
-    ghost use Rattle.hx_sqlite.specs.Shown.{place_of, why_failed};
+    ghost use Rattle.hx_sqlite.specs.Seats.{are_in_file, are_on_disk, names_a_file};
+    ghost use Rattle.hx_sqlite.specs.Shown.{place_of, reads_only, why_failed};
 
     ghost shown = { λ k. record { place = path_in (place_of k); kept = None; broken = k.broken; faults = k.faults } };
 
     fn attach(&mut self, path: &str) -> Result<(), KeepFault>
         ensures place { OnOk result ((⟦<SqlKeeper as Keeper>⟧.shown self.new).place ≡ Some path.now) }
         ensures rows { OnOk result (IfSome (place_of self.new) (λ place. are_in_file place.rows ≡ names_a_file path.now)) }
+        ensures copied { reads_only self.old ≡ true → OnOk result (IfSome (place_of self.new) (λ place. are_on_disk place.rows ≡ false)) }
         ensures nowhere { OnErr result (place_of self.new ≡ place_of self.old) }
+        ensures access { reads_only self.new ≡ reads_only self.old }
         ensures same { (⟦<SqlKeeper as Keeper>⟧.shown self.new).kept ≡ (⟦<SqlKeeper as Keeper>⟧.shown self.old).kept }
         ensures whole { (⟦<SqlKeeper as Keeper>⟧.shown self.new).broken ≡ (⟦<SqlKeeper as Keeper>⟧.shown self.old).broken }
         ensures fault { IsErrOf result KeepFault.Fault → IsSome (why_failed self.new) }
         ensures calm { ¬ IsErrOf result KeepFault.Fault → why_failed self.new ≡ why_failed self.old }
         ensures cause { KeeperCause (⟦<SqlKeeper as Keeper>⟧.shown self.old).faults (⟦<SqlKeeper as Keeper>⟧.shown self.new).faults result }
     {
-        let opened = place::open(&self.rt, path);
+        let opened = place::open(&self.rt, path, self.access);
         let place = self.answer(opened)?;
         self.place = Some(place);
         Ok(())
@@ -158,6 +184,7 @@ impl Keeper for SqlKeeper {
 
     fn meta(&mut self) -> Result<Meta, KeepFault>
         ensures same { HoldsOn (⟦<SqlKeeper as Keeper>⟧.shown self.old) (⟦<SqlKeeper as Keeper>⟧.shown self.new) }
+        ensures access { reads_only self.new ≡ reads_only self.old }
         ensures nowhere { (⟦<SqlKeeper as Keeper>⟧.shown self.old).place ≡ None → IsErrOf result KeepFault.Fault × (why_failed self.new ≡ Some SqlFault.Unattached) }
         ensures fault { IsErrOf result KeepFault.Fault → IsSome (why_failed self.new) }
         ensures calm { ¬ IsErrOf result KeepFault.Fault → why_failed self.new ≡ why_failed self.old }
@@ -170,6 +197,7 @@ impl Keeper for SqlKeeper {
     fn load(&mut self, after: &[u8]) -> Result<Option<Row>, KeepFault>
         ensures texts { IfOk result (λ row. IfSome row (λ r. IsUtf8 r.key)) }
         ensures same { HoldsOn (⟦<SqlKeeper as Keeper>⟧.shown self.old) (⟦<SqlKeeper as Keeper>⟧.shown self.new) }
+        ensures access { reads_only self.new ≡ reads_only self.old }
         ensures nowhere { (⟦<SqlKeeper as Keeper>⟧.shown self.old).place ≡ None → IsErrOf result KeepFault.Fault × (why_failed self.new ≡ Some SqlFault.Unattached) }
         ensures fault { IsErrOf result KeepFault.Fault → IsSome (why_failed self.new) }
         ensures calm { ¬ IsErrOf result KeepFault.Fault → why_failed self.new ≡ why_failed self.old }
@@ -185,6 +213,9 @@ impl Keeper for SqlKeeper {
         ensures ok { ¬ IsErrOf result KeepFault.Fault → ((⟦<SqlKeeper as Keeper>⟧.shown self.old).broken ≡ false) × ((⟦<SqlKeeper as Keeper>⟧.shown self.new).broken ≡ false) }
         ensures breaks { IsErrOf result KeepFault.Fault → (⟦<SqlKeeper as Keeper>⟧.shown self.new).broken ≡ true }
         ensures place { (⟦<SqlKeeper as Keeper>⟧.shown self.new).place ≡ (⟦<SqlKeeper as Keeper>⟧.shown self.old).place }
+        ensures read { reads_only self.old ≡ true → IsErrOf result KeepFault.Fault × (place_of self.new ≡ place_of self.old) }
+        ensures told { reads_only self.old ≡ true → (⟦<SqlKeeper as Keeper>⟧.shown self.old).broken ≡ false → why_failed self.new ≡ Some SqlFault.OnlyRead }
+        ensures access { reads_only self.new ≡ reads_only self.old }
         ensures unasked { (⟦<SqlKeeper as Keeper>⟧.shown self.old).broken ≡ true → (place_of self.new ≡ place_of self.old) × (why_failed self.new ≡ why_failed self.old) }
         ensures nowhere { (⟦<SqlKeeper as Keeper>⟧.shown self.old).place ≡ None → IsErrOf result KeepFault.Fault }
         ensures fault { IsErrOf result KeepFault.Fault → (⟦<SqlKeeper as Keeper>⟧.shown self.old).broken ≡ false → IsSome (why_failed self.new) }
@@ -194,7 +225,7 @@ impl Keeper for SqlKeeper {
         if self.broken {
             return Err(self.count_fault());
         }
-        let landed = asking::commit_at(&mut self.place, self.rt.alloc(), &batch);
+        let landed = asking::commit_at(&mut self.place, self.access, self.rt.alloc(), &batch);
         let answer = self.answer(landed);
         if answer == Err(KeepFault::Fault) {
             self.stop_writing();

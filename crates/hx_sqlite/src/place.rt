@@ -1,12 +1,16 @@
-// Where the rows are: in a file, or in memory.
-ghost use Rattle.std.specs.Prelude.{◌≡◌, false, IfOk, string_bytes};
-ghost use Rattle.hx_sqlite.specs.Seats.{are_in_file, names_a_file};
+// Where the rows are: in a file, in a copy of one, or in memory alone.
+ghost use Rattle.std.specs.Prelude.{◌≡◌, false, IfOk, IsTrue, string_bytes};
+ghost use Rattle.sqlite_disk.specs.Memory.{memory_is_usable};
+ghost use Rattle.hx_sqlite.specs.Seats.{are_in_file, are_on_disk, names_a_file};
 
 use crate::closing::close_files;
+use crate::copies::copy_files;
 use crate::database::{Ask, Database};
 use crate::fault::{Refusal, SqlFault};
-use sqlite::{Connection, File, FileStore, MemStore, Options, Unknown};
+use sqlite::{Connection, File, FileStore, Files, MemStore, Options, Unknown};
+use sqlite_disk::{Disk, Memory};
 use std::alloc::Global;
+use std::fs;
 use std::hash::{BuildHasher, RandomState};
 
 /// How many pages of 4 KiB are kept in memory, of those that were read and of those that a transaction wrote.
@@ -14,6 +18,13 @@ const PAGES: usize = 8_000;
 
 /// How many pages the log takes before it is copied into the database file.
 const LOG_PAGES: usize = 10_000;
+
+/// What is done with a place.
+#[derive(Clone, Copy)]
+pub enum Access {
+    Write,
+    Read,
+}
 
 /// A path, and the database at it.
 pub struct Place {
@@ -29,17 +40,19 @@ impl Drop for Place {
 }
 
 impl Place {
-    /// Closes the database. All rows are then in its file, and its log is empty.
+    /// Closes the database. All rows are then in its file, and its log is empty, unless they were copied from there.
     pub fn close(self) -> Result<(), SqlFault> {
         let Place { path: _, rows } = self;
         rows.close()
     }
 }
 
-/// The rows, in one of two stores.
+/// The rows, in one of three stores.
 pub enum Rows {
     Memory(Box<Database<MemStore>>),
     File(Box<Database<FileStore<File>>>),
+    /// As a file and its log had them, in copies of both.
+    Copied(Box<Database<FileStore<Memory>>>),
 }
 
 impl Drop for Rows {
@@ -47,6 +60,7 @@ impl Drop for Rows {
         match self {
             Rows::Memory(_database) => {}
             Rows::File(_database) => {}
+            Rows::Copied(_database) => {}
         }
     }
 }
@@ -61,6 +75,7 @@ impl Rows {
         match self {
             Rows::Memory(database) => ask.of(database),
             Rows::File(database) => ask.of(database),
+            Rows::Copied(database) => ask.of(database),
         }
     }
 
@@ -71,26 +86,31 @@ impl Rows {
                 close_files(Box::into_inner(database).into_connection())?;
                 Ok(())
             },
+            Rows::Copied(_database) => Ok(()),
         }
     }
 }
 
-/// Opens the file at the path, or makes it. The empty path opens a database in memory.
-pub fn open(rt: &HostRuntime, path: &str) -> Result<Place, Refusal>
-    ensures { IfOk result (λ place. string_bytes place.path ≡ path.now) }
+/// To write, opens the file at the path, or makes it. To read, copies the file that is there with its log. The empty path opens a database in memory.
+pub fn open(rt: &HostRuntime, path: &str, access: Access) -> Result<Place, Refusal>
+    ensures path { IfOk result (λ place. string_bytes place.path ≡ path.now) }
+    ensures copied { access ≡ Access.Read → IfOk result (λ place. are_on_disk place.rows ≡ false) }
 {
     let copy = String::from_str(rt.alloc(), path)?;
-    let rows = open_rows(rt, path)?;
+    let rows = open_rows(rt, path, access)?;
     Ok(Place { path: copy, rows })
 }
 
-fn open_rows(rt: &HostRuntime, path: &str) -> Result<Rows, Refusal>
-    ensures { IfOk result (λ rows. are_in_file rows ≡ names_a_file path.now) }
+fn open_rows(rt: &HostRuntime, path: &str, access: Access) -> Result<Rows, Refusal>
+    ensures seat { IfOk result (λ rows. are_in_file rows ≡ names_a_file path.now) }
+    ensures copied { access ≡ Access.Read → IfOk result (λ rows. are_on_disk rows ≡ false) }
 {
     if path.is_empty() {
-        Ok(Rows::Memory(open_memory(rt.alloc())?))
-    } else {
-        Ok(Rows::File(open_file(rt, path)?))
+        return Ok(Rows::Memory(open_memory(rt.alloc())?));
+    }
+    match access {
+        Access::Write => Ok(Rows::File(open_file(rt, path)?)),
+        Access::Read => Ok(Rows::Copied(open_copy(rt, path)?)),
     }
 }
 
@@ -100,15 +120,45 @@ fn open_memory(alloc: Global) -> Result<Box<Database<MemStore>>, Refusal> {
 }
 
 fn open_file(rt: &HostRuntime, path: &str) -> Result<Box<Database<FileStore<File>>>, Refusal> {
-    let connection = connect(rt, path)?;
+    // A torn write is supposed to leave each byte old or new, so that a commit syncs once.
+    let files = sqlite_std_file::open(rt, path, Unknown)?;
+    let connection = connect(rt, files)?;
     Database::over(rt.alloc(), connection)
 }
 
-/// A torn write is supposed to leave each byte old or new, so that a commit syncs once.
-fn connect(rt: &HostRuntime, path: &str) -> Result<Connection<FileStore<File>>, Refusal>
+fn open_copy(rt: &HostRuntime, path: &str) -> Result<Box<Database<FileStore<Memory>>>, Refusal> {
+    let copies = read_files(rt, path)?;
+    let connection = connect(rt, copies)?;
+    Database::found(rt.alloc(), connection)
+}
+
+/// Copies the file at the path and its log while no other process has them open.
+fn read_files(rt: &HostRuntime, path: &str) -> Result<Files<Memory>, Refusal>
+    ensures log { IfOk result (λ copies. IsTrue (memory_is_usable copies.log)) }
+    ensures db { IfOk result (λ copies. IsTrue (memory_is_usable copies.db)) }
+{
+    expect_file(rt, path)?;
+    let mut files = sqlite_std_file::open(rt, path, Unknown)?;
+    copy_files(rt.alloc(), &mut files)
+}
+
+/// Refuses a path at which no file is.
+fn expect_file(rt: &HostRuntime, path: &str) -> Result<(), Refusal> {
+    match fs::exists(rt, path) {
+        Ok(true) => Ok(()),
+        Ok(false) => Err(Refusal::Fault(SqlFault::NoFile)),
+        Err(error) => Err(Refusal::of_kind(error.kind())),
+    }
+}
+
+fn connect<D: Disk + Drop>(
+    rt: &HostRuntime,
+    files: Files<D>,
+) -> Result<Connection<FileStore<D>>, Refusal>
+    requires log { IsTrue (D.Disk.is_usable files.log) }
+    requires db { IsTrue (D.Disk.is_usable files.db) }
     ensures { IfOk result (λ connection. connection.in_transaction ≡ false) }
 {
-    let files = sqlite_std_file::open(rt, path, Unknown)?;
     let options = options(rt)?;
     match Connection::open_files(rt.alloc(), files, options) {
         Ok(connection) => Ok(connection),
