@@ -3,135 +3,247 @@ use Rattle.std.proofs.Common.{◌≡◌, List, Bool, true, false, [], ◌∷◌,
 use Rattle.hx_object.specs.Names.{is_dns_label}
 use Rattle.clap.proofs.OnLiterals.{clap_on_literals}
 use Rattle.clap.specs.Words.{Text}
-use Rattle.hx_words.specs.declared.RunWords.{RunWords}
-use Rattle.hx_words.specs.Words.{run_of}
+use Rattle.hx_words.specs.declared.command.Command.{Command}
+use Rattle.hx_words.specs.declared.command.Report.TheVariants.{Tree, Describe, Quota, Audit}
+use Rattle.hx_words.specs.declared.command.Task.{Task}
+use Rattle.hx_words.specs.declared.command.Task.TheVariants.{Run, Print}
+use Rattle.hx_words.specs.Words.{command_of, run_of, reading_of}
 
--- terms that are asked for
-asking : Text → List Text → Bool → Option RunWords
-asking db names allow_skip = Some (record { db = db; config = record { excluded = names; allow_skip = allow_skip } })
+-- a command that is asked for
+asking_for : Task → Text → List Text → Bool → Option Command
+asking_for task db names allow_skip = Some (record { task = task; db = db; config = record { excluded = names; allow_skip = allow_skip } })
+
+-- a run that is asked for
+asking : Text → List Text → Bool → Option Command
+asking = asking_for Run
 
 -- words that aren't taken
 refused : List Text → Type 0
-refused words = run_of words ≡ None
+refused words = command_of words ≡ None
 
-plain : run_of (codes "run" ∷ []) ≡ asking [] [] false
-unfolding run_of asking clap_on_literals
+plain : command_of (codes "run" ∷ []) ≡ asking [] [] false
+unfolding command_of asking_for asking clap_on_literals
 plain = refl
 
-skipping : run_of (codes "run" ∷ codes "--allow-skip" ∷ []) ≡ asking [] [] true
-unfolding run_of asking clap_on_literals
+skipping : command_of (codes "run" ∷ codes "--allow-skip" ∷ []) ≡ asking [] [] true
+unfolding command_of asking_for asking clap_on_literals
 skipping = refl
 
-stored : run_of (codes "run" ∷ codes "--db" ∷ codes "a b" ∷ []) ≡ asking (codes "a b") [] false
-unfolding run_of asking clap_on_literals
+stored : command_of (codes "run" ∷ codes "--db" ∷ codes "a b" ∷ []) ≡ asking (codes "a b") [] false
+unfolding command_of asking_for asking clap_on_literals
 stored = refl
 
-in_memory : run_of (codes "run" ∷ codes "--db" ∷ [] ∷ []) ≡ asking [] [] false
-unfolding run_of asking clap_on_literals
+in_memory : command_of (codes "run" ∷ codes "--db" ∷ [] ∷ []) ≡ asking [] [] false
+unfolding command_of asking_for asking clap_on_literals
 in_memory = refl
 
-excluded : run_of (codes "run" ∷ codes "--excluded-namespace" ∷ codes "a,b" ∷ []) ≡ asking [] (codes "a" ∷ codes "b" ∷ []) false
-unfolding run_of asking clap_on_literals is_dns_label
+excluded : command_of (codes "run" ∷ codes "--excluded-namespace" ∷ codes "a,b" ∷ []) ≡ asking [] (codes "a" ∷ codes "b" ∷ []) false
+unfolding command_of asking_for asking clap_on_literals is_dns_label
 excluded = refl
 
-no_names : run_of (codes "run" ∷ codes "--excluded-namespace" ∷ [] ∷ []) ≡ asking [] [] false
-unfolding run_of asking clap_on_literals
+no_names : command_of (codes "run" ∷ codes "--excluded-namespace" ∷ [] ∷ []) ≡ asking [] [] false
+unfolding command_of asking_for asking clap_on_literals
 no_names = refl
 
-all : run_of (codes "run" ∷ codes "--db" ∷ codes "a" ∷ codes "--excluded-namespace" ∷ codes "b" ∷ codes "--allow-skip" ∷ []) ≡ asking (codes "a") (codes "b" ∷ []) true
-unfolding run_of asking clap_on_literals is_dns_label
+all : command_of (codes "run" ∷ codes "--db" ∷ codes "a" ∷ codes "--excluded-namespace" ∷ codes "b" ∷ codes "--allow-skip" ∷ []) ≡ asking (codes "a") (codes "b" ∷ []) true
+unfolding command_of asking_for asking clap_on_literals is_dns_label
 all = refl
 
-other_order : run_of (codes "run" ∷ codes "--allow-skip" ∷ codes "--excluded-namespace" ∷ codes "b" ∷ codes "--db" ∷ codes "a" ∷ []) ≡ asking (codes "a") (codes "b" ∷ []) true
-unfolding run_of asking clap_on_literals is_dns_label
+other_order : command_of (codes "run" ∷ codes "--allow-skip" ∷ codes "--excluded-namespace" ∷ codes "b" ∷ codes "--db" ∷ codes "a" ∷ []) ≡ asking (codes "a") (codes "b" ∷ []) true
+unfolding command_of asking_for asking clap_on_literals is_dns_label
 other_order = refl
 
-attached : run_of (codes "run" ∷ codes "--db=-a=" ∷ codes "--excluded-namespace=b" ∷ []) ≡ asking (codes "-a=") (codes "b" ∷ []) false
-unfolding run_of asking clap_on_literals is_dns_label
+attached : command_of (codes "run" ∷ codes "--db=-a=" ∷ codes "--excluded-namespace=b" ∷ []) ≡ asking (codes "-a=") (codes "b" ∷ []) false
+unfolding command_of asking_for asking clap_on_literals is_dns_label
 attached = refl
 
-attached_empty : run_of (codes "run" ∷ codes "--db=" ∷ []) ≡ asking [] [] false
-unfolding run_of asking clap_on_literals
+attached_empty : command_of (codes "run" ∷ codes "--db=" ∷ []) ≡ asking [] [] false
+unfolding command_of asking_for asking clap_on_literals
 attached_empty = refl
 
 -- a word of two dashes says that no option follows
-dashes : run_of (codes "run" ∷ codes "--" ∷ []) ≡ asking [] [] false
-unfolding run_of asking clap_on_literals
+dashes : command_of (codes "run" ∷ codes "--" ∷ []) ≡ asking [] [] false
+unfolding command_of asking_for asking clap_on_literals
 dashes = refl
 
 db_twice : refused (codes "run" ∷ codes "--db" ∷ codes "a" ∷ codes "--db" ∷ codes "a" ∷ [])
-unfolding refused run_of clap_on_literals
+unfolding refused command_of clap_on_literals
 db_twice = refl
 
 skipping_twice : refused (codes "run" ∷ codes "--allow-skip" ∷ codes "--allow-skip" ∷ [])
-unfolding refused run_of clap_on_literals
+unfolding refused command_of clap_on_literals
 skipping_twice = refl
 
 excluded_twice : refused (codes "run" ∷ codes "--excluded-namespace" ∷ codes "a" ∷ codes "--excluded-namespace=b" ∷ [])
-unfolding refused run_of clap_on_literals is_dns_label
+unfolding refused command_of clap_on_literals is_dns_label
 excluded_twice = refl
 
 no_label : refused (codes "run" ∷ codes "--excluded-namespace" ∷ codes "A" ∷ [])
-unfolding refused run_of clap_on_literals is_dns_label
+unfolding refused command_of clap_on_literals is_dns_label
 no_label = refl
 
 empty_name : refused (codes "run" ∷ codes "--excluded-namespace" ∷ codes "a,,b" ∷ [])
-unfolding refused run_of clap_on_literals is_dns_label
+unfolding refused command_of clap_on_literals is_dns_label
 empty_name = refl
 
 no_value : refused (codes "run" ∷ codes "--db" ∷ [])
-unfolding refused run_of clap_on_literals
+unfolding refused command_of clap_on_literals
 no_value = refl
 
 -- a word that begins with a dash is no value
 option_as_value : refused (codes "run" ∷ codes "--db" ∷ codes "--allow-skip" ∷ [])
-unfolding refused run_of clap_on_literals
+unfolding refused command_of clap_on_literals
 option_as_value = refl
 
 value_of_flag : refused (codes "run" ∷ codes "--allow-skip=true" ∷ [])
-unfolding refused run_of clap_on_literals
+unfolding refused command_of clap_on_literals
 value_of_flag = refl
 
 help : refused (codes "--help" ∷ [])
-unfolding refused run_of clap_on_literals
+unfolding refused command_of clap_on_literals
 help = refl
 
 help_behind_run : refused (codes "run" ∷ codes "--help" ∷ [])
-unfolding refused run_of clap_on_literals
+unfolding refused command_of clap_on_literals
 help_behind_run = refl
 
 short_help : refused (codes "run" ∷ codes "-h" ∷ [])
-unfolding refused run_of clap_on_literals
+unfolding refused command_of clap_on_literals
 short_help = refl
 
 help_as_command : refused (codes "help" ∷ [])
-unfolding refused run_of clap_on_literals
+unfolding refused command_of clap_on_literals
 help_as_command = refl
 
 version : refused (codes "--version" ∷ [])
-unfolding refused run_of clap_on_literals
+unfolding refused command_of clap_on_literals
 version = refl
 
 no_words : refused []
-unfolding refused run_of clap_on_literals
+unfolding refused command_of clap_on_literals
 no_words = refl
 
 unknown : refused (codes "check" ∷ [])
-unfolding refused run_of clap_on_literals
+unfolding refused command_of clap_on_literals
 unknown = refl
 
 option_first : refused (codes "--allow-skip" ∷ codes "run" ∷ [])
-unfolding refused run_of clap_on_literals
+unfolding refused command_of clap_on_literals
 option_first = refl
 
 part_of_name : refused (codes "run" ∷ codes "--allow" ∷ [])
-unfolding refused run_of clap_on_literals
+unfolding refused command_of clap_on_literals
 part_of_name = refl
 
 extra : refused (codes "run" ∷ codes "extra" ∷ [])
-unfolding refused run_of clap_on_literals
+unfolding refused command_of clap_on_literals
 extra = refl
 
 run_twice : refused (codes "run" ∷ codes "run" ∷ [])
-unfolding refused run_of clap_on_literals
+unfolding refused command_of clap_on_literals
 run_twice = refl
+
+tree : command_of (codes "tree" ∷ codes "--db" ∷ codes "a" ∷ codes "--excluded-namespace" ∷ codes "b,c" ∷ []) ≡ asking_for (Print Tree) (codes "a") (codes "b" ∷ codes "c" ∷ []) false
+unfolding command_of asking_for clap_on_literals is_dns_label
+tree = refl
+
+describing : command_of (codes "describe" ∷ codes "a" ∷ []) ≡ asking_for (Print (Describe (codes "a"))) [] [] false
+unfolding command_of asking_for clap_on_literals is_dns_label
+describing = refl
+
+describing_behind_options : command_of (codes "describe" ∷ codes "--db=x" ∷ codes "--excluded-namespace" ∷ codes "b" ∷ codes "a" ∷ []) ≡ asking_for (Print (Describe (codes "a"))) (codes "x") (codes "b" ∷ []) false
+unfolding command_of asking_for clap_on_literals is_dns_label
+describing_behind_options = refl
+
+describing_before_options : command_of (codes "describe" ∷ codes "a" ∷ codes "--db" ∷ codes "x" ∷ []) ≡ asking_for (Print (Describe (codes "a"))) (codes "x") [] false
+unfolding command_of asking_for clap_on_literals is_dns_label
+describing_before_options = refl
+
+-- a namespace may have the name of a subcommand
+describing_tree : command_of (codes "describe" ∷ codes "tree" ∷ []) ≡ asking_for (Print (Describe (codes "tree"))) [] [] false
+unfolding command_of asking_for clap_on_literals is_dns_label
+describing_tree = refl
+
+describing_behind_dashes : command_of (codes "describe" ∷ codes "--" ∷ codes "a" ∷ []) ≡ asking_for (Print (Describe (codes "a"))) [] [] false
+unfolding command_of asking_for clap_on_literals is_dns_label
+describing_behind_dashes = refl
+
+quotas : command_of (codes "quota" ∷ codes "--db" ∷ codes "a" ∷ []) ≡ asking_for (Print Quota) (codes "a") [] false
+unfolding command_of asking_for clap_on_literals
+quotas = refl
+
+auditing : command_of (codes "audit" ∷ codes "--excluded-namespace=a" ∷ []) ≡ asking_for (Print Audit) [] (codes "a" ∷ []) false
+unfolding command_of asking_for clap_on_literals is_dns_label
+auditing = refl
+
+nothing_described : refused (codes "describe" ∷ [])
+unfolding refused command_of clap_on_literals
+nothing_described = refl
+
+nothing_described_behind_options : refused (codes "describe" ∷ codes "--db" ∷ codes "a" ∷ [])
+unfolding refused command_of clap_on_literals
+nothing_described_behind_options = refl
+
+two_described : refused (codes "describe" ∷ codes "a" ∷ codes "b" ∷ [])
+unfolding refused command_of clap_on_literals is_dns_label
+two_described = refl
+
+no_label_described : refused (codes "describe" ∷ codes "A" ∷ [])
+unfolding refused command_of clap_on_literals is_dns_label
+no_label_described = refl
+
+empty_described : refused (codes "describe" ∷ [] ∷ [])
+unfolding refused command_of clap_on_literals is_dns_label
+empty_described = refl
+
+dashed_described : refused (codes "describe" ∷ codes "--" ∷ codes "-a" ∷ [])
+unfolding refused command_of clap_on_literals is_dns_label
+dashed_described = refl
+
+tree_of_one : refused (codes "tree" ∷ codes "a" ∷ [])
+unfolding refused command_of clap_on_literals
+tree_of_one = refl
+
+tree_skipping : refused (codes "tree" ∷ codes "--allow-skip" ∷ [])
+unfolding refused command_of clap_on_literals
+tree_skipping = refl
+
+quotas_excluding : refused (codes "quota" ∷ codes "--excluded-namespace" ∷ codes "a" ∷ [])
+unfolding refused command_of clap_on_literals
+quotas_excluding = refl
+
+audit_twice : refused (codes "audit" ∷ codes "--db=a" ∷ codes "--db=a" ∷ [])
+unfolding refused command_of clap_on_literals
+audit_twice = refl
+
+help_behind_tree : refused (codes "tree" ∷ codes "--help" ∷ [])
+unfolding refused command_of clap_on_literals
+help_behind_tree = refl
+
+serving : refused (codes "serve" ∷ [])
+unfolding refused command_of clap_on_literals
+serving = refl
+
+making : refused (codes "gen" ∷ codes "1" ∷ codes "2" ∷ [])
+unfolding refused command_of clap_on_literals
+making = refl
+
+watched : refused (codes "run" ∷ codes "--events" ∷ [])
+unfolding refused command_of clap_on_literals
+watched = refl
+
+a_run_is_a_run : run_of (codes "run" ∷ []) ≡ asking [] [] false
+unfolding command_of asking_for asking clap_on_literals
+a_run_is_a_run = refl
+
+a_run_is_no_reading : reading_of (codes "run" ∷ []) ≡ None
+unfolding command_of clap_on_literals
+a_run_is_no_reading = refl
+
+a_tree_is_no_run : run_of (codes "tree" ∷ []) ≡ None
+unfolding command_of clap_on_literals
+a_tree_is_no_run = refl
+
+a_tree_is_a_reading : reading_of (codes "tree" ∷ []) ≡ asking_for (Print Tree) [] [] false
+unfolding command_of asking_for clap_on_literals
+a_tree_is_a_reading = refl

@@ -1,66 +1,68 @@
-// The command, as `clap` reads it.
-ghost use Rattle.std.specs.Prelude.{◌≡◌, false, map, IfOk, string_bytes};
-ghost use Rattle.clap.specs.Words.{app_of, fault_of, rule_of, subcommand_of, subcommand_rows_of, FailsBy};
-ghost use Rattle.clap.specs.declared.builder.command.Command.TheViews.{out-Command as fields_of};
-ghost use Rattle.hx_words.specs.Words as spec;
+// What the words of the command line ask for.
+ghost use Rattle.std.specs.Prelude.{◌≡◌};
+ghost use Rattle.hx_words.specs.Words.{is_reading};
 
-use clap::{Arg, ArgAction, ArgMatches, Command, Error};
-use std::alloc::{AllocError, Global};
+use hx_model::RunConfig;
+use hx_object::Text;
 
-/// The matches of the words.
-pub(crate) fn parsed<'a>(alloc: Global, words: &'a [String]) -> Result<ArgMatches<'a>, Error>
-    ensures fails { FailsBy (fault_of spec.hnc (map string_bytes words.now)) result }
-    ensures matches { IfOk result (λ matches. subcommand_rows_of matches ≡ subcommand_of spec.hnc (map string_bytes words.now)) }
-{
-    hnc(alloc)?.try_get_matches_from(words)
+/// What the words ask for.
+#[derive(Drop)]
+pub struct Command {
+    pub task: Task,
+    /// The path of the database. The empty path asks for rows in memory.
+    pub db: Text,
+    /// What is fixed for the cluster. Only `run` can allow to skip rules, and `quota` excludes no namespace.
+    pub config: RunConfig,
 }
 
-fn hnc<'a>(alloc: Global) -> Result<Command<'a>, AllocError>
-    ensures app { IfOk result (λ command. app_of command ≡ spec.hnc) }
-{
-    program(alloc).subcommand(run(alloc)?)
+impl Command {
+    /// Whether the command only reads what is stored.
+    pub fn is_reading(&self) -> bool
+        ensures { result ≡ is_reading self.now.task }
+    {
+        match &self.task {
+            Task::Run => false,
+            Task::Print(_report) => true,
+        }
+    }
 }
 
-/// The program: it has to be given a subcommand, and has no help.
-fn program<'a>(alloc: Global) -> Command<'a>
-    ensures app { app_of result ≡ spec.program }
-    ensures local { (fields_of result).has_globals ≡ false }
-{
-    Command::new(alloc, "hnc")
-        .no_binary_name(true)
-        .subcommand_required(true)
-        .disable_help_flag(true)
-        .disable_help_subcommand(true)
+/// What is to be done.
+pub enum Task {
+    /// To answer the lines of a script.
+    Run,
+    /// To print a report on what is stored.
+    Print(Report),
 }
 
-fn run<'a>(alloc: Global) -> Result<Command<'a>, AllocError>
-    ensures app { IfOk result (λ command. app_of command ≡ spec.run) }
-    ensures local { IfOk result (λ command. (fields_of command).has_globals ≡ false) }
-{
-    texts(alloc)?.arg(flag(alloc, "allow-skip"))
+impl Drop for Task {
+    fn drop(self) {
+        match self {
+            Task::Run => {}
+            Task::Print(_) => {}
+        }
+    }
 }
 
-/// `run` with the options that have a value.
-fn texts<'a>(alloc: Global) -> Result<Command<'a>, AllocError>
-    ensures app { IfOk result (λ command. app_of command ≡ spec.texts) }
-    ensures local { IfOk result (λ command. (fields_of command).has_globals ≡ false) }
-{
-    let command = Command::new(alloc, "run").arg(text_option(alloc, "db"))?;
-    command.arg(text_option(alloc, "excluded-namespace"))
+/// What is printed of the stored rows.
+pub enum Report {
+    /// The namespaces as trees.
+    Tree,
+    /// What a namespace has of its ancestors.
+    Describe(Text),
+    /// What quotas limit, and what is used of it.
+    Quota,
+    /// Whether the rows are settled.
+    Audit,
 }
 
-/// An option with a value.
-fn text_option<'a>(alloc: Global, name: &'a str) -> Arg<'a>
-    ensures rule { rule_of result ≡ spec.text_option name.entry.now }
-    ensures local { result.global ≡ false }
-{
-    Arg::new(alloc, name).long(name)
-}
-
-/// An option without a value.
-fn flag<'a>(alloc: Global, name: &'a str) -> Arg<'a>
-    ensures rule { rule_of result ≡ spec.flag name.entry.now }
-    ensures local { result.global ≡ false }
-{
-    Arg::new(alloc, name).long(name).action(ArgAction::SetTrue)
+impl Drop for Report {
+    fn drop(self) {
+        match self {
+            Report::Tree => {}
+            Report::Describe(_) => {}
+            Report::Quota => {}
+            Report::Audit => {}
+        }
+    }
 }

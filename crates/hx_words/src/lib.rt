@@ -1,33 +1,34 @@
 //! The words of the command line of `hnc`.
 //!
-//! [`read_words`] takes `run`, and behind it, in any order and each at most once, `--db PATH`, `--excluded-namespace NAMES` and `--allow-skip`.
+//! [`read_words`] takes a subcommand, and behind it, in any order and each at most once:
+//!
+//! | subcommand | takes |
+//! |---|---|
+//! | `run` | `--db PATH`, `--excluded-namespace NAMES`, `--allow-skip` |
+//! | `tree` | `--db PATH`, `--excluded-namespace NAMES` |
+//! | `describe` | `NAMESPACE`, which has to stand, `--db PATH`, `--excluded-namespace NAMES` |
+//! | `quota` | `--db PATH` |
+//! | `audit` | `--db PATH`, `--excluded-namespace NAMES` |
 #![tactic(auto)]
 
 mod command;
+mod grammar;
 mod names;
 mod untaken;
 
-ghost use Rattle.std.specs.Prelude.{◌≡◌, ◌≢◌, [], map, IfOk, IsErrOf, None, Some, string_bytes};
-ghost use Rattle.clap.specs.Words.{fault_of, found_of, rows_of, subcommand_of, subcommand_rows_of};
-ghost use Rattle.hx_words.specs.Words.{asked_by, hnc, run_of, value_of};
+ghost use Rattle.std.specs.Prelude.{◌≡◌, map, IfOk, IsErrOf, None, Some, string_bytes};
+ghost use Rattle.clap.specs.Words.{found_of, rows_of};
+ghost use Rattle.hx_words.specs.Words.{asked_by, command_of, config_of, description_of, task_of, value_of};
 
-use crate::command::parsed;
+pub use crate::command::{Command, Report, Task};
+use crate::grammar::parsed;
 use crate::names::{has_names, names_in};
 pub use crate::untaken::first_untaken;
 use clap::ArgMatches;
 use clap::error::ErrorKind;
 use hx_model::RunConfig;
-use hx_object::{NoMemory, Text};
+use hx_object::{NoMemory, Text, is_dns_label};
 use std::alloc::{AllocError, Global};
-
-/// What the words of a run ask for.
-#[derive(Drop)]
-pub struct RunWords {
-    /// The path of the database. The empty path asks for rows in memory.
-    pub db: Text,
-    /// What is fixed for the run.
-    pub config: RunConfig,
-}
 
 /// Why words aren't read.
 #[derive(Clone, Copy, Debug, PartialEq, Eq)]
@@ -36,6 +37,20 @@ pub enum WordsFault {
     Usage,
     /// No memory was left.
     NoMemory,
+}
+
+impl From<clap::Error> for WordsFault {
+    ghost use Rattle.clap.specs.Words.{kind_of};
+    ghost use Rattle.hx_words.specs.Words.{fault_told};
+
+    ghost from_gives = { λ error fault. fault ≡ fault_told (kind_of error) };
+
+    fn from(error: clap::Error) -> Self {
+        match error.kind() {
+            ErrorKind::OutOfMemory => WordsFault::NoMemory,
+            _ => WordsFault::Usage,
+        }
+    }
 }
 
 impl From<NoMemory> for WordsFault {
@@ -58,61 +73,80 @@ impl From<AllocError> for WordsFault {
     }
 }
 
-/// Reads the words behind the program's name: `run`, and behind it, in any order and each at most once, `--db PATH`, `--excluded-namespace NAMES` and `--allow-skip`.
+/// Reads the words behind the program's name: a subcommand, and behind it what it takes, in any order and each at most once.
 ///
-/// PATH is any text. NAMES are names of namespaces (DNS labels), joined by commas; the empty value has none.
-/// As is usual with `clap`, `--db=PATH` and `--excluded-namespace=NAMES` are taken too, and a PATH that begins with a dash and has more bytes only so; a last word `--` says that no option follows.
+/// PATH is any text. NAMES are names of namespaces (DNS labels), joined by commas; the empty value has none. NAMESPACE is the name of one.
+/// As is usual with `clap`, `--db=PATH` and `--excluded-namespace=NAMES` are taken too, and a PATH that begins with a dash and has more bytes only so; a word `--` says that no option follows.
 /// `Usage` where the words aren't taken: another word, a missing value, an option twice, a value out of form, and a request for help or a version.
-pub fn read_words(alloc: Global, words: &[String]) -> Result<RunWords, WordsFault>
-    ensures words { IfOk result (λ run. run_of (map string_bytes words.now) ≡ Some run) }
-    ensures usage { IsErrOf result WordsFault.Usage → run_of (map string_bytes words.now) ≡ None }
+pub fn read_words(alloc: Global, words: &[String]) -> Result<Command, WordsFault>
+    ensures words { IfOk result (λ command. command_of (map string_bytes words.now) ≡ Some command) }
+    ensures usage { IsErrOf result WordsFault.Usage → command_of (map string_bytes words.now) ≡ None }
 {
-    let matches = matches_of(alloc, words)?;
+    let matches = parsed(alloc, words)?;
     match matches.subcommand() {
-        Some((_, run)) => asked_by(alloc, run),
+        Some((name, options)) => asked_by(alloc, name, options),
         None => Err(WordsFault::Usage),
     }
 }
 
-/// The matches of words in which `clap` has no fault.
-fn matches_of<'a>(alloc: Global, words: &'a [String]) -> Result<ArgMatches<'a>, WordsFault>
-    ensures taken { IfOk result (λ matches. fault_of hnc (map string_bytes words.now) ≡ []) }
-    ensures matches { IfOk result (λ matches. subcommand_rows_of matches ≡ subcommand_of hnc (map string_bytes words.now)) }
-    ensures usage { IsErrOf result WordsFault.Usage → fault_of hnc (map string_bytes words.now) ≢ [] }
+/// What a subcommand and its options ask for.
+fn asked_by(alloc: Global, name: &str, options: &ArgMatches<'_>) -> Result<Command, WordsFault>
+    ensures words { IfOk result (λ command. asked_by name.now (rows_of (found_of options.now)) ≡ Some command) }
+    ensures usage { IsErrOf result WordsFault.Usage → asked_by name.now (rows_of (found_of options.now)) ≡ None }
 {
-    match parsed(alloc, words) {
-        Ok(matches) => Ok(matches),
-        Err(error) => match error.kind() {
-            ErrorKind::OutOfMemory => Err(WordsFault::NoMemory),
-            _ => Err(WordsFault::Usage),
-        },
+    let task = task_of(alloc, name, options)?;
+    let config = config_of(alloc, options)?;
+    let db = Text::of(alloc, value_of(options, "db"))?;
+    Ok(Command { task, db, config })
+}
+
+/// The task that a subcommand names.
+fn task_of(alloc: Global, name: &str, options: &ArgMatches<'_>) -> Result<Task, WordsFault>
+    ensures task { IfOk result (λ task. task_of name.now (rows_of (found_of options.now)) ≡ Some task) }
+    ensures usage { IsErrOf result WordsFault.Usage → task_of name.now (rows_of (found_of options.now)) ≡ None }
+{
+    match name {
+        "run" => Ok(Task::Run),
+        "tree" => Ok(Task::Print(Report::Tree)),
+        "describe" => description_of(alloc, value_of(options, "namespace")),
+        "quota" => Ok(Task::Print(Report::Quota)),
+        "audit" => Ok(Task::Print(Report::Audit)),
+        _ => Err(WordsFault::Usage),
     }
 }
 
-/// What the options of `run` ask for.
-fn asked_by(alloc: Global, run: &ArgMatches<'_>) -> Result<RunWords, WordsFault>
-    ensures words { IfOk result (λ words. asked_by (rows_of (found_of run.now)) ≡ Some words) }
-    ensures usage { IsErrOf result WordsFault.Usage → asked_by (rows_of (found_of run.now)) ≡ None }
+/// To describe a namespace.
+fn description_of(alloc: Global, name: &str) -> Result<Task, WordsFault>
+    ensures task { IfOk result (λ task. description_of name.now ≡ Some task) }
+    ensures usage { IsErrOf result WordsFault.Usage → description_of name.now ≡ None }
 {
-    let excluded = value_of(run, "excluded-namespace");
+    if !is_dns_label(name.as_bytes()) {
+        return Err(WordsFault::Usage);
+    }
+    Ok(Task::Print(Report::Describe(Text::of(alloc, name)?)))
+}
+
+/// What the options say of the configuration.
+fn config_of(alloc: Global, options: &ArgMatches<'_>) -> Result<RunConfig, WordsFault>
+    ensures config { IfOk result (λ config. config_of (rows_of (found_of options.now)) ≡ Some config) }
+    ensures usage { IsErrOf result WordsFault.Usage → config_of (rows_of (found_of options.now)) ≡ None }
+{
+    let excluded = value_of(options, "excluded-namespace");
     if !has_names(excluded) {
         return Err(WordsFault::Usage);
     }
-    let allow_skip = value_of(run, "allow-skip") == "true";
-    Ok(RunWords {
-        db: Text::of(alloc, value_of(run, "db"))?,
-        config: RunConfig {
-            excluded: names_in(alloc, excluded)?,
-            allow_skip,
-        },
+    let allow_skip = value_of(options, "allow-skip") == "true";
+    Ok(RunConfig {
+        excluded: names_in(alloc, excluded)?,
+        allow_skip,
     })
 }
 
 /// The value of an option, and the empty text where it isn't given.
-fn value_of<'a>(run: &ArgMatches<'a>, name: &str) -> &'a str
-    ensures { result.now ≡ value_of (rows_of (found_of run.now)) name.now }
+fn value_of<'a>(options: &ArgMatches<'a>, name: &str) -> &'a str
+    ensures { result.now ≡ value_of (rows_of (found_of options.now)) name.now }
 {
-    match run.get_str(name) {
+    match options.get_str(name) {
         Some(value) => value,
         None => "",
     }

@@ -1,22 +1,19 @@
 // Which word isn't taken, for a reader.
 use crate::names::has_names;
+use hx_object::is_dns_label;
 
 /// The first word that isn't taken where it stands, for a reader of standard error. `None` where one is missing.
 pub fn first_untaken(words: &[String]) -> Option<&str> {
     match words {
-        [word, options @ ..] if word.as_str() == "run" => untaken_behind_run(options),
-        [word, ..] => Some(word.as_str()),
+        [word, rest @ ..] => match behind_subcommand(word.as_str()) {
+            Some(place) => first_untaken_from(place, rest),
+            None => Some(word.as_str()),
+        },
         [] => None,
     }
 }
 
-fn untaken_behind_run(words: &[String]) -> Option<&str> {
-    let mut place = Place {
-        wanted: Wanted::Option,
-        has_db: false,
-        has_excluded: false,
-        has_allow_skip: false,
-    };
+fn first_untaken_from(mut place: Place, words: &[String]) -> Option<&str> {
     for word in words {
         match after(place, word.as_str()) {
             Some(next) => place = next,
@@ -29,46 +26,75 @@ fn untaken_behind_run(words: &[String]) -> Option<&str> {
 /// What the next word has to be.
 #[derive(Clone, Copy)]
 enum Wanted {
-    Option,
+    /// An option, or a value without one.
+    Any,
+    /// The value of `--db`.
     Path,
+    /// The value of `--excluded-namespace`.
     Names,
-    Nothing,
+    /// A value without an option: no option follows.
+    Value,
 }
 
-/// A place between two words: what has to come next, and which options stand before.
+/// A place between two words: what has to come next, and what may still stand.
 #[derive(Clone, Copy)]
 struct Place {
     wanted: Wanted,
-    has_db: bool,
-    has_excluded: bool,
-    has_allow_skip: bool,
+    takes_db: bool,
+    takes_excluded: bool,
+    takes_allow_skip: bool,
+    takes_namespace: bool,
+}
+
+/// The place behind a subcommand.
+fn behind_subcommand(word: &str) -> Option<Place> {
+    let place = Place {
+        wanted: Wanted::Any,
+        takes_db: true,
+        takes_excluded: true,
+        takes_allow_skip: false,
+        takes_namespace: false,
+    };
+    match word {
+        "run" => Some(Place {
+            takes_allow_skip: true,
+            ..place
+        }),
+        "tree" | "audit" => Some(place),
+        "describe" => Some(Place {
+            takes_namespace: true,
+            ..place
+        }),
+        "quota" => Some(Place {
+            takes_excluded: false,
+            ..place
+        }),
+        _ => None,
+    }
 }
 
 /// The place behind a word, where that is taken.
 fn after(place: Place, word: &str) -> Option<Place> {
-    let is_taken = match place.wanted {
-        Wanted::Option => return after_option(place, word),
-        Wanted::Path => !is_dashed(word),
-        Wanted::Names => has_names(word),
-        Wanted::Nothing => false,
-    };
-    if is_taken {
-        Some(wanting(place, Wanted::Option))
-    } else {
-        None
+    match place.wanted {
+        Wanted::Any => after_any(place, word),
+        Wanted::Path if !is_dashed(word) => Some(wanting(place, Wanted::Any)),
+        Wanted::Names if has_names(word) => Some(wanting(place, Wanted::Any)),
+        Wanted::Value => after_value(place, word),
+        _ => None,
     }
 }
 
-fn after_option(place: Place, word: &str) -> Option<Place> {
+fn after_any(place: Place, word: &str) -> Option<Place> {
     match word {
-        "--" => Some(wanting(place, Wanted::Nothing)),
-        "--allow-skip" if !place.has_allow_skip => Some(Place {
-            has_allow_skip: true,
+        "--" => Some(wanting(place, Wanted::Value)),
+        "--allow-skip" if place.takes_allow_skip => Some(Place {
+            takes_allow_skip: false,
             ..place
         }),
         "--db" => after_db(place, Wanted::Path),
         "--excluded-namespace" => after_excluded(place, Wanted::Names),
-        _ => after_attached(place, word),
+        _ if is_dashed(word) => after_attached(place, word),
+        _ => after_value(place, word),
     }
 }
 
@@ -76,30 +102,41 @@ fn after_option(place: Place, word: &str) -> Option<Place> {
 fn after_attached(place: Place, word: &str) -> Option<Place> {
     let (name, value) = word.split_once('=')?;
     match name {
-        "--db" => after_db(place, Wanted::Option),
-        "--excluded-namespace" if has_names(value) => after_excluded(place, Wanted::Option),
+        "--db" => after_db(place, Wanted::Any),
+        "--excluded-namespace" if has_names(value) => after_excluded(place, Wanted::Any),
         _ => None,
     }
 }
 
+/// The place behind a value without an option.
+fn after_value(place: Place, word: &str) -> Option<Place> {
+    if !place.takes_namespace || !is_dns_label(word.as_bytes()) {
+        return None;
+    }
+    Some(Place {
+        takes_namespace: false,
+        ..place
+    })
+}
+
 fn after_db(place: Place, wanted: Wanted) -> Option<Place> {
-    if place.has_db {
+    if !place.takes_db {
         return None;
     }
     Some(Place {
         wanted,
-        has_db: true,
+        takes_db: false,
         ..place
     })
 }
 
 fn after_excluded(place: Place, wanted: Wanted) -> Option<Place> {
-    if place.has_excluded {
+    if !place.takes_excluded {
         return None;
     }
     Some(Place {
         wanted,
-        has_excluded: true,
+        takes_excluded: false,
         ..place
     })
 }

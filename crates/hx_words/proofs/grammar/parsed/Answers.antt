@@ -3,7 +3,7 @@ use Rattle.std.specs.Prelude.{string_bytes}
 use Rattle.std.proofs.lemmas.Result.{IfOk-weaker}
 use Rattle.clap.specs.Words.{App, FailsBy, fault_of, is_simple, is_simple_and_free, subcommand_of}
 use Rattle.hx_words.specs.Words.{hnc}
-use Rattle.hx_words.proofs.command.parsed.Goals as goal
+use Rattle.hx_words.proofs.grammar.parsed.Goals as goal
 
 is_free : is_simple_and_free hnc ≡ true
 is_free = refl

@@ -1,0 +1,99 @@
+// The words' grammar, as `clap` reads it.
+ghost use Rattle.std.specs.Prelude.{◌≡◌, false, map, IfOk, string_bytes};
+ghost use Rattle.clap.specs.Words.{app_of, fault_of, rule_of, subcommand_of, subcommand_rows_of, FailsBy};
+ghost use Rattle.clap.specs.declared.builder.command.Command.TheViews.{out-Command as fields_of};
+ghost use Rattle.hx_words.specs.Words as spec;
+
+use clap::{Arg, ArgAction, ArgMatches, Command, Error};
+use std::alloc::{AllocError, Global};
+
+/// The matches of the words.
+pub(crate) fn parsed<'a>(alloc: Global, words: &'a [String]) -> Result<ArgMatches<'a>, Error>
+    ensures fails { FailsBy (fault_of spec.hnc (map string_bytes words.now)) result }
+    ensures matches { IfOk result (λ matches. subcommand_rows_of matches ≡ subcommand_of spec.hnc (map string_bytes words.now)) }
+{
+    hnc(alloc)?.try_get_matches_from(words)
+}
+
+/// The program with all its subcommands.
+fn hnc<'a>(alloc: Global) -> Result<Command<'a>, AllocError>
+    ensures app { IfOk result (λ command. app_of command ≡ spec.hnc) }
+{
+    let trees = trees(alloc)?.subcommand(stored(alloc, "quota")?)?;
+    trees.subcommand(in_trees(alloc, "audit")?)
+}
+
+/// The program with the subcommands on trees.
+fn trees<'a>(alloc: Global) -> Result<Command<'a>, AllocError>
+    ensures app { IfOk result (λ command. app_of command ≡ spec.trees) }
+{
+    let running = program(alloc).subcommand(run(alloc)?)?;
+    let showing = running.subcommand(in_trees(alloc, "tree")?)?;
+    showing.subcommand(describe(alloc)?)
+}
+
+/// The program: it has to be given a subcommand, and has no help.
+fn program<'a>(alloc: Global) -> Command<'a>
+    ensures app { app_of result ≡ spec.program }
+    ensures local { (fields_of result).has_globals ≡ false }
+{
+    Command::new(alloc, "hnc")
+        .no_binary_name(true)
+        .subcommand_required(true)
+        .disable_help_flag(true)
+        .disable_help_subcommand(true)
+}
+
+fn run<'a>(alloc: Global) -> Result<Command<'a>, AllocError>
+    ensures app { IfOk result (λ command. app_of command ≡ spec.run) }
+    ensures local { IfOk result (λ command. (fields_of command).has_globals ≡ false) }
+{
+    in_trees(alloc, "run")?.arg(flag(alloc, "allow-skip"))
+}
+
+fn describe<'a>(alloc: Global) -> Result<Command<'a>, AllocError>
+    ensures app { IfOk result (λ command. app_of command ≡ spec.describe) }
+    ensures local { IfOk result (λ command. (fields_of command).has_globals ≡ false) }
+{
+    in_trees(alloc, "describe")?.arg(positional(alloc, "namespace"))
+}
+
+/// A subcommand that reads what is stored, with the namespaces that take no part.
+fn in_trees<'a>(alloc: Global, name: &'a str) -> Result<Command<'a>, AllocError>
+    ensures app { IfOk result (λ command. app_of command ≡ spec.in_trees name.entry.now) }
+    ensures local { IfOk result (λ command. (fields_of command).has_globals ≡ false) }
+{
+    stored(alloc, name)?.arg(text_option(alloc, "excluded-namespace"))
+}
+
+/// A subcommand that reads what is stored.
+fn stored<'a>(alloc: Global, name: &'a str) -> Result<Command<'a>, AllocError>
+    ensures app { IfOk result (λ command. app_of command ≡ spec.stored name.entry.now) }
+    ensures local { IfOk result (λ command. (fields_of command).has_globals ≡ false) }
+{
+    Command::new(alloc, name).arg(text_option(alloc, "db"))
+}
+
+/// An option with a value.
+fn text_option<'a>(alloc: Global, name: &'a str) -> Arg<'a>
+    ensures rule { rule_of result ≡ spec.text_option name.entry.now }
+    ensures local { result.global ≡ false }
+{
+    Arg::new(alloc, name).long(name)
+}
+
+/// An option without a value.
+fn flag<'a>(alloc: Global, name: &'a str) -> Arg<'a>
+    ensures rule { rule_of result ≡ spec.flag name.entry.now }
+    ensures local { result.global ≡ false }
+{
+    Arg::new(alloc, name).long(name).action(ArgAction::SetTrue)
+}
+
+/// A value that has to stand, without an option before it.
+fn positional<'a>(alloc: Global, name: &'a str) -> Arg<'a>
+    ensures rule { rule_of result ≡ spec.positional name.entry.now }
+    ensures local { result.global ≡ false }
+{
+    Arg::new(alloc, name).required(true)
+}
