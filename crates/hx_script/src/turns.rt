@@ -251,6 +251,13 @@ pub fn say_settled<W: Sink>(room: &mut String, sink: &mut W, end: Settle) -> Res
 
 // ---- texts in pieces
 
+/// Appends a key as it is written in a line: its kind and its names, joined by single spaces.
+pub fn push_key(text: &mut String, key: &Key) -> Result<(), NoMemory>
+    ensures { OnOk result (string_bytes text.new ≡ string_bytes text.old ++ key_words key.now) }
+{
+    lay(text, &key_pieces("", key))
+}
+
 /// A key behind other words.
 #[tactic(auto, unfolding(crate::specs::Turns::key_words))]
 fn key_pieces<'a>(words: &'a str, key: &'a Key) -> [&'a str; 8]
