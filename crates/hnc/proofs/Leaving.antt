@@ -1,5 +1,5 @@
 -- What runs leave.
-use Rattle.std.proofs.Common.{◌≡◌, ◌≢◌, ◌<◌, ◌≤◌, ℕ, Bool, false, List, [], ◌++◌, None, Some, Ok, is_some, length, refl, sym, ap, subst, ◌∙◌, true≢false, ◌⊎◌, inl, inr}
+use Rattle.std.proofs.Common.{◌≡◌, ◌≢◌, ◌<◌, ◌≤◌, ℕ, Bool, true, false, if◌then◌else◌, option_and_then, List, [], ◌++◌, None, Some, Ok, is_some, length, refl, sym, ap, subst, ◌∙◌, true≢false, ◌⊎◌, inl, inr}
 use Rattle.std.specs.Prelude.{IfSome, IsSome, IsSomeAnd}
 use Rattle.std.specs.declared.option.Option.{Option}
 use Rattle.hx_ports.specs.Keeping.{Kept}
@@ -9,8 +9,13 @@ use Rattle.hx_model.specs.Machine.{History, IsHistory, opening_world, replay}
 use Rattle.hx_model.specs.State.{State}
 use Rattle.hx_model.specs.Valid.{IsValid}
 use Rattle.hx_core.specs.Refinement.{AllValid, ClusterView, Represents, IsKeptOf, kept_of}
-use Rattle.hx_words.specs.declared.RunWords.{RunWords}
+use Rattle.hx_words.specs.Words.{is_reading}
+use Rattle.hx_words.specs.declared.command.Command.{Command}
+use Rattle.hx_words.specs.declared.command.Report.{Report}
+use Rattle.hx_words.specs.declared.command.Task.{Task}
+use Rattle.hx_words.specs.declared.command.Task.TheVariants.{Print, Run}
 use Rattle.hx_core.specs.Starting.{IsUndamaged, IsDamagedAt, IfDamaged}
+use Rattle.hx_core.specs.declared.damage.Damage.{Damage}
 use Rattle.hx_core.specs.declared.start.StartFault.{StartFault}
 use Rattle.hx_core.specs.declared.start.StartFault.TheVariants as start
 use Rattle.hx_core.proofs.Reopening.{never_both}
@@ -26,10 +31,11 @@ use Rattle.hx_model.proofs.Tearing.{holds_after_fault}
 use Rattle.hx_model.proofs.Beginning.{excess_begins_only_there, no_excess_by_fault}
 use Rattle.hx_model.proofs.Knowing.{speaks_of_keys_alone}
 use Rattle.hnc.proofs.Quiet.{quiet_settled}
-use Rattle.hnc.specs.Headline.{HoldsBetween, Runs, Leaves, LeavesWhole, LeavesFront, LeavesRead, OfRun, has_not_begun}
+use Rattle.hnc.specs.Headline.{HoldsBetween, Runs, Leaves, LeavesWhole, LeavesFront, LeavesRead, OfRun, has_not_begun, is_complete, is_cut_short}
+use Rattle.hnc.specs.Reports.{Prints, PrintsWhole, PrintsFront, Says, SaysFront, SaysOf, is_told}
 
 -- a cluster was started on a keeper that took its place at the path of the words
-pub record Starts (run : RunWords) (keeper : KeeperView) (c : ClusterView) : Type 0 where
+pub record Starts (run : Command) (keeper : KeeperView) (c : ClusterView) : Type 0 where
   pub place : c.keeper.place ≡ Some run.db
   pub same : IfSome keeper.kept (λ held. c.keeper.kept ≡ Some held)
   pub whole : c.keeper.broken ≡ keeper.broken
@@ -48,7 +54,7 @@ still_ok before now x cause = cause.still (λ e. cc)
 pub not_done : (end : RunEnd) → end ≡ Wanting → end ≢ Ended
 not_done end is e = cc
 
-pub starts_on : {T : Type 0} (run : RunWords) (keeper attached : KeeperView) (c : ClusterView) → attached.place ≡ Some run.db → IfSome keeper.kept (λ held. attached.kept ≡ Some held) → attached.broken ≡ keeper.broken → (x : T) → KeeperCause keeper.faults attached.faults (Ok x)
+pub starts_on : {T : Type 0} (run : Command) (keeper attached : KeeperView) (c : ClusterView) → attached.place ≡ Some run.db → IfSome keeper.kept (λ held. attached.kept ≡ Some held) → attached.broken ≡ keeper.broken → (x : T) → KeeperCause keeper.faults attached.faults (Ok x)
     → c.keeper ≡ attached → Represents c (opening_world c.keeper.broken c.state) → c.state.config ≡ run.config → IsValid c.state → IfSome c.keeper.kept (λ held. held ≡ kept_of c.state) → IfSome c.keeper.kept IsUndamaged → Starts run keeper c
 starts_on run keeper attached c place same whole x cause is opens configured valid holds undamaged = record {
   place = ap (λ k. k.place) is ∙ place;
@@ -100,7 +106,7 @@ runs broken first entries valid history all =
     }
 
 -- a run of a cluster that was started
-leaves : (words : RunWords) (script : List ℕ) (rest : List Line) (lacking : List ℕ) (sink sink' : SinkView) (keeper keeper' : KeeperView) (a b : ClusterView)
+leaves : (words : Command) (script : List ℕ) (rest : List Line) (lacking : List ℕ) (sink sink' : SinkView) (keeper keeper' : KeeperView) (a b : ClusterView)
     → Starts words keeper a → keeper' ≡ b.keeper → Ran (script_lines script) rest lacking a b sink.written sink'.written → Leaves words script rest lacking sink sink' keeper keeper'
 leaves words script rest lacking sink sink' keeper keeper' a b starts is ran =
     let entries = entries_of ran.exchanges in
@@ -132,38 +138,38 @@ leaves words script rest lacking sink sink' keeper keeper' a b starts is ran =
     }
 
 -- what the words ask for
-of_run : (words : Option RunWords) (run : RunWords) (source : SourceView) (P : RunWords → List ℕ → Type 0) → words ≡ Some run → OfScript source.left (P run) → OfRun words source P
+of_run : (words : Option Command) (run : Command) (source : SourceView) (P : Command → List ℕ → Type 0) → words ≡ Some run → OfScript source.left (P run) → OfRun words source P
 of_run words run source P is p =
-    let Q : Option RunWords → Type 0 = λ o. IsSomeAnd o (λ asked. OfScript source.left (P asked)) in
+    let Q : Option Command → Type 0 = λ o. IsSomeAnd o (λ asked. OfScript source.left (P asked)) in
     subst Q (sym is) p
 
-pub of_run-whole : (words : Option RunWords) (run : RunWords) (source : SourceView) (sink sink' : SinkView) (keeper keeper' : KeeperView) (a b : ClusterView) → words ≡ Some run → Starts run keeper a → keeper' ≡ b.keeper
+pub of_run-whole : (words : Option Command) (run : Command) (source : SourceView) (sink sink' : SinkView) (keeper keeper' : KeeperView) (a b : ClusterView) → words ≡ Some run → Starts run keeper a → keeper' ≡ b.keeper
     → OfScript source.left (λ script. (length script ≤ most_bytes) × Does (script_lines script) a b sink.written sink'.written) → OfRun words source (λ run script. LeavesWhole run script sink sink' keeper keeper')
 of_run-whole words run source sink sink' keeper keeper' a b is starts ends (script, told, (few, does)) =
     of_run words run source (λ run script. LeavesWhole run script sink sink' keeper keeper') is
     (script, told, record { few = few; leaves = leaves run script [] [] sink sink' keeper keeper' a b starts ends does })
 
-front : (run : RunWords) (script : List ℕ) (sink sink' : SinkView) (keeper keeper' : KeeperView) (a b : ClusterView) → Starts run keeper a → keeper' ≡ b.keeper
+front : (run : Command) (script : List ℕ) (sink sink' : SinkView) (keeper keeper' : KeeperView) (a b : ClusterView) → Starts run keeper a → keeper' ≡ b.keeper
     → Cuts (script_lines script) a b sink.written sink'.written → LeavesFront run script sink sink' keeper keeper'
 front run script sink sink' keeper keeper' a b starts ends cuts =
     record { rest = cuts.rest; lacking = cuts.lacking; leaves = leaves run script cuts.rest cuts.lacking sink sink' keeper keeper' a b starts ends cuts.ran }
 
-pub of_run-front : (words : Option RunWords) (run : RunWords) (source : SourceView) (sink sink' : SinkView) (keeper keeper' : KeeperView) (a b : ClusterView) → words ≡ Some run → Starts run keeper a → keeper' ≡ b.keeper
+pub of_run-front : (words : Option Command) (run : Command) (source : SourceView) (sink sink' : SinkView) (keeper keeper' : KeeperView) (a b : ClusterView) → words ≡ Some run → Starts run keeper a → keeper' ≡ b.keeper
     → OfScript source.left (λ script. Cuts (script_lines script) a b sink.written sink'.written) → OfRun words source (λ run script. LeavesFront run script sink sink' keeper keeper')
 of_run-front words run source sink sink' keeper keeper' a b is starts ends (script, told, cuts) =
     of_run words run source (λ run script. LeavesFront run script sink sink' keeper keeper') is
     (script, told, front run script sink sink' keeper keeper' a b starts ends cuts)
 
-pub of_run-long : (words : Option RunWords) (run : RunWords) (source : SourceView) (sink sink' : SinkView) (keeper keeper' : KeeperView) (a b : ClusterView) → words ≡ Some run → Starts run keeper a → keeper' ≡ b.keeper
+pub of_run-long : (words : Option Command) (run : Command) (source : SourceView) (sink sink' : SinkView) (keeper keeper' : KeeperView) (a b : ClusterView) → words ≡ Some run → Starts run keeper a → keeper' ≡ b.keeper
     → OfScript source.left (λ script. (most_bytes < length script) × Cuts (script_lines script) a b sink.written sink'.written) → OfRun words source (λ run script. (most_bytes < length script) × LeavesFront run script sink sink' keeper keeper')
 of_run-long words run source sink sink' keeper keeper' a b is starts ends (script, told, (long, cuts)) =
     of_run words run source (λ run script. (most_bytes < length script) × LeavesFront run script sink sink' keeper keeper') is
     (script, told, (long, front run script sink sink' keeper keeper' a b starts ends cuts))
 
-pub of_run-read : (words : Option RunWords) (run : RunWords) (source source' : SourceView) (sink sink' : SinkView) (keeper keeper' : KeeperView) (a b : ClusterView) → words ≡ Some run → Starts run keeper a → keeper' ≡ b.keeper
+pub of_run-read : (words : Option Command) (run : Command) (source source' : SourceView) (sink sink' : SinkView) (keeper keeper' : KeeperView) (a b : ClusterView) → words ≡ Some run → Starts run keeper a → keeper' ≡ b.keeper
     → ReadsFront source.left source'.left a b sink.written sink'.written → IsSomeAnd words (λ run. LeavesRead run source source' sink sink' keeper keeper')
 of_run-read words run source source' sink sink' keeper keeper' a b is starts ends front =
-    let Q : Option RunWords → Type 0 = λ o. IsSomeAnd o (λ asked. LeavesRead asked source source' sink sink' keeper keeper') in
+    let Q : Option Command → Type 0 = λ o. IsSomeAnd o (λ asked. LeavesRead asked source source' sink sink' keeper keeper') in
     subst Q (sym is) (record {
       bytes = front.bytes;
       read = front.read;
@@ -172,25 +178,90 @@ of_run-read words run source source' sink sink' keeper keeper' a b is starts end
 
 -- where nothing failed and the rows are undamaged, a start ends for want of memory alone
 pub wants_memory : (status : Status) (fault : StartFault) (old attached : KeeperView) (faults : ℕ) → (status ≡ ending.KeeperFault) ⊎ ((status ≡ ending.Damaged) ⊎ (status ≡ ending.NoMemory)) → (status ≡ ending.KeeperFault → fault ≡ start.KeeperFault)
-    → (status ≡ ending.Damaged → (row : ℕ) × (fault ≡ start.Damaged row)) → attached.faults ≡ old.faults → (fault ≡ start.KeeperFault → Rose attached.faults faults) → (Rose old.faults faults → ⊥) → IfSome old.kept (λ held. attached.kept ≡ Some held)
+    → (status ≡ ending.Damaged → (row : ℕ) × ((damage : Damage) × (fault ≡ start.Damaged row damage))) → attached.faults ≡ old.faults → (fault ≡ start.KeeperFault → Rose attached.faults faults) → (Rose old.faults faults → ⊥) → IfSome old.kept (λ held. attached.kept ≡ Some held)
     → IsSomeAnd old.kept IsUndamaged → IfDamaged fault (λ row. IfSome attached.kept (λ held. IsDamagedAt held row)) → status ≡ ending.NoMemory
 wants_memory status fault old attached faults (inl is) failed damaged still rose calm same sound found = absurd (calm (subst (λ n. Rose n faults) still (rose (failed is))))
 wants_memory status fault old attached faults (inr (inl is)) failed damaged still rose calm same sound found =
     let row = damaged is in
-    absurd (never old.kept attached.kept row.0 same sound (subst (λ f. IfDamaged f (λ r. IfSome attached.kept (λ held. IsDamagedAt held r))) row.1 found))
+    absurd (never old.kept attached.kept row.0 same sound (subst (λ f. IfDamaged f (λ r. IfSome attached.kept (λ held. IsDamagedAt held r))) row.1.1 found))
   where
     never : (before now : Option Kept) (row : ℕ) → IfSome before (λ held. now ≡ Some held) → IsSomeAnd before IsUndamaged → IfSome now (λ held. IsDamagedAt held row) → ⊥
     never None now row s good bad = good
     never (Some held) now row s good bad = never_both held row good (subst (λ o. IfSome o (λ h. IsDamagedAt h row)) s bad)
 wants_memory status fault old attached faults (inr (inr is)) failed damaged still rose calm same sound found = is
 
+-- ---- reports
+
+-- what the words ask for, where it only reads
+pub reads_of : (words : Option Command) (command : Command) (report : Report) → words ≡ Some command → command.task ≡ Print report → option_and_then (λ (c : Command). if is_reading c.task then Some c else None) words ≡ Some command
+reads_of words command report is task =
+    ap (option_and_then (λ (c : Command). if is_reading c.task then Some c else None)) is ∙ ap (λ (t : Task). if is_reading t then Some command else None) task
+
+-- what the words ask for, where it is a run
+pub runs_of : (words : Option Command) (command : Command) → words ≡ Some command → command.task ≡ Run → option_and_then (λ (c : Command). if is_reading c.task then None else Some c) words ≡ Some command
+runs_of words command is task =
+    ap (option_and_then (λ (c : Command). if is_reading c.task then None else Some c)) is ∙ ap (λ (t : Task). if is_reading t then None else Some command) task
+
+-- a report that ended with a known status
+pub told_as : (report : Report) (status known : Status) (s : State) (sink sink' : SinkView) → status ≡ known → is_told known ≡ true → (is_told status ≡ true → Says report status s [] sink sink') → Says report known s [] sink sink'
+told_as report status known s sink sink' is told says = subst (λ (st : Status). Says report st s [] sink sink') is (says (ap is_told is ∙ told))
+
+never_cut : (status : Status) → is_told status ≡ true → is_cut_short status ≡ true → ⊥
+never_cut ending.Done told cut = true≢false (sym cut)
+never_cut ending.Usage told cut = true≢false (sym cut)
+never_cut ending.ReadFault told cut = true≢false (sym told)
+never_cut ending.WriteFault told cut = true≢false (sym told)
+never_cut ending.KeeperFault told cut = true≢false (sym cut)
+never_cut ending.Damaged told cut = true≢false (sym cut)
+never_cut ending.NoMemory told cut = true≢false (sym cut)
+never_cut ending.Unsettled told cut = true≢false (sym cut)
+never_cut ending.TooLong told cut = true≢false (sym told)
+never_cut ending.NotFound told cut = true≢false (sym cut)
+
+-- a report that was cut short met a fault of writing
+pub cut_by_fault : (status : Status) → (is_told status ≡ true) ⊎ ((status ≡ ending.WriteFault) ⊎ (status ≡ ending.NoMemory)) → is_cut_short status ≡ true → status ≡ ending.WriteFault
+cut_by_fault status (inl told) cut = absurd (never_cut status told cut)
+cut_by_fault status (inr (inl is)) cut = is
+cut_by_fault status (inr (inr is)) cut = absurd (true≢false (sym cut ∙ ap is_cut_short is))
+
+-- a report on a cluster that was started, and is closed as it was
+pub prints_on : (command : Command) (report : Report) (status : Status) (lacking : List ℕ) (sink sink' : SinkView) (keeper keeper' : KeeperView) (a : ClusterView) → Starts command keeper a → command.task ≡ Print report → keeper' ≡ a.keeper → Says report status a.state lacking sink sink' → Prints command status lacking sink sink' keeper keeper'
+prints_on command report status lacking sink sink' keeper keeper' a starts task is says = record {
+  state = a.state;
+  valid = starts.valid;
+  undamaged = told_before keeper.kept a.keeper.kept IsUndamaged starts.same starts.undamaged;
+  configured = starts.configured;
+  opens = told_before keeper.kept a.keeper.kept (λ held. held ≡ kept_of a.state) starts.same starts.holds;
+  says = subst (λ (t : Task). SaysOf t status a.state lacking sink sink') (sym task) says;
+  place = ap (λ k. k.place) is ∙ starts.place;
+  same = subst (λ k. IfSome keeper.kept (λ held. k.kept ≡ Some held)) (sym is) starts.same;
+  whole = ap (λ k. k.broken) is ∙ starts.whole;
+  still = ap (λ k. k.faults) is ∙ starts.still;
+}
+
+-- the same of what the words ask for
+pub of_report : (words : Option Command) (command : Command) (report : Report) (status : Status) (sink sink' : SinkView) (keeper keeper' : KeeperView) (a : ClusterView) → words ≡ Some command → Starts command keeper a → command.task ≡ Print report → keeper' ≡ a.keeper → Says report status a.state [] sink sink' → IsSomeAnd words (λ c. PrintsWhole c status sink sink' keeper keeper')
+of_report words command report status sink sink' keeper keeper' a is starts task ends says =
+    let Q : Option Command → Type 0 = λ o. IsSomeAnd o (λ c. PrintsWhole c status sink sink' keeper keeper') in
+    subst Q (sym is) (prints_on command report status [] sink sink' keeper keeper' a starts task ends says)
+
+-- a front of one
+pub of_report-front : (words : Option Command) (command : Command) (report : Report) (sink sink' : SinkView) (keeper keeper' : KeeperView) (a : ClusterView) → words ≡ Some command → Starts command keeper a → command.task ≡ Print report → keeper' ≡ a.keeper → SaysFront report a.state sink sink' → IsSomeAnd words (λ c. PrintsFront c sink sink' keeper keeper')
+of_report-front words command report sink sink' keeper keeper' a is starts task ends front =
+    let Q : Option Command → Type 0 = λ o. IsSomeAnd o (λ c. PrintsFront c sink sink' keeper keeper') in
+    subst Q (sym is) (record { status = front.status; lacking = front.lacking; prints = prints_on command report front.status front.lacking sink sink' keeper keeper' a starts task ends front.says })
+
+-- ---- ends without a fault
+
 -- a run that began, and met no fault of reading or writing, was read to its end, was too long, or wanted memory
-pub ends_unharmed : (status : Status) (Read Write : Type 0) → has_not_begun status ≡ false → (status ≡ ending.ReadFault → Read) → (status ≡ ending.WriteFault → Write) → (Read → ⊥) → (Write → ⊥) → (status ≡ ending.Done) ⊎ (status ≡ ending.TooLong) ⊎ (status ≡ ending.NoMemory)
-ends_unharmed ending.Done Read Write begun read write unread unwritten = inl refl
+pub ends_unharmed : (status : Status) (Read Write : Type 0) → has_not_begun status ≡ false → (status ≡ ending.ReadFault → Read) → (status ≡ ending.WriteFault → Write) → (Read → ⊥) → (Write → ⊥) → is_complete status ≡ true
+ends_unharmed ending.Done Read Write begun read write unread unwritten = refl
 ends_unharmed ending.Usage Read Write begun read write unread unwritten = absurd (true≢false begun)
 ends_unharmed ending.ReadFault Read Write begun read write unread unwritten = absurd (unread (read refl))
 ends_unharmed ending.WriteFault Read Write begun read write unread unwritten = absurd (unwritten (write refl))
 ends_unharmed ending.KeeperFault Read Write begun read write unread unwritten = absurd (true≢false begun)
 ends_unharmed ending.Damaged Read Write begun read write unread unwritten = absurd (true≢false begun)
-ends_unharmed ending.NoMemory Read Write begun read write unread unwritten = inr (inr refl)
-ends_unharmed ending.TooLong Read Write begun read write unread unwritten = inr (inl refl)
+ends_unharmed ending.NoMemory Read Write begun read write unread unwritten = refl
+ends_unharmed ending.Unsettled Read Write begun read write unread unwritten = refl
+ends_unharmed ending.TooLong Read Write begun read write unread unwritten = refl
+ends_unharmed ending.NotFound Read Write begun read write unread unwritten = refl

@@ -1,2 +1,3 @@
 mod Leaving
 pub mod Quiet
+mod Reporting

@@ -1,13 +1,14 @@
--- What the top call promises of a run.
+-- What the top call promises.
 --     EndsQuiet                  a history ends with a check that no key waits or is held
 --     HoldsBetween s t           limits hold from one state to another
 --     Runs opening entries last  a history of the machine leads from one world to another
 --     Leaves                     what a run of a script leaves: one history of the machine, what it writes and what is kept
 --     LeavesWhole, LeavesFront   the same of a run to the script's end;  of one that was cut short
 --     LeavesRead                 of one whose source failed: each line that ended before has its answer
---     OfRun words source P       there is a script with P, for what the words ask for: the one that the source tells, where it tells
---     is_cut_short, has_not_begun      what a status says of a run
---     IsUnbegun                  no run began
+--     OfRun words source P       there is a script with P, for the run that the words ask for: the one that the source tells, where it tells
+--     IsCarriedOut, IsCutShort   a run reached its script's end, or a report was printed;  the first part of one was
+--     is_cut_short, has_not_begun      what a status says of a command
+--     IsUnbegun                  nothing was begun
 --     code_of_status             the number of a status
 use Rattle.std.specs.Prelude.{◌≡◌, ◌≤◌, ◌⊎◌, ℕ, Bool, true, false, List, [], ◌∷◌, ◌++◌, IfSome, IsSome, IsSomeAnd, None, Some, length}
 use Rattle.std.specs.declared.option.Option.{Option}
@@ -15,7 +16,7 @@ use Rattle.std.specs.List.{AllByRecursion}
 use Rattle.std.specs.Io.KnownBytes.{Appends, Consumes}
 use Rattle.hx_ports.specs.Causes.{Rose}
 use Rattle.hx_ports.specs.Views.{KeeperView, SinkView, SourceView}
-use Rattle.hx_words.specs.declared.RunWords.{RunWords}
+use Rattle.hx_words.specs.declared.command.Command.{Command}
 use Rattle.hx_model.specs.State.{State}
 use Rattle.hx_model.specs.Overruns.{IsHeldBetween, KeepsLimits}
 use Rattle.hx_model.specs.Machine.{World, History, Checked, opening_world, IsHistory, replay, loses_to_fault}
@@ -26,7 +27,8 @@ use Rattle.hx_model.specs.Known.{SpeaksOfKeys, none_known}
 use Rattle.hx_core.specs.Refinement.{AllValid, IsKeptOf, kept_of}
 use Rattle.hx_core.specs.Starting.{IsUndamaged}
 use Rattle.hnc.specs.declared.top.Status.{Status}
-use Rattle.hnc.specs.declared.top.Status.TheVariants.{Done, Usage, ReadFault, WriteFault, KeeperFault, Damaged, NoMemory, TooLong}
+use Rattle.hnc.specs.declared.top.Status.TheVariants.{Done, Usage, ReadFault, WriteFault, KeeperFault, Damaged, NoMemory, Unsettled, TooLong, NotFound}
+use Rattle.hnc.specs.Reports.{PrintsWhole, PrintsFront}
 use Rattle.hx_script.specs.Lines.{Line, script_lines, unended}
 use Rattle.hx_script.specs.Running.{LacksLast, OfScript, most_bytes}
 use Rattle.hx_script.specs.Exchanges.{Exchange, IsExchange, lines_of, entries_of, answer_lines}
@@ -59,7 +61,7 @@ pub record Runs (opening : World) (entries : History) (last : World) : Type 0 wh
 -- There is a first state, which is under the configuration of the words: the one whose rows the keeper had, where it told them. There is one history of the machine from it. Its entries are those of the script's lines in order, each once, up to the rest.
 -- What is written are their answers, but for what is lacking of the last one. What the keeper holds is what the history leaves, and it is broken where the history says so; its count rose where a loss to a fault stands in the history, and stayed where none does.
 -- The keeper was undamaged. It is at the path of the words now, and it tells what it holds if it told before.
-pub record Leaves (run : RunWords) (script : List ℕ) (rest : List Line) (lacking : List ℕ) (sink sink' : SinkView) (keeper keeper' : KeeperView) : Type 0 where
+pub record Leaves (run : Command) (script : List ℕ) (rest : List Line) (lacking : List ℕ) (sink sink' : SinkView) (keeper keeper' : KeeperView) : Type 0 where
   pub exchanges : List Exchange
   pub text : List ℕ
   pub first : State
@@ -81,34 +83,53 @@ pub record Leaves (run : RunWords) (script : List ℕ) (rest : List Line) (lacki
   pub still : loses_to_fault (entries_of exchanges) ≡ false → keeper'.faults ≡ keeper.faults
 
 -- the run reached the end of the script: each line has its whole answer
-pub record LeavesWhole (run : RunWords) (script : List ℕ) (sink sink' : SinkView) (keeper keeper' : KeeperView) : Type 0 where
+pub record LeavesWhole (run : Command) (script : List ℕ) (sink sink' : SinkView) (keeper keeper' : KeeperView) : Type 0 where
   pub few : length script ≤ most_bytes
   pub leaves : Leaves run script [] [] sink sink' keeper keeper'
 
 -- the run was cut short: some last lines have no answer, and the last answer may lack its end
-pub record LeavesFront (run : RunWords) (script : List ℕ) (sink sink' : SinkView) (keeper keeper' : KeeperView) : Type 0 where
+pub record LeavesFront (run : Command) (script : List ℕ) (sink sink' : SinkView) (keeper keeper' : KeeperView) : Type 0 where
   pub rest : List Line
   pub lacking : List ℕ
   pub leaves : Leaves run script rest lacking sink sink' keeper keeper'
 
 -- a read failed behind some bytes of the script. Whatever follows them, each line that ends in them has its whole answer, and those from the one that hasn't ended on are left
-pub record LeavesRead (run : RunWords) (source source' : SourceView) (sink sink' : SinkView) (keeper keeper' : KeeperView) : Type 0 where
+pub record LeavesRead (run : Command) (source source' : SourceView) (sink sink' : SinkView) (keeper keeper' : KeeperView) : Type 0 where
   pub bytes : List ℕ
   pub read : Consumes source.left source'.left bytes
   pub leaves : (more : List ℕ) → Leaves run (bytes ++ more) (script_lines (unended bytes ++ more)) [] sink sink' keeper keeper'
 
--- the words are taken, and there is a script with this property. Where the source tells its bytes, it is these.
-abbrev pub OfRun : Option RunWords → SourceView → (RunWords → List ℕ → Type 0) → Type 0
+-- the words ask for a run, and there is a script with this property. Where the source tells its bytes, it is these.
+abbrev pub OfRun : Option Command → SourceView → (Command → List ℕ → Type 0) → Type 0
 OfRun words source P = IsSomeAnd words (λ run. OfScript source.left (P run))
 
--- a run that began and didn't reach the end of its script, memory apart
+-- the words ask for a run that reached the end of its script, or for a report that was printed
+abbrev pub IsCarriedOut : Option Command → Option Command → Status → SourceView → SinkView → SinkView → KeeperView → KeeperView → Type 0
+IsCarriedOut run reading status source sink sink' keeper keeper' =
+    OfRun run source (λ command script. LeavesWhole command script sink sink' keeper keeper') ⊎ IsSomeAnd reading (λ command. PrintsWhole command status sink sink' keeper keeper')
+
+-- the words ask for a run or for a report, of which the first part was written
+abbrev pub IsCutShort : Option Command → Option Command → SourceView → SinkView → SinkView → KeeperView → KeeperView → Type 0
+IsCutShort run reading source sink sink' keeper keeper' =
+    OfRun run source (λ command script. LeavesFront command script sink sink' keeper keeper') ⊎ IsSomeAnd reading (λ command. PrintsFront command sink sink' keeper keeper')
+
+-- what began and wasn't carried out, memory apart
 abbrev pub is_cut_short : Status → Bool
 is_cut_short ReadFault = true
 is_cut_short WriteFault = true
 is_cut_short TooLong = true
 is_cut_short _ = false
 
--- no run began, memory apart
+-- the end of a command that met no fault: of a run its script's end, or that it was too long; of a report that it was printed, or that no such namespace is there; and want of memory
+abbrev pub is_complete : Status → Bool
+is_complete Done = true
+is_complete NoMemory = true
+is_complete Unsettled = true
+is_complete TooLong = true
+is_complete NotFound = true
+is_complete _ = false
+
+-- nothing was begun, memory apart
 abbrev pub has_not_begun : Status → Bool
 has_not_begun Usage = true
 has_not_begun KeeperFault = true
@@ -116,7 +137,7 @@ has_not_begun Damaged = true
 has_not_begun _ = false
 
 -- nothing was read, written or committed. The keeper has no place yet, or the path of the words
-pub record IsUnbegun {S W : Type 0} (words : Option RunWords) (source source' : S) (sink sink' : W) (keeper keeper' : KeeperView) : Type 0 where
+pub record IsUnbegun {S W : Type 0} (words : Option Command) (source source' : S) (sink sink' : W) (keeper keeper' : KeeperView) : Type 0 where
   pub unread : source' ≡ source
   pub unwritten : sink' ≡ sink
   pub same : IfSome keeper.kept (λ held. keeper'.kept ≡ Some held)
@@ -132,4 +153,6 @@ code_of_status WriteFault = 3
 code_of_status KeeperFault = 4
 code_of_status Damaged = 5
 code_of_status NoMemory = 6
+code_of_status Unsettled = 8
 code_of_status TooLong = 9
+code_of_status NotFound = 10

@@ -1,25 +1,31 @@
-//! `hnc`: the control service of hierarchical namespaces, as a program over scripts of requests.
+//! `hnc`: the control service of hierarchical namespaces, as a program over scripts of requests, with reports on what they leave.
 #![tactic(auto)]
 
+mod printing;
 #[cfg(test)]
 mod tests;
 mod top;
 
-ghost use Rattle.std.specs.Prelude.{◌≡◌, true, [], map, IsSomeAnd, string_bytes};
-ghost use Rattle.hx_words.specs.Words.{run_of};
+ghost use Rattle.std.specs.Prelude.{◌≡◌, false, [], None, Ok, map, IsSomeAnd, string_bytes};
+ghost use Rattle.hx_words.specs.Words.{command_of, is_reading, reading_of};
 
-use crate::top::{Ended, Status, top};
-use hx_ports::{Meta, StdSink, StdSource, StreamFault, SureKeeper};
+use crate::top::{DamagedRow, Ended, Status, top};
+use hx_object::{List, NoMemory};
+use hx_ports::{Keeper, Meta, StdSink, StdSource, StreamFault, SureKeeper};
 use hx_sqlite::{SqlFault, SqlKeeper};
-use hx_words::{WordsFault, first_untaken, read_words};
+use hx_words::{Command, WordsFault, first_untaken, read_words};
 use std::alloc::Global;
 use std::hash::RandomState;
 use std::process::ExitCode;
 use std::{env, io};
 
-/// How the command is used.
-const USAGE: &str =
-    "usage: hnc run [--db PATH] [--excluded-namespace NAMES] [--allow-skip] <SCRIPT";
+/// How the commands are used.
+const USAGE: &str = "\
+usage: hnc run [--db PATH] [--excluded-namespace NAMES] [--allow-skip] <SCRIPT
+       hnc tree [--db PATH] [--excluded-namespace NAMES]
+       hnc describe NAMESPACE [--db PATH] [--excluded-namespace NAMES]
+       hnc quota [--db PATH]
+       hnc audit [--db PATH] [--excluded-namespace NAMES]";
 
 /// What a keeper without rows says of itself.
 const NO_ROWS: Meta = Meta {
@@ -34,44 +40,78 @@ fn main(rt: HostRuntime) -> ExitCode {
         Err(error) => return exit_without_words(&rt, error.kind()),
     };
     match RandomState::new(&rt) {
-        Ok(keys) => exit_with(&rt, words.as_slice(), run(&rt, words.as_slice(), keys)),
+        Ok(keys) => exit_with(&rt, words.as_slice(), &run(&rt, words.as_slice(), keys)),
         Err(error) => exit_without_keys(&rt, words.as_slice(), error.kind()),
     }
 }
 
 /// How a run over the real ports ended, and why a port failed if it did.
-#[derive(Clone, Copy)]
+#[derive(Drop)]
 struct Outcome {
     status: Status,
-    damaged_row: Option<u64>,
+    damaged: Option<DamagedRow>,
     database_fault: Option<SqlFault>,
     close_fault: Option<SqlFault>,
     read_fault: Option<StreamFault>,
     write_fault: Option<StreamFault>,
 }
 
+/// How the rows of a command are had.
+#[derive(Clone, Copy, PartialEq, Eq)]
+enum Access {
+    /// In the program's own memory.
+    Memory,
+    /// In a database that is read.
+    Read,
+    /// In a database that is read and written.
+    Written,
+}
+
 /// Runs the command over standard input and output.
 fn run(rt: &HostRuntime, words: &[String], keys: RandomState) -> Outcome {
-    if names_no_database(rt.alloc(), words) {
-        run_in_memory(rt, words, keys)
-    } else {
-        run_over_database(rt, words, keys)
+    match access_of_words(rt.alloc(), words) {
+        Ok(Access::Memory) => run_in_memory(rt, words, keys),
+        Ok(Access::Read) => run_over(rt, words, keys, SqlKeeper::for_reading(rt)),
+        Ok(Access::Written) => run_over_written(rt, words, keys),
+        Err(NoMemory) => Outcome {
+            status: Status::NoMemory,
+            damaged: None,
+            database_fault: None,
+            close_fault: None,
+            read_fault: None,
+            write_fault: None,
+        },
     }
 }
 
-/// Whether the words are taken and name no database.
-fn names_no_database(alloc: Global, words: &[String]) -> bool
-    ensures { result ≡ true → IsSomeAnd (run_of (map string_bytes words.now)) (λ run. run.db ≡ []) }
+/// How the rows are had of what the words ask for. Words that aren't taken open nothing.
+fn access_of_words(alloc: Global, words: &[String]) -> Result<Access, NoMemory>
+    ensures memory { result ≡ Ok Access.Memory → IsSomeAnd (command_of (map string_bytes words.now)) (λ command. command.db ≡ []) }
+    ensures written { result ≡ Ok Access.Written → reading_of (map string_bytes words.now) ≡ None }
 {
     match read_words(alloc, words) {
-        Ok(run) => run.db.as_str().is_empty(),
-        Err(_fault) => false,
+        Ok(command) => Ok(access_of(&command)),
+        Err(WordsFault::Usage) => Ok(Access::Written),
+        Err(WordsFault::NoMemory) => Err(NoMemory),
+    }
+}
+
+fn access_of(command: &Command) -> Access
+    ensures memory { result ≡ Access.Memory → command.now.db ≡ [] }
+    ensures written { result ≡ Access.Written → is_reading command.now.task ≡ false }
+{
+    if command.db.as_str().is_empty() {
+        Access::Memory
+    } else if command.is_reading() {
+        Access::Read
+    } else {
+        Access::Written
     }
 }
 
 /// Runs the command with the rows in a map of the program's own memory, which is gone with it.
 fn run_in_memory(rt: &HostRuntime, words: &[String], keys: RandomState) -> Outcome
-    requires { IsSomeAnd (run_of (map string_bytes words.now)) (λ run. run.db ≡ []) }
+    requires { IsSomeAnd (command_of (map string_bytes words.now)) (λ command. command.db ≡ []) }
 {
     let mut source = StdSource::new(rt.stdin());
     let mut sink = StdSink::new(rt.stdout());
@@ -79,7 +119,7 @@ fn run_in_memory(rt: &HostRuntime, words: &[String], keys: RandomState) -> Outco
     let ended = top(rt.alloc(), words, &mut source, &mut sink, keeper, keys);
     Outcome {
         status: ended.status,
-        damaged_row: ended.damaged_row,
+        damaged: ended.damaged,
         database_fault: None,
         close_fault: None,
         read_fault: source.last_fault(),
@@ -87,19 +127,27 @@ fn run_in_memory(rt: &HostRuntime, words: &[String], keys: RandomState) -> Outco
     }
 }
 
-/// Runs the command with the rows in a database.
-fn run_over_database(rt: &HostRuntime, words: &[String], keys: RandomState) -> Outcome {
+/// Runs the command with the rows in a database that it may write. No command that only reads gets one.
+fn run_over_written(rt: &HostRuntime, words: &[String], keys: RandomState) -> Outcome
+    requires { reading_of (map string_bytes words.now) ≡ None }
+{
+    run_over(rt, words, keys, SqlKeeper::new(rt))
+}
+
+/// Runs the command over a keeper of a database.
+fn run_over(rt: &HostRuntime, words: &[String], keys: RandomState, keeper: SqlKeeper) -> Outcome
+    requires { (⟦<SqlKeeper as Keeper>⟧.shown keeper).place ≡ None }
+{
     let mut source = StdSource::new(rt.stdin());
     let mut sink = StdSink::new(rt.stdout());
-    let keeper = SqlKeeper::new(rt);
     let Ended {
         status,
-        damaged_row,
+        damaged,
         keeper,
     } = top(rt.alloc(), words, &mut source, &mut sink, keeper, keys);
     Outcome {
         status,
-        damaged_row,
+        damaged,
         database_fault: keeper.last_fault(),
         close_fault: close(status, keeper),
         read_fault: source.last_fault(),
@@ -125,7 +173,7 @@ fn words_of(rt: &(impl env::Env + AllocGlobal)) -> io::Result<Vec<String>> {
 }
 
 /// Says on standard error how a run ended, unless it is `Done`, and where the database wasn't closed, and ends with the status's number.
-fn exit_with(rt: &HostRuntime, words: &[String], outcome: Outcome) -> ExitCode {
+fn exit_with(rt: &HostRuntime, words: &[String], outcome: &Outcome) -> ExitCode {
     let _ = match outcome.close_fault {
         Some(fault) => eprintln!(rt;
             "hnc: the log could not be brought into the database file: {fault}: keep the two together"
@@ -137,7 +185,7 @@ fn exit_with(rt: &HostRuntime, words: &[String], outcome: Outcome) -> ExitCode {
         Status::ReadFault => exit_with_fault(rt, Status::ReadFault, outcome.read_fault),
         Status::WriteFault => exit_with_fault(rt, Status::WriteFault, outcome.write_fault),
         Status::KeeperFault => exit_with_keeper_fault(rt, outcome.database_fault),
-        Status::Damaged => exit_with_damage(rt, outcome.damaged_row),
+        Status::Damaged => exit_with_damage(rt, outcome.damaged.as_ref()),
         status => exit_with_status(rt, status),
     }
 }
@@ -160,14 +208,25 @@ fn exit_with_keeper_fault(rt: &HostRuntime, fault: Option<SqlFault>) -> ExitCode
     ExitCode::from(status.code())
 }
 
-/// Says which stored row is damaged first.
-fn exit_with_damage(rt: &HostRuntime, row: Option<u64>) -> ExitCode {
+/// Says which stored row is damaged first, its key, and what is damaged of it.
+fn exit_with_damage(rt: &HostRuntime, damaged: Option<&DamagedRow>) -> ExitCode {
     let status = Status::Damaged;
-    let _ = match row {
-        Some(0) | None => eprintln!(rt; "hnc: {status:?}: the schema or the version of the rows"),
-        Some(row) => eprintln!(rt; "hnc: {status:?}: row {row} in the order of keys"),
+    let _ = match damaged {
+        Some(DamagedRow { row, damage, key }) if *row > 0 => match text_of(key.as_ref()) {
+            Some(key) => eprintln!(rt;
+                "hnc: {status:?}: row {row} in the order of keys, {key:?}: {damage}"
+            ),
+            None => eprintln!(rt; "hnc: {status:?}: row {row} in the order of keys: {damage}"),
+        },
+        Some(DamagedRow { damage, .. }) => eprintln!(rt; "hnc: {status:?}: {damage}"),
+        None => eprintln!(rt; "hnc: {status:?}"),
     };
     ExitCode::from(status.code())
+}
+
+/// A key as a text, where it is one.
+fn text_of(key: Option<&List<u8>>) -> Option<&str> {
+    str::from_utf8(key?.as_slice()).ok()
 }
 
 /// Where the words aren't had: a word that isn't UTF-8 isn't taken, and all else is want of memory.

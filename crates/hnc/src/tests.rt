@@ -12,6 +12,8 @@ use std::mem;
 use std::test::Fail;
 
 mod ample;
+mod damage;
+mod reports;
 
 // What the ports of a run do.
 #[derive(Drop)]
@@ -121,7 +123,7 @@ fn left_by(alloc: Global, ended: &mut Ended<MemKeeper>, sink: &MemSink) -> Resul
     let rows = ended.keeper.rows()?;
     Ok(Left {
         status: ended.status,
-        damaged_row: ended.damaged_row,
+        damaged_row: ended.damaged.as_ref().map(|damaged| damaged.row),
         answers,
         rows,
         version: ended.keeper.version(),
@@ -619,33 +621,6 @@ fn a_run_begins(rt: HostRuntime) -> Result<(), Fail> {
         setting.failing_keeper = fails;
         let gives = gives_acme(rt.alloc(), &setting)?;
         assert!(rt; gives, "version {version}");
-    }
-    Ok(())
-}
-
-// A damaged row behind that of acme.
-const DAMAGED: [(&str, u64); 3] = [("01//b", 1), ("01//acme/", 1), ("02//acme", 1)];
-
-// Whether a run on acme and that row answers nothing, since the second row is damaged.
-fn is_damaged(alloc: Global, setting: &Setting, key: &str, version: u64) -> Result<bool, NoMemory> {
-    let mut rows = acme(alloc)?;
-    rows.push(row(alloc, key, version, ACME)?)?;
-    let left = run_on(alloc, rows, "run", b"GET /x\n", setting)?;
-    Ok((left.status, left.damaged_row) == (Status::Damaged, Some(2)) && left.answers.is_empty())
-}
-
-#[test]
-fn a_later_row_is_damaged(rt: HostRuntime) -> Result<(), Fail> {
-    let random = RandomState::new(&rt)?;
-    for (key, version) in DAMAGED {
-        let mut setting = plain(random);
-        setting.meta = Meta {
-            schema: 2,
-            version: 1,
-            rows: 2,
-        };
-        let is_damaged = is_damaged(rt.alloc(), &setting, key, version)?;
-        assert!(rt; is_damaged, "{key}");
     }
     Ok(())
 }

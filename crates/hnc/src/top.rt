@@ -2,22 +2,25 @@
 ghost use Rattle.std.specs.Prelude.{ℕ, ◌≡◌, ◌≢◌, ◌≤◌, ◌<◌, ◌⊎◌, true, false, [], None, Some, IfSome, IsSomeAnd, map, length, string_bytes};
 ghost use Rattle.std.specs.Io.KnownBytes.{IsAtEnd};
 ghost use Rattle.hx_ports.specs.Causes.{Rose};
-ghost use Rattle.hx_core.specs.Starting.{IsDamagedAt, IsUndamaged};
-ghost use Rattle.hnc.specs.Headline.{LeavesWhole, LeavesFront, LeavesRead, OfRun, IsUnbegun, is_cut_short, has_not_begun, code_of_status};
-ghost use Rattle.hx_words.specs.Words.{run_of};
+ghost use Rattle.hx_core.specs.Starting.{IsUndamaged, Tells};
+ghost use Rattle.hnc.specs.Headline.{LeavesFront, LeavesRead, OfRun, IsCarriedOut, IsCutShort, IsUnbegun, is_complete, is_cut_short, has_not_begun, code_of_status};
+ghost use Rattle.hnc.specs.Reports.{PrintsWhole};
+ghost use Rattle.hx_words.specs.Words.{command_of, reading_of, run_of};
 ghost use Rattle.hx_script.specs.Running.{IsCalm, most_bytes};
 
-use hx_core::{Cluster, StartFault, Unstarted};
+use crate::printing::print;
+use hx_core::{Cluster, Damage, StartFault, Unstarted};
+use hx_object::List;
 use hx_ports::{KeepFault, Keeper, Sink, Source};
 use hx_script::{RunEnd, run_script};
-use hx_words::{RunWords, WordsFault, read_words};
+use hx_words::{Command, Task, WordsFault, read_words};
 use std::alloc::Global;
 use std::hash::RandomState;
 
 /// How a command ended. The discriminant is the exit status of the program.
 #[derive(Clone, Copy, Debug, PartialEq, Eq)]
 pub enum Status {
-    /// The command was carried out: the script was read to its end, and each line answered.
+    /// The command was carried out: the script was read to its end, and each line answered; or the report was printed.
     Done = 0,
     /// The words aren't taken.
     Usage = 1,
@@ -29,8 +32,12 @@ pub enum Status {
     /// What the keeper holds can't be started from.
     Damaged = 5,
     NoMemory = 6,
+    /// Some key wants a write: of `audit` alone.
+    Unsettled = 8,
     /// The script has more than 2^40 bytes.
     TooLong = 9,
+    /// The namespace that is to be described isn't there.
+    NotFound = 10,
 }
 
 impl Status {
@@ -46,12 +53,22 @@ impl Status {
 #[derive(Drop)]
 pub struct Ended<K> {
     pub status: Status,
-    /// Where the status is `Damaged`, the first damaged row: counted from 1, or 0 for what the keeper says of itself.
-    pub damaged_row: Option<u64>,
+    /// Where the status is `Damaged`, the first damaged row.
+    pub damaged: Option<DamagedRow>,
     pub keeper: K,
 }
 
-/// Does all that the program does: reads the script of `run` and answers its lines, over a keeper of the stored rows, which takes its place at the path that the words give, or in memory.
+/// A damaged row of a keeper.
+#[derive(Drop)]
+pub struct DamagedRow {
+    /// Its number in the order of keys, counted from 1, or 0 for what the keeper says of itself.
+    pub row: u64,
+    pub damage: Damage,
+    /// Its key, where it is there.
+    pub key: Option<List<u8>>,
+}
+
+/// Does all that the program does, over a keeper of the stored rows, which takes its place at the path that the words give, or in memory: reads the script of `run` and answers its lines, or prints a report on the rows.
 ///
 /// The keys hash what is held in memory, so that names can't be chosen to collide. Nothing that is answered or stored depends on them.
 pub fn top<S: Source, W: Sink, K: Keeper>(
@@ -64,61 +81,75 @@ pub fn top<S: Source, W: Sink, K: Keeper>(
 ) -> Ended<K>
     requires { (K.shown keeper).place ≡ None }
 
-    // Answers and stored objects are a run of the machine.
-    ensures done { result.status ≡ Status.Done → OfRun (run_of (map string_bytes words.now)) (S.shown source.old) (λ run script. LeavesWhole run script (W.shown sink.old) (W.shown sink.new) (K.shown keeper) (K.shown result.keeper)) }
-    ensures cut { is_cut_short result.status ≡ true → OfRun (run_of (map string_bytes words.now)) (S.shown source.old) (λ run script. LeavesFront run script (W.shown sink.old) (W.shown sink.new) (K.shown keeper) (K.shown result.keeper)) }
-    ensures unbegun { has_not_begun result.status ≡ true → IsUnbegun (run_of (map string_bytes words.now)) source.old source.new sink.old sink.new (K.shown keeper) (K.shown result.keeper) }
-    ensures memory { result.status ≡ Status.NoMemory → IsUnbegun (run_of (map string_bytes words.now)) source.old source.new sink.old sink.new (K.shown keeper) (K.shown result.keeper) ⊎ OfRun (run_of (map string_bytes words.now)) (S.shown source.old) (λ run script. LeavesFront run script (W.shown sink.old) (W.shown sink.new) (K.shown keeper) (K.shown result.keeper)) }
-
-    ensures unread { result.status ≡ Status.ReadFault → IsSomeAnd (run_of (map string_bytes words.now)) (λ run. LeavesRead run (S.shown source.old) (S.shown source.new) (W.shown sink.old) (W.shown sink.new) (K.shown keeper) (K.shown result.keeper)) }
+    // Answers and stored objects are a run of the machine. A report is one on the rows, which stay.
+    ensures done { result.status ≡ Status.Done → IsCarriedOut (run_of (map string_bytes words.now)) (reading_of (map string_bytes words.now)) Status.Done (S.shown source.old) (W.shown sink.old) (W.shown sink.new) (K.shown keeper) (K.shown result.keeper) }
+    ensures cut { is_cut_short result.status ≡ true → IsCutShort (run_of (map string_bytes words.now)) (reading_of (map string_bytes words.now)) (S.shown source.old) (W.shown sink.old) (W.shown sink.new) (K.shown keeper) (K.shown result.keeper) }
+    ensures unbegun { has_not_begun result.status ≡ true → IsUnbegun (command_of (map string_bytes words.now)) source.old source.new sink.old sink.new (K.shown keeper) (K.shown result.keeper) }
+    ensures memory { result.status ≡ Status.NoMemory → IsUnbegun (command_of (map string_bytes words.now)) source.old source.new sink.old sink.new (K.shown keeper) (K.shown result.keeper) ⊎ OfRun (run_of (map string_bytes words.now)) (S.shown source.old) (λ command script. LeavesFront command script (W.shown sink.old) (W.shown sink.new) (K.shown keeper) (K.shown result.keeper)) }
+    ensures unread { result.status ≡ Status.ReadFault → IsSomeAnd (run_of (map string_bytes words.now)) (λ command. LeavesRead command (S.shown source.old) (S.shown source.new) (W.shown sink.old) (W.shown sink.new) (K.shown keeper) (K.shown result.keeper)) }
+    ensures unsettled { result.status ≡ Status.Unsettled → IsSomeAnd (reading_of (map string_bytes words.now)) (λ command. PrintsWhole command Status.Unsettled (W.shown sink.old) (W.shown sink.new) (K.shown keeper) (K.shown result.keeper)) }
+    ensures not_found { result.status ≡ Status.NotFound → IsSomeAnd (reading_of (map string_bytes words.now)) (λ command. PrintsWhole command Status.NotFound (W.shown sink.old) (W.shown sink.new) (K.shown keeper) (K.shown result.keeper)) }
 
     // Each status has its cause; want of memory alone is free.
-    ensures usage { result.status ≡ Status.Usage → run_of (map string_bytes words.now) ≡ None }
-    ensures untaken { run_of (map string_bytes words.now) ≡ None → (result.status ≡ Status.Usage) ⊎ (result.status ≡ Status.NoMemory) }
+    ensures usage { result.status ≡ Status.Usage → command_of (map string_bytes words.now) ≡ None }
+    ensures untaken { command_of (map string_bytes words.now) ≡ None → (result.status ≡ Status.Usage) ⊎ (result.status ≡ Status.NoMemory) }
     ensures read_fault { result.status ≡ Status.ReadFault → Rose (S.shown source.old).faults (S.shown source.new).faults }
     ensures write_fault { result.status ≡ Status.WriteFault → Rose (W.shown sink.old).faults (W.shown sink.new).faults ⊎ Rose (W.shown sink.old).stalls (W.shown sink.new).stalls }
     ensures keeper_fault { result.status ≡ Status.KeeperFault → Rose (K.shown keeper).faults (K.shown result.keeper).faults }
-    ensures damaged { result.status ≡ Status.Damaged → IsSomeAnd result.damaged_row (λ row. IfSome (K.shown keeper).kept (λ held. IsDamagedAt held row)) }
-    ensures whole { result.status ≢ Status.Damaged → result.damaged_row ≡ None }
-    ensures too_long { result.status ≡ Status.TooLong → OfRun (run_of (map string_bytes words.now)) (S.shown source.old) (λ run script. (most_bytes < length script) × LeavesFront run script (W.shown sink.old) (W.shown sink.new) (K.shown keeper) (K.shown result.keeper)) }
+    ensures damaged { result.status ≡ Status.Damaged → IsSomeAnd result.damaged (λ damaged. IfSome (K.shown keeper).kept (λ held. Tells held damaged.row damaged.damage damaged.key)) }
+    ensures whole { result.status ≢ Status.Damaged → result.damaged ≡ None }
+    ensures too_long { result.status ≡ Status.TooLong → OfRun (run_of (map string_bytes words.now)) (S.shown source.old) (λ command script. (most_bytes < length script) × LeavesFront command script (W.shown sink.old) (W.shown sink.new) (K.shown keeper) (K.shown result.keeper)) }
     ensures unasked { result.status ≡ Status.Usage → result.keeper ≡ keeper }
     ensures read_calm { result.status ≢ Status.ReadFault → (S.shown source.new).faults ≡ (S.shown source.old).faults }
     ensures write_calm { result.status ≢ Status.WriteFault → IsCalm (W.shown sink.old) (W.shown sink.new) }
-    ensures end { result.status ≡ Status.Done → IsAtEnd (S.shown source.new).left }
-    ensures complete { run_of (map string_bytes words.now) ≢ None
+    ensures end { result.status ≡ Status.Done → run_of (map string_bytes words.now) ≢ None → IsAtEnd (S.shown source.new).left }
+    ensures unscripted { reading_of (map string_bytes words.now) ≢ None → source.new ≡ source.old }
+    ensures complete { command_of (map string_bytes words.now) ≢ None
         → (Rose (S.shown source.old).faults (S.shown source.new).faults → ⊥)
         → (Rose (W.shown sink.old).faults (W.shown sink.new).faults ⊎ Rose (W.shown sink.old).stalls (W.shown sink.new).stalls → ⊥)
         → (Rose (K.shown keeper).faults (K.shown result.keeper).faults → ⊥)
         → IsSomeAnd (K.shown keeper).kept IsUndamaged
-        → (result.status ≡ Status.Done) ⊎ (result.status ≡ Status.TooLong) ⊎ (result.status ≡ Status.NoMemory) }
+        → is_complete result.status ≡ true }
 {
-    let RunWords { db, config } = match read_words(alloc, words) {
-        Ok(run) => run,
+    let Command { task, db, config } = match read_words(alloc, words) {
+        Ok(command) => command,
         Err(fault) => return end_with(status_of_words(fault), keeper),
     };
     if let Err(fault) = keeper.attach(db.as_str()) {
         return end_with(status_of_keeper(fault), keeper);
     }
     match Cluster::start(alloc, keeper, config, keys) {
-        Err(Unstarted { fault, keeper }) => Ended {
+        Err(
+            Unstarted {
+                fault,
+                damaged_key,
+                keeper,
+            },
+        ) => Ended {
             status: status_of_start(fault),
-            damaged_row: damaged_row_of(fault),
+            damaged: damaged_row_of(fault, damaged_key),
             keeper,
         },
-        Ok(mut cluster) => {
-            let end = run_script(alloc, source, sink, &mut cluster);
-            end_with(status_of_end(end), cluster.close())
-        }
+        Ok(mut cluster) => match &task {
+            Task::Run => {
+                let end = run_script(alloc, source, sink, &mut cluster);
+                end_with(status_of_end(end), cluster.close())
+            }
+            Task::Print(report) => {
+                let status = print(alloc, &cluster, report, sink);
+                end_with(status, cluster.close())
+            }
+        },
     }
 }
 
 /// The end of a command that found no damaged row.
 fn end_with<K>(status: Status, keeper: K) -> Ended<K>
-    ensures { (result.status ≡ status) × (result.keeper ≡ keeper) × (result.damaged_row ≡ None) }
+    ensures { (result.status ≡ status) × (result.keeper ≡ keeper) × (result.damaged ≡ None) }
 {
     Ended {
         status,
-        damaged_row: None,
+        damaged: None,
         keeper,
     }
 }
@@ -150,9 +181,9 @@ fn status_of_keeper(fault: KeepFault) -> Status
 fn status_of_start(fault: StartFault) -> Status
     ensures unbegun { (result ≡ Status.KeeperFault) ⊎ (result ≡ Status.Damaged) ⊎ (result ≡ Status.NoMemory) }
     ensures keeper_fault { result ≡ Status.KeeperFault → fault ≡ StartFault.KeeperFault }
-    ensures damaged { result ≡ Status.Damaged → (row : ℕ) × (fault ≡ StartFault.Damaged row) }
+    ensures damaged { result ≡ Status.Damaged → (row : ℕ) × ((damage : Damage) × (fault ≡ StartFault.Damaged row damage)) }
     ensures memory { result ≡ Status.NoMemory → fault ≡ StartFault.NoMemory }
-    ensures told { (row : ℕ) → fault ≡ StartFault.Damaged row → result ≡ Status.Damaged }
+    ensures told { (row : ℕ) (damage : Damage) → fault ≡ StartFault.Damaged row damage → result ≡ Status.Damaged }
 {
     match fault {
         StartFault::KeeperFault => Status::KeeperFault,
@@ -162,12 +193,12 @@ fn status_of_start(fault: StartFault) -> Status
 }
 
 /// The row that a start found damaged.
-fn damaged_row_of(fault: StartFault) -> Option<u64>
-    ensures damaged { (row : ℕ) → fault ≡ StartFault.Damaged row → result ≡ Some row }
-    ensures whole { ((row : ℕ) → fault ≡ StartFault.Damaged row → ⊥) → result ≡ None }
+fn damaged_row_of(fault: StartFault, key: Option<List<u8>>) -> Option<DamagedRow>
+    ensures damaged { (row : ℕ) (damage : Damage) → fault ≡ StartFault.Damaged row damage → result ≡ Some (record { row = row; damage = damage; key = key }) }
+    ensures whole { ((row : ℕ) (damage : Damage) → fault ≡ StartFault.Damaged row damage → ⊥) → result ≡ None }
 {
     match fault {
-        StartFault::Damaged { row } => Some(row),
+        StartFault::Damaged { row, damage } => Some(DamagedRow { row, damage, key }),
         _ => None,
     }
 }
@@ -183,6 +214,7 @@ fn status_of_end(end: RunEnd) -> Status
     ensures writes { end ≡ RunEnd.WriteFault → result ≡ Status.WriteFault }
     ensures too_long { result ≡ Status.TooLong → end ≡ RunEnd.TooLong }
     ensures memory { result ≡ Status.NoMemory → end ≡ RunEnd.NoMemory }
+    ensures scripted { (result ≢ Status.Unsettled) × (result ≢ Status.NotFound) }
 {
     match end {
         RunEnd::Done => Status::Done,

@@ -31,7 +31,13 @@ pub fn answers(
         allow_skip: false,
     };
     match Cluster::start(alloc, keeper, config, keys) {
-        Err(Unstarted { fault: _, keeper }) => {
+        Err(
+            Unstarted {
+                fault: _,
+                damaged_key: _,
+                keeper,
+            },
+        ) => {
             drop(keeper);
             Err(AllocError)
         }
