@@ -1,0 +1,9 @@
+pub mod Pieces
+pub mod Printing
+pub mod Reading
+pub mod Spans
+pub mod Searching
+pub mod Numbers
+pub mod Streams
+pub mod Continuing
+pub mod Rows

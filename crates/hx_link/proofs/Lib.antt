@@ -1,0 +1,3 @@
+pub mod Running
+pub mod Pieces
+pub mod Counts

@@ -1,0 +1,4 @@
+pub mod Exchanges
+pub mod Running
+pub mod Reading
+pub mod Inside
