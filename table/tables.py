@@ -18,6 +18,7 @@ KINDS = {
     "pod": ("12", "Pod", "v1"),
 }
 COPIED = {"role": "roles", "configmap": "configmaps"}
+COUNTED = {"role": ["count/roles.rbac.authorization.k8s.io"], "configmap": ["count/configmaps", "configmaps"]}
 OWNER = "hnc.x-k8s.io/subnamespace-of"
 ORIGIN = "hnc.x-k8s.io/inherited-from"
 INCLUDED = "hnc.x-k8s.io/included-namespace"
@@ -198,7 +199,7 @@ class Store:
         """What an object is charged, in thousandths."""
         kind, body = place[0], self.objects[place]
         if kind != "pod":
-            return 1000 if resource in (f"count/{kind}s", f"{kind}s") and self.origin(place) is None else 0
+            return 1000 if resource in COUNTED.get(kind, ()) and self.origin(place) is None else 0
         if resource == "count/pods":
             return 1000
         if body.get("status", {}).get("phase") == "Succeeded":

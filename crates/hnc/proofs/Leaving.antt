@@ -31,7 +31,7 @@ use Rattle.hx_model.proofs.Tearing.{holds_after_fault}
 use Rattle.hx_model.proofs.Beginning.{excess_begins_only_there, no_excess_by_fault}
 use Rattle.hx_model.proofs.Knowing.{speaks_of_keys_alone}
 use Rattle.hnc.proofs.Quiet.{quiet_settled}
-use Rattle.hnc.specs.Headline.{HoldsBetween, Runs, Leaves, LeavesWhole, LeavesFront, LeavesRead, OfRun, has_not_begun, is_complete, is_cut_short}
+use Rattle.hnc.specs.Headline.{HoldsBetween, Runs, Leaves, LeavesWhole, LeavesFront, LeavesRead, OfRun, IsUnbegun, has_not_begun, is_complete, is_cut_short}
 use Rattle.hnc.specs.Reports.{Prints, PrintsWhole, PrintsFront, Says, SaysFront, SaysOf, is_told}
 
 -- a cluster was started on a keeper that took its place at the path of the words
@@ -223,6 +223,36 @@ pub cut_by_fault : (status : Status) → (is_told status ≡ true) ⊎ ((status 
 cut_by_fault status (inl told) cut = absurd (never_cut status told cut)
 cut_by_fault status (inr (inl is)) cut = is
 cut_by_fault status (inr (inr is)) cut = absurd (true≢false (sym cut ∙ ap is_cut_short is))
+
+told_complete : (status : Status) → is_told status ≡ true → is_complete status ≡ true
+told_complete ending.Done told = refl
+told_complete ending.Usage told = absurd (true≢false (sym told))
+told_complete ending.ReadFault told = absurd (true≢false (sym told))
+told_complete ending.WriteFault told = absurd (true≢false (sym told))
+told_complete ending.KeeperFault told = absurd (true≢false (sym told))
+told_complete ending.Damaged told = absurd (true≢false (sym told))
+told_complete ending.NoMemory told = refl
+told_complete ending.Unsettled told = refl
+told_complete ending.TooLong told = refl
+told_complete ending.NotFound told = refl
+
+-- a report that met no fault of writing was printed, or wanted memory
+pub report_ends : (status : Status) (Write : Type 0) → (is_told status ≡ true) ⊎ ((status ≡ ending.WriteFault) ⊎ (status ≡ ending.NoMemory)) → (status ≡ ending.WriteFault → Write) → (Write → ⊥) → is_complete status ≡ true
+report_ends status Write (inl told) write unwritten = told_complete status told
+report_ends status Write (inr (inl is)) write unwritten = absurd (unwritten (write is))
+report_ends status Write (inr (inr is)) write unwritten = ap is_complete is
+
+-- one for which memory was wanting wrote nothing
+pub nothing_printed : {S W : Type 0} (words : Option Command) (command : Command) (source : S) (sink sink' : W) (keeper keeper' : KeeperView) (a : ClusterView) → words ≡ Some command → Starts command keeper a → keeper' ≡ a.keeper → sink' ≡ sink → IsUnbegun words source source sink sink' keeper keeper'
+nothing_printed words command source sink sink' keeper keeper' a is starts ends unwritten =
+    let Q : Option Command → Type 0 = λ o. IsSomeAnd o (λ c. keeper'.place ≡ Some c.db) in
+    record {
+      unread = refl;
+      unwritten = unwritten;
+      same = subst (λ k. IfSome keeper.kept (λ held. k.kept ≡ Some held)) (sym ends) starts.same;
+      whole = ap (λ k. k.broken) ends ∙ starts.whole;
+      place = inr (subst Q (sym is) (ap (λ k. k.place) ends ∙ starts.place));
+    }
 
 -- a report on a cluster that was started, and is closed as it was
 pub prints_on : (command : Command) (report : Report) (status : Status) (lacking : List ℕ) (sink sink' : SinkView) (keeper keeper' : KeeperView) (a : ClusterView) → Starts command keeper a → command.task ≡ Print report → keeper' ≡ a.keeper → Says report status a.state lacking sink sink' → Prints command status lacking sink sink' keeper keeper'

@@ -1,6 +1,7 @@
-use Rattle.std.proofs.Common.{◌≡◌, ◌∙◌, ◌⊎◌, Some, ap, inl, inr, refl, sym}
-use Rattle.hnc.proofs.Leaving.{Starts, cut_by_fault, ends_unharmed, of_report, of_report-front, of_run-front, of_run-long, of_run-read, of_run-whole, reads_of, runs_of, starts_on, not_done, still_ok, told_as, wants_memory}
+use Rattle.std.proofs.Common.{◌≡◌, ◌∙◌, ◌⊎◌, Some, true, ap, inl, inr, refl, subst, sym}
+use Rattle.hnc.proofs.Leaving.{Starts, cut_by_fault, ends_unharmed, nothing_printed, of_report, of_report-front, of_run-front, of_run-long, of_run-read, of_run-whole, reads_of, report_ends, runs_of, starts_on, not_done, still_ok, told_as, wants_memory}
 use Rattle.hnc.specs.Headline.{is_complete, is_cut_short}
+use Rattle.hnc.specs.declared.top.Status.{Status}
 use Rattle.hnc.specs.declared.top.Status.TheVariants as ending
 use Rattle.hnc.proofs.top.top.Given.{Over}
 use Rattle.hnc.proofs.top.top.Goals as goal
@@ -72,3 +73,36 @@ returns-clause-not_found g c = λ e.
     of_report _ c.in-Ok.command c.in-Print.report ending.NotFound (g.W.Sink.shown c.args.sink.now) (g.W.Sink.shown c.print-status.new.sink) (g.K.Keeper.shown c.args.keeper) (g.K.Keeper.shown c.end_with-in-Print.result.keeper) c.in-Ok-start.cluster
     (reads_of _ c.in-Ok.command _ c.in-Ok.ensures.words c.in-Print.is) (begun_to_read g c) c.in-Print.is (ap g.K.Keeper.shown c.end_with-in-Print.ensures.1 ∙ c.close-in-Print.ensures.keeper)
     (told_as c.in-Print.report c.print-status.result ending.NotFound c.in-Ok-start.cluster.state (g.W.Sink.shown c.args.sink.now) (g.W.Sink.shown c.print-status.new.sink) (sym c.end_with-in-Print.ensures.0 ∙ e) refl c.print-status.ensures.told)
+
+pub returns-in-Run-clause-write_fault : goal.returns-in-Run-clause-write_fault
+returns-in-Run-clause-write_fault g c = λ e. c.run_script-end.ensures.write_fault (c.status_of_end.ensures.write_fault (sym c.end_with-in-Run.ensures.0 ∙ e))
+
+pub returns-in-Run-clause-read_calm : goal.returns-in-Run-clause-read_calm
+returns-in-Run-clause-read_calm g c = λ other. c.run_script-end.ensures.read_calm (λ e. other (c.end_with-in-Run.ensures.0 ∙ c.status_of_end.ensures.reads e))
+
+pub returns-in-Run-clause-write_calm : goal.returns-in-Run-clause-write_calm
+returns-in-Run-clause-write_calm g c = λ other. c.run_script-end.ensures.write_calm (λ e. other (c.end_with-in-Run.ensures.0 ∙ c.status_of_end.ensures.writes e))
+
+pub returns-in-Run-clause-complete : goal.returns-in-Run-clause-complete
+returns-in-Run-clause-complete g c = λ _ unread unwritten _ _.
+    subst (λ (status : Status). is_complete status ≡ true) (sym c.end_with-in-Run.ensures.0)
+    (ends_unharmed c.status_of_end.result _ _ c.status_of_end.ensures.begun (λ e. c.run_script-end.ensures.read_fault (c.status_of_end.ensures.read_fault e)) (λ e. c.run_script-end.ensures.write_fault (c.status_of_end.ensures.write_fault e)) unread unwritten)
+
+pub returns-clause-memory : goal.returns-clause-memory
+returns-clause-memory g c = λ e.
+    inl (nothing_printed _ c.in-Ok.command _ _ _ (g.K.Keeper.shown c.args.keeper) (g.K.Keeper.shown c.end_with-in-Print.result.keeper) c.in-Ok-start.cluster c.in-Ok.ensures.words (begun_to_read g c)
+    (ap g.K.Keeper.shown c.end_with-in-Print.ensures.1 ∙ c.close-in-Print.ensures.keeper) (c.print-status.ensures.unwritten (sym c.end_with-in-Print.ensures.0 ∙ e)))
+
+pub returns-clause-unsettled : goal.returns-clause-unsettled
+returns-clause-unsettled g c = λ e.
+    of_report _ c.in-Ok.command c.in-Print.report ending.Unsettled (g.W.Sink.shown c.args.sink.now) (g.W.Sink.shown c.print-status.new.sink) (g.K.Keeper.shown c.args.keeper) (g.K.Keeper.shown c.end_with-in-Print.result.keeper) c.in-Ok-start.cluster
+    (reads_of _ c.in-Ok.command _ c.in-Ok.ensures.words c.in-Print.is) (begun_to_read g c) c.in-Print.is (ap g.K.Keeper.shown c.end_with-in-Print.ensures.1 ∙ c.close-in-Print.ensures.keeper)
+    (told_as c.in-Print.report c.print-status.result ending.Unsettled c.in-Ok-start.cluster.state (g.W.Sink.shown c.args.sink.now) (g.W.Sink.shown c.print-status.new.sink) (sym c.end_with-in-Print.ensures.0 ∙ e) refl c.print-status.ensures.told)
+
+pub returns-clause-write_fault : goal.returns-clause-write_fault
+returns-clause-write_fault g c = λ e. c.print-status.ensures.write_fault (sym c.end_with-in-Print.ensures.0 ∙ e)
+
+pub returns-clause-complete : goal.returns-clause-complete
+returns-clause-complete g c = λ _ _ unwritten _ _.
+    subst (λ (status : Status). is_complete status ≡ true) (sym c.end_with-in-Print.ensures.0)
+    (report_ends c.print-status.result _ c.print-status.ensures.ends c.print-status.ensures.write_fault unwritten)
