@@ -2,7 +2,7 @@
 use crate::made::{id, namespace, object};
 use hx_model::{Key, Write};
 use hx_object::{Condition, Kind, List, Mode, NoMemory, Object, Payload, Shared, Text};
-use hx_rules::{Brief, Facts, Plan, SharedBrief, plan};
+use hx_reconcile::{Brief, Facts, Plan, SharedBrief, plan};
 use std::alloc::Global;
 use std::test::Fail;
 
@@ -84,7 +84,7 @@ fn report_facts(alloc: Global) -> Result<Facts, NoMemory> {
     let conditions = List::of(Vec::from_array(alloc, [Condition::ParentMissing])?);
     let children = texts(alloc, &["app"])?;
     Ok(Facts::Report {
-        is_calm: true,
+        is_eligible: true,
         hierarchy: None,
         children,
         conditions,

@@ -34,8 +34,8 @@ use Rattle.hx_model.proofs.Climbing.{is_same, same_itself}
 use Rattle.hx_model.proofs.Conflicting.{found_any, any_found, goes_from, unpropagated, reached_any, tail_in, tail_chain, head_out, reaches, overwritten_by, overwritten_now, overwritten_put, other_at, conflict_found, conflict_of}
 use Rattle.hx_model.proofs.Objects.{is_same_id, same_kind, object_at-filter, found_id, found_again}
 use Rattle.hx_model.proofs.Walking.{both, passes_in}
-use Rattle.hx_rules.specs.Reaches.{reaches as reach_has}
-use Rattle.hx_rules.specs.declared.reach.Reach.{Reach}
+use Rattle.hx_reconcile.specs.Reaches.{reaches as reach_has}
+use Rattle.hx_reconcile.specs.declared.reach.Reach.{Reach}
 use Rattle.hx_store.specs.Sources.{HasNoneBeside, indexed_in}
 use Rattle.hx_admit.specs.Conflicting.{with_object, is_source_of, is_source_in, is_alike, goes_as_before, IsReachOf, goes_down, goes_beside, is_reached, is_taken, is_hit, hits}
 

@@ -23,7 +23,7 @@ use Rattle.hx_model.specs.Cases.{same_name}
 use Rattle.hx_model.specs.Conflicts.{makes_conflict, with_written, written_in}
 use Rattle.hx_model.specs.Exceptions.{select_of, tree_select_in, none_of, passes, is_false, select_allows, tree_select_allows}
 use Rattle.hx_model.specs.Forest.{Forest, is_in, names_of, with_parent, tail_of, in_chain, is_there, chain_of, parent_of, subtree_of}
-use Rattle.hx_model.specs.Moves.{mode_at, labels_in, is_going, is_met, up_to, chain_from, is_calm, is_open_above, moved_chain_of, open_chain, open_moved, is_newly_met, overwrites_kind, overwrites_in, copied_kinds}
+use Rattle.hx_model.specs.Moves.{mode_at, labels_in, is_going, is_met, up_to, chain_from, is_eligible, is_open_above, moved_chain_of, open_chain, open_moved, is_newly_met, overwrites_kind, overwrites_in, copied_kinds}
 use Rattle.hx_model.specs.Propagation.{id_in, goes_to, is_propagated, is_source, stays_home}
 use Rattle.hx_model.specs.State.{State, Objects, object_at}
 use Rattle.hx_model.specs.Tree.{forest_of}
@@ -153,32 +153,32 @@ pub ways_apart : (f : Forest) (n : List ℕ) (parent : Option (List ℕ)) (above
     → (m : List ℕ) → is_in m ms ≡ true → is_later m (open_way f n above m) ≡ false
 ways_apart f n parent above ms may is all m has =
     ap (λ names. is_later m (open_way f n names m)) is
-    ∙ by (and_parts (is_in m (names_of f)) (in_chain f m n) (sym (in_below f m n) ∙ sym (ap (is_in m) all) ∙ has)).1 (list_all (is_calm f) (up_to n (chain_of f m)))
+    ∙ by (and_parts (is_in m (names_of f)) (in_chain f m n) (sym (in_below f m n) ∙ sym (ap (is_in m) all) ∙ has)).1 (list_all (is_eligible f) (up_to n (chain_of f m)))
   where
     by : in_chain f m n ≡ true → (b : Bool) → is_later m (if b then moved_chain_of f n parent m else []) ≡ false
     by below true = ap (is_later m) (sym (moved_chain_below f n parent (apart_of f n parent may.apart) m below)) ∙ head_out (with_parent n parent f) m
     by below false = refl
 
 -- where the top doesn't take part, nothing is overwritten below
-pub none_moved : (objects : Objects) (f : Forest) (n : List ℕ) (parent : Option (List ℕ)) (ms : List (List ℕ)) → (is_calm f n && is_open_above f parent) ≡ false
+pub none_moved : (objects : Objects) (f : Forest) (n : List ℕ) (parent : Option (List ℕ)) (ms : List (List ℕ)) → (is_eligible f n && is_open_above f parent) ≡ false
     → false ≡ list_any (λ m. overwrites_in objects m (open_moved f n parent m) (open_chain f m)) ms
 none_moved objects f n parent ms out = sym (none_pass (λ m. overwrites_in objects m (open_moved f n parent m) (open_chain f m)) ms (λ m.
     ap (λ chain. overwrites_in objects m chain (open_chain f m)) (shut m) ∙ no_chain objects m (open_chain f m)))
   where
     shut : (m : List ℕ) → open_moved f n parent m ≡ []
-    shut m = ap (λ b. if (list_all (is_calm f) (up_to n (chain_of f m)) && b) then moved_chain_of f n parent m else []) out ∙ ap (λ b. if b then moved_chain_of f n parent m else []) (and_false (list_all (is_calm f) (up_to n (chain_of f m))))
+    shut m = ap (λ b. if (list_all (is_eligible f) (up_to n (chain_of f m)) && b) then moved_chain_of f n parent m else []) out ∙ ap (λ b. if b then moved_chain_of f n parent m else []) (and_false (list_all (is_eligible f) (up_to n (chain_of f m))))
 
 -- and where it does, the ways up to it tell the chains
-pub all_moved : (objects : Objects) (f : Forest) (n : List ℕ) (parent : Option (List ℕ)) (above : List (List ℕ)) (ms : List (List ℕ)) → is_calm f n ≡ true → is_open_above f parent ≡ true → above ≡ chain_from f parent → ms ≡ subtree_of f n
+pub all_moved : (objects : Objects) (f : Forest) (n : List ℕ) (parent : Option (List ℕ)) (above : List (List ℕ)) (ms : List (List ℕ)) → is_eligible f n ≡ true → is_open_above f parent ≡ true → above ≡ chain_from f parent → ms ≡ subtree_of f n
     → list_any (λ m. overwrites_in objects m (open_way f n above m) (open_chain f m)) ms ≡ list_any (λ m. overwrites_in objects m (open_moved f n parent m) (open_chain f m)) (subtree_of f n)
-all_moved objects f n parent above ms calm opens is all = pass_alike (λ m. overwrites_in objects m (open_way f n above m) (open_chain f m)) (λ m. overwrites_in objects m (open_moved f n parent m) (open_chain f m)) ms (λ m.
+all_moved objects f n parent above ms eligible opens is all = pass_alike (λ m. overwrites_in objects m (open_way f n above m) (open_chain f m)) (λ m. overwrites_in objects m (open_moved f n parent m) (open_chain f m)) ms (λ m.
     ap (λ chain. overwrites_in objects m chain (open_chain f m)) (ap (λ xs. open_way f n xs m) is ∙ sym (way m)))
     ∙ ap (list_any (λ m. overwrites_in objects m (open_moved f n parent m) (open_chain f m))) all
   where
     way : (m : List ℕ) → open_moved f n parent m ≡ open_way f n (chain_from f parent) m
     way m =
-        (λ i. if (list_all (is_calm f) (up_to n (chain_of f m)) && (calm i && opens i)) then moved_chain_of f n parent m else [])
-        ∙ ap (λ b. if b then moved_chain_of f n parent m else []) (and_true (list_all (is_calm f) (up_to n (chain_of f m))))
+        (λ i. if (list_all (is_eligible f) (up_to n (chain_of f m)) && (eligible i && opens i)) then moved_chain_of f n parent m else [])
+        ∙ ap (λ b. if b then moved_chain_of f n parent m else []) (and_true (list_all (is_eligible f) (up_to n (chain_of f m))))
 
 -- ---- the write
 

@@ -29,7 +29,7 @@ use Rattle.hx_select.specs.declared.selector.Selector.{Selector}
 use Rattle.hx_model.specs.declared.ask.Ask.{Ask}
 use Rattle.hx_model.specs.declared.ask.Ask.TheVariants.{Get, List as ListOf, Create, Replace, Delete}
 use Rattle.hx_model.specs.declared.ask.Answer.{Answer}
-use Rattle.hx_model.specs.declared.ask.Answer.TheVariants.{One, Many, Gone}
+use Rattle.hx_model.specs.declared.ask.Answer.TheVariants.{One, Many, Deleted}
 use Rattle.hx_model.specs.declared.key.Write.{Write}
 use Rattle.hx_model.specs.declared.key.Write.TheVariants.{Put}
 use Rattle.hx_model.specs.declared.refusal.Refusal.{Refusal}
@@ -204,6 +204,6 @@ passes_replace s x old next expected skip writes says r apart passes reviewed =
 -- ---- removals
 
 pub passes_delete : (s : State) (id : Id) (old : Object) (skip : Bool) (deletes writes : List Write) (says : Answer) → IsDeletion s id old skip deletes → refusal_of s (Delete id skip) ≡ None
-    → writes ≡ deletes → says ≡ Gone (state_after s deletes).last → Passes s (Delete id skip) writes says
+    → writes ≡ deletes → says ≡ Deleted (state_after s deletes).last → Passes s (Delete id skip) writes says
 passes_delete s id old skip deletes writes says d passes is answers =
     subst (λ ws. Passes s (Delete id skip) ws says) (sym is) (record { passes = passes; changes = sym d.changes; says = sym answers; legal = subst IsLegalAnswer (sym answers) tt })

@@ -54,9 +54,9 @@ within s old x q none limit = by (resource_named limit.resource) refl
 
 pub unrefused : (s : State) (old : Option Object) (x : Object) → may_refuse old x ≡ false → refused_by_quotas s old x ≡ None
 unrefused s old x quiet =
-    let calm : asks_anew old x ≡ false = left (asks_anew old x) (raises old x) quiet in
+    let eligible : asks_anew old x ≡ false = left (asks_anew old x) (raises old x) quiet in
     let none : raises old x ≡ false = right (asks_anew old x) (raises old x) quiet in
-    ap (λ b. or_else (so (b && is_lacking x (quotas_for s x.id.ns)) (Broken Q2)) (first_over s old x (quotas_for s x.id.ns))) calm
+    ap (λ b. or_else (so (b && is_lacking x (quotas_for s x.id.ns)) (Broken Q2)) (first_over s old x (quotas_for s x.id.ns))) eligible
     ∙ first_of_none (over_quota s old x) (λ q. first_of_none (over_limit s old x q) (within s old x q none) (hard_of q.payload)) (quotas_for s x.id.ns)
 
 -- ---- what is used

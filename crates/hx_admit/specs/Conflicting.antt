@@ -32,8 +32,8 @@ use Rattle.hx_model.specs.Propagation.{is_propagated, is_source, goes_to, id_in,
 use Rattle.hx_model.specs.State.{State, object_at, put}
 use Rattle.hx_model.specs.Tree.{forest_of}
 use Rattle.hx_model.specs.TreeLabels.{is_open}
-use Rattle.hx_rules.specs.Reaches.{reaches}
-use Rattle.hx_rules.specs.declared.reach.Reach.{Reach}
+use Rattle.hx_reconcile.specs.Reaches.{reaches}
+use Rattle.hx_reconcile.specs.declared.reach.Reach.{Reach}
 pub use Rattle.hx_store.specs.Sources.{is_source_of}
 
 -- the state with an object put

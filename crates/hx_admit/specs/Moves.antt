@@ -1,5 +1,5 @@
 -- What the look-up of a move's conflicts promises.
---     open_way f n above m   the chain of a namespace below n once what is above n is another chain, where all up to n are calm
+--     open_way f n above m   the chain of a namespace below n once what is above n is another chain, where all up to n are eligible
 --     is_later n chain       the name is that of a later member of a chain
 --     is_gone_to             what is found goes to the labels that a chain prescribes
 --     CanMove                a namespace that is there may get that parent: no cycle comes of it
@@ -12,15 +12,15 @@ use Rattle.hx_object.specs.declared.object.Id.{Id}
 use Rattle.hx_object.specs.declared.object.Object.{Object}
 use Rattle.hx_model.specs.Forest.{Forest, chain_of, in_chain, is_in, is_there, parent_of, tail_of}
 use Rattle.hx_model.specs.Limits.{is_hierarchy}
-use Rattle.hx_model.specs.Moves.{up_to, is_calm, is_going, labels_in, mode_at}
+use Rattle.hx_model.specs.Moves.{up_to, is_eligible, is_going, labels_in, mode_at}
 use Rattle.hx_model.specs.Propagation.{id_in}
 use Rattle.hx_model.specs.State.{State, Objects, object_at, namespace_id}
 use Rattle.hx_model.specs.Tree.{hierarchy, parent_with, forest_of}
 use Rattle.hx_model.specs.TreeLabels.{prescribed_labels}
 
--- up to n as before, and then what is above n, where all up to n are calm
+-- up to n as before, and then what is above n, where all up to n are eligible
 abbrev pub open_way : Forest → List ℕ → List (List ℕ) → List ℕ → List (List ℕ)
-open_way f n above m = if list_all (is_calm f) (up_to n (chain_of f m)) then up_to n (chain_of f m) ++ n ∷ above else []
+open_way f n above m = if list_all (is_eligible f) (up_to n (chain_of f m)) then up_to n (chain_of f m) ++ n ∷ above else []
 
 -- the name is that of a later member
 abbrev pub is_later : List ℕ → List (List ℕ) → Bool

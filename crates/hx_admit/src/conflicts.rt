@@ -14,7 +14,7 @@ ghost use Rattle.hx_model.specs.Propagation.{goes_to, is_propagated, is_source};
 ghost use Rattle.hx_model.specs.State.{object_at, ascends};
 ghost use Rattle.hx_model.specs.Tree.{forest_of};
 ghost use Rattle.hx_model.specs.TreeLabels.{is_open};
-ghost use Rattle.hx_rules.specs.Reaches.{reaches};
+ghost use Rattle.hx_reconcile.specs.Reaches.{reaches};
 ghost use Rattle.hx_admit.specs.Conflicting.{with_object, is_source_of, is_source_in, goes_as_before, IsReachOf, goes_beside, goes_down, is_reached, is_taken, is_hit, hits, with_written, would_go, has_overwritten, comes_over};
 
 use crate::indexed_state::IndexedState;
@@ -24,7 +24,7 @@ use hx_forest::{Ancestors, Forest};
 use hx_model::{COPIED_KINDS, is_same_name, is_source, mode_in};
 use hx_object::well_known::{CONFIG, NONE_EXCEPTION, SELECT_EXCEPTION, TREE_SELECT_EXCEPTION};
 use hx_object::{Id, Kind, Mode, NoMemory, Object, Pairs, Shared, Text};
-use hx_rules::{Reach, exception, stays_home};
+use hx_reconcile::{Reach, exception, stays_home};
 use std::alloc::Global;
 
 impl IndexedState {

@@ -6,7 +6,7 @@ ghost use Rattle.hx_object.specs.declared.object.Object.{Object as object_of};
 ghost use Rattle.hx_model.specs.Cases.{same_name};
 ghost use Rattle.hx_model.specs.Conflicts.{makes_conflict, with_written};
 ghost use Rattle.hx_model.specs.Forest.{is_in, parent_of, subtree_of};
-ghost use Rattle.hx_model.specs.Moves.{up_to, chain_from, is_calm, is_open_above, labels_in, mode_at, is_met, open_chain, open_moved, is_newly_met, overwrites_kind, overwrites_in};
+ghost use Rattle.hx_model.specs.Moves.{up_to, chain_from, is_eligible, is_open_above, labels_in, mode_at, is_met, open_chain, open_moved, is_newly_met, overwrites_kind, overwrites_in};
 ghost use Rattle.hx_model.specs.Propagation.{goes_to};
 ghost use Rattle.hx_model.specs.Tree.{forest_of};
 ghost use Rattle.hx_model.specs.TreeLabels.{prescribed_labels};
@@ -19,7 +19,7 @@ use hx_forest::Forest;
 use hx_model::{COPIED_KINDS, is_same_name, is_source, mode_in};
 use hx_object::well_known::CONFIG;
 use hx_object::{Kind, Mode, NoMemory, Object, Pairs, Shared, Text};
-use hx_rules::prescribed_labels;
+use hx_reconcile::prescribed_labels;
 use hx_store::Store;
 use std::alloc::Global;
 
@@ -55,7 +55,7 @@ fn overwrites_below(
     if !any_may_spread(store, &COPIED_KINDS) {
         return Ok(false);
     }
-    if !forest.is_calm(namespace) || !is_open_above(forest, parent) {
+    if !forest.is_eligible(namespace) || !is_open_above(forest, parent) {
         return Ok(false);
     }
     let above = chain_from(store.allocator(), forest, parent)?;
@@ -303,7 +303,7 @@ fn open_way(
 {
     let mut names = Vec::new(alloc);
     let chain = forest.chain(member)?;
-    if are_calm_up_to(forest, namespace, &chain) {
+    if are_eligible_up_to(forest, namespace, &chain) {
         push_up_to(&mut names, namespace, &chain)?;
         names.push(namespace.clone()?)?;
         push_names(&mut names, above)?;
@@ -311,15 +311,15 @@ fn open_way(
     Ok(names)
 }
 
-/// Whether all names before that of a namespace are of calm ones.
-fn are_calm_up_to(forest: &Forest, namespace: &Text, names: &[Text]) -> bool
-    ensures { result ≡ list_all (is_calm forest.now.nodes) (up_to namespace.now names.now) }
+/// Whether all names before that of a namespace are of eligible ones.
+fn are_eligible_up_to(forest: &Forest, namespace: &Text, names: &[Text]) -> bool
+    ensures { result ≡ list_all (is_eligible forest.now.nodes) (up_to namespace.now names.now) }
 {
     for name in names {
         if namespace.as_str() == name.as_str() {
             return true;
         }
-        if !forest.is_calm(name) {
+        if !forest.is_eligible(name) {
             return false;
         }
     }

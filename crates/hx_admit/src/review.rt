@@ -269,13 +269,13 @@ impl IndexedState {
     /// The review of a request that removes an object, by what it writes.
     fn deleted(&self, writes: Vec<Change>) -> Reviewed
         ensures writing { result.writes.items ≡ writes.items }
-        ensures answers { result.answer ≡ Answer.Gone (state_after self.now.state writes.items).last }
+        ensures answers { result.answer ≡ Answer.Deleted (state_after self.now.state writes.items).last }
     {
         let last = self.store.version();
         let version = if writes.is_empty() { last } else { last + 1 };
         Reviewed {
             writes,
-            answer: Answer::Gone { version },
+            answer: Answer::Deleted { version },
         }
     }
 }

@@ -4,7 +4,7 @@ ghost use Rattle.hx_model.specs.Bodies.{answer_code, answer_text};
 ghost use Rattle.hx_model.specs.Serving.{IsLegalAnswer};
 ghost use Rattle.hx_api.specs.Replies.{IsReplyTo};
 
-use hx_json::{push_gone, push_list, push_object, push_status};
+use hx_json::{push_deleted, push_list, push_object, push_status};
 use hx_model::Answer;
 use hx_object::{NoMemory, Text};
 use std::alloc::Global;
@@ -41,7 +41,7 @@ pub fn status_of(answer: &Answer) -> u16
     match answer {
         Answer::One { fresh, .. } => { if *fresh { 201 } else { 200 } }
         Answer::Many { .. } => 200,
-        Answer::Gone { .. } => 200,
+        Answer::Deleted { .. } => 200,
         Answer::Refused(refusal) => refusal.code(),
     }
 }
@@ -58,7 +58,7 @@ pub fn push_body(out: &mut String, answer: &Answer) -> Result<(), NoMemory>
             objects,
             version,
         } => push_list(out, *kind, objects.as_slice(), *version),
-        Answer::Gone { version } => push_gone(out, *version),
+        Answer::Deleted { version } => push_deleted(out, *version),
         Answer::Refused(refusal) => push_status(out, refusal),
     }
 }

@@ -7,7 +7,7 @@ use Rattle.std.specs.List.{list_any}
 use Rattle.std.specs.Str.{bytes_eq}
 use Rattle.std.proofs.lemmas.Bool.{and_parts, and_from, or_left, or_right}
 use Rattle.hx_audit.specs.Candidates.{active_kinds, anchor_keys, copy_keys, is_active, is_ignored, is_lacking, kind_keys, lacking_keys, listed_in, open_keys, place_facts, place_keys, quota_keys, sent_keys, state_of, taken_keys, wanted, wanting, wanting_of}
-use Rattle.hx_audit.proofs.Holding.{among_first, among_later, among_flat_map, kept_among, passing_listed, there_passes, live_there, leaving_there, open_live, calm_live, from_so}
+use Rattle.hx_audit.proofs.Holding.{among_first, among_later, among_flat_map, kept_among, passing_listed, there_passes, live_there, leaving_there, open_live, eligible_live, from_so}
 use Rattle.hx_audit.proofs.Keeping.{above_of, senders_of, place_same, planned_here}
 use Rattle.hx_audit.proofs.Senders.{kind_active}
 use Rattle.hx_model.proofs.Climbing.{same_itself}
@@ -19,7 +19,7 @@ use Rattle.hx_model.specs.Forest.{Forest, node_of, chain_of, children_of, is_in,
 use Rattle.hx_model.specs.Keys.{is_among}
 use Rattle.hx_model.specs.Limits.{is_copy}
 use Rattle.hx_model.specs.Machine.{wants}
-use Rattle.hx_model.specs.Moves.{copied_kinds, is_calm, mode_at}
+use Rattle.hx_model.specs.Moves.{copied_kinds, is_eligible, mode_at}
 use Rattle.hx_model.specs.Propagation.{as_list, goes_to, id_in, is_propagated, is_source, source_at, sources_along, stays_home, top_of}
 use Rattle.hx_model.specs.Exceptions.{is_allowed}
 use Rattle.hx_model.specs.Reports.{conditions_of, report_write}
@@ -40,7 +40,7 @@ use Rattle.hx_object.specs.declared.object.Id.{Id}
 use Rattle.hx_object.specs.declared.object.Mode.{Mode}
 use Rattle.hx_object.specs.declared.object.Mode.TheVariants.{Propagate, AllowPropagate, Remove, Ignore}
 use Rattle.hx_object.specs.declared.object.Object.{Object}
-use Rattle.hx_rules.specs.Briefs.{facts_of, planned}
+use Rattle.hx_reconcile.specs.Briefs.{facts_of, planned}
 use Rattle.hx_survey.specs.Surveyed.{Surveyed, tree_of}
 
 -- ---- what is sent from above
@@ -270,8 +270,8 @@ module _ (v : Surveyed) where
       let acts = tree_acts (is_open (tree_of v) n) (chain_of (tree_of v) n) (object_at v.objects (namespace_id n)) h in
       in_all (key.Tree n) n (live_there (tree_of v) n (open_live (tree_of v) n acts)) (in_tree n (key.Tree n) (its_own (key.Tree n) h))
   wanting_found (key.Report n) h =
-      let calm = report_takes (is_calm (tree_of v) n) (object_at v.objects (hierarchy_id n)) (children_of (tree_of v) n) (conditions_of (state_of v) n) n h in
-      in_all (key.Report n) n (live_there (tree_of v) n (calm_live (tree_of v) n calm)) (in_report n (key.Report n) (its_own (key.Report n) h))
+      let eligible = report_takes (is_eligible (tree_of v) n) (object_at v.objects (hierarchy_id n)) (children_of (tree_of v) n) (conditions_of (state_of v) n) n h in
+      in_all (key.Report n) n (live_there (tree_of v) n (eligible_live (tree_of v) n eligible)) (in_report n (key.Report n) (its_own (key.Report n) h))
   wanting_found (key.Child n name) h =
       let found = child_acts (is_open (tree_of v) n) (object_at v.objects (anchor_id n name)) (is_in name v.excluded) (is_some (object_at v.objects (namespace_id name))) n name h in
       in_all (key.Child n name) n (live_there (tree_of v) n (open_live (tree_of v) n found.0))

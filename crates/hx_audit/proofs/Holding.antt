@@ -5,7 +5,7 @@
 --     kept_all, kept_among          of a key that is kept where it wants a write
 --     passing_listed                what is found in a namespace is listed there
 --     there_passes                  a namespace that is there is one of the forest's
---     live_there, leaving_there, open_live, calm_live   a namespace is there
+--     live_there, leaving_there, open_live, eligible_live   a namespace is there
 use Rattle.std.proofs.Common.{◌≡◌, ℕ, Bool, true, false, cond, not, ◌&&◌, ◌||◌, ◌==◌, Option, Some, None, List, [], ◌∷◌, ◌++◌, map, flat_map, refl, sym, ap, ◌∙◌, subst, true≢false, eq-eqb}
 use Rattle.std.specs.Prelude.{is_some, is_none, if◌then◌else◌}
 use Rattle.std.specs.List.{AllByRecursion, list_any}
@@ -23,7 +23,7 @@ use Rattle.hx_model.specs.Cases.{is_leaving}
 use Rattle.hx_model.specs.First.{so}
 use Rattle.hx_model.specs.Forest.{Forest, node_of, is_live, is_excluded, halt_of}
 use Rattle.hx_model.specs.Keys.{same_key, is_among}
-use Rattle.hx_model.specs.Moves.{is_calm}
+use Rattle.hx_model.specs.Moves.{is_eligible}
 use Rattle.hx_model.specs.Propagation.{id_in}
 use Rattle.hx_model.specs.State.{Objects, object_at}
 use Rattle.hx_model.specs.TreeLabels.{is_open}
@@ -33,8 +33,8 @@ use Rattle.hx_object.specs.Kinds.{number_of}
 use Rattle.hx_object.specs.declared.kind.Kind.{Kind}
 use Rattle.hx_object.specs.declared.object.Id.{Id}
 use Rattle.hx_object.specs.declared.object.Object.{Object}
-use Rattle.hx_rules.specs.Briefs.{planned}
-use Rattle.hx_rules.specs.declared.brief.Facts.{Facts}
+use Rattle.hx_reconcile.specs.Briefs.{planned}
+use Rattle.hx_reconcile.specs.declared.brief.Facts.{Facts}
 
 -- ---- all of some keys
 
@@ -111,8 +111,8 @@ leaving_there f n h = by (node_of f n) h
 pub open_live : (f : Forest) (n : List ℕ) → is_open f n ≡ true → is_live f n ≡ true
 open_live f n h = (and_parts (is_live f n) (not (is_excluded f n) && is_none (halt_of f n)) h).0
 
-pub calm_live : (f : Forest) (n : List ℕ) → is_calm f n ≡ true → is_live f n ≡ true
-calm_live f n h = (and_parts (is_live f n) (not (is_excluded f n)) h).0
+pub eligible_live : (f : Forest) (n : List ℕ) → is_eligible f n ≡ true → is_live f n ≡ true
+eligible_live f n h = (and_parts (is_live f n) (not (is_excluded f n)) h).0
 
 -- what is there where a test holds
 pub from_so : {A : Type 0} (b : Bool) (x : A) → is_some (so b x) ≡ true → b ≡ true

@@ -20,7 +20,7 @@ use Rattle.hx_model.specs.declared.key.Key.TheVariants as key
 use Rattle.hx_object.specs.declared.kind.Kind.{Kind}
 use Rattle.hx_object.specs.declared.kind.Kind.TheVariants.{SubnamespaceAnchor, HierarchicalResourceQuota}
 use Rattle.hx_object.specs.declared.object.Object.{Object}
-use Rattle.hx_rules.specs.Briefs.{facts_of, planned}
+use Rattle.hx_reconcile.specs.Briefs.{facts_of, planned}
 use Rattle.hx_survey.specs.Surveyed.{Surveyed, tree_of}
 
 pub planned_here : (s : State) (k : Key) → planned k (facts_of s k) ≡ wanted_write s k

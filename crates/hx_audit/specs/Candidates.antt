@@ -27,9 +27,9 @@ use Rattle.hx_model.specs.State.{State, Objects, object_at, namespace_id}
 use Rattle.hx_model.specs.TreeLabels.{is_open}
 use Rattle.hx_model.specs.declared.key.Key.{Key}
 use Rattle.hx_model.specs.declared.key.Key.TheVariants as key
-use Rattle.hx_rules.specs.Briefs.{facts_of, planned}
-use Rattle.hx_rules.specs.declared.brief.Facts.{Facts}
-use Rattle.hx_rules.specs.declared.brief.Facts.TheVariants as facts
+use Rattle.hx_reconcile.specs.Briefs.{facts_of, planned}
+use Rattle.hx_reconcile.specs.declared.brief.Facts.{Facts}
+use Rattle.hx_reconcile.specs.declared.brief.Facts.TheVariants as facts
 use Rattle.hx_survey.specs.Surveyed.{Surveyed, tree_of}
 
 abbrev pub state_of : Surveyed → State

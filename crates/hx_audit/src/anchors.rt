@@ -5,14 +5,14 @@ ghost use Rattle.hx_model.specs.Forest.{is_in};
 ghost use Rattle.hx_model.specs.State.{object_at, namespace_id};
 ghost use Rattle.hx_model.specs.Wanted.{status_by};
 ghost use Rattle.hx_model.specs.declared.key.Key.TheVariants as key;
-ghost use Rattle.hx_rules.specs.Briefs.{facts_of};
+ghost use Rattle.hx_reconcile.specs.Briefs.{facts_of};
 ghost use Rattle.hx_audit.specs.Candidates.{anchor_keys, listed_in, state_of, wanted};
 
 use crate::keep::keep;
 use crate::lookups::{anchor, namespace, share};
 use hx_model::{Key, is_owned_by};
 use hx_object::{AnchorStatus, Kind, NoMemory, Shared, Text};
-use hx_rules::Facts;
+use hx_reconcile::Facts;
 use hx_survey::Survey;
 
 /// Adds the keys of the anchors in a namespace that want a write.

@@ -8,7 +8,7 @@ use crate::keep::keep;
 use crate::lookups::{mode_of, namespace, share};
 use hx_model::{Key, is_source};
 use hx_object::{Kind, List, Mode, NoMemory, Object, Shared, Text};
-use hx_rules::Facts;
+use hx_reconcile::Facts;
 use hx_survey::Survey;
 
 /// A namespace that takes part.

@@ -1,11 +1,11 @@
 // A key is kept where it wants a write.
 ghost use Rattle.std.specs.Prelude.{◌≡◌, ◌++◌, IfOk, OnOk, is_some};
-ghost use Rattle.hx_rules.specs.Briefs.{planned};
+ghost use Rattle.hx_reconcile.specs.Briefs.{planned};
 ghost use Rattle.hx_audit.specs.Candidates.{kept};
 
 use hx_model::Key;
 use hx_object::{List, NoMemory};
-use hx_rules::{Brief, Facts, Plan, SharedBrief, plan};
+use hx_reconcile::{Brief, Facts, Plan, SharedBrief, plan};
 use std::alloc::Global;
 
 /// Adds a key, where it wants a write by these facts.

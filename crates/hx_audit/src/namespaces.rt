@@ -3,7 +3,7 @@ ghost use Rattle.std.specs.Prelude.{◌≡◌, ◌++◌, IfOk, OnOk, Some, optio
 ghost use Rattle.hx_model.specs.Forest.{chain_of};
 ghost use Rattle.hx_model.specs.TreeLabels.{is_open as takes_part};
 ghost use Rattle.hx_model.specs.declared.key.Key.TheVariants as key;
-ghost use Rattle.hx_rules.specs.Briefs.{facts_of};
+ghost use Rattle.hx_reconcile.specs.Briefs.{facts_of};
 ghost use Rattle.hx_survey.specs.Surveyed.{tree_of};
 ghost use Rattle.hx_audit.specs.Candidates.{active_kinds, state_of, wanted, wanting_of};
 
@@ -14,7 +14,7 @@ use crate::lookups::{hierarchy, namespace, share, tail_of};
 use crate::quotas::push_quotas;
 use hx_model::Key;
 use hx_object::{Id, Kind, List, NoMemory, Shared, Text};
-use hx_rules::Facts;
+use hx_reconcile::Facts;
 use hx_survey::Survey;
 
 /// Adds the keys of a namespace that want a write.
@@ -74,7 +74,7 @@ fn report_facts(survey: &Survey, ns: &Text) -> Result<Facts, NoMemory>
     ensures { IfOk result (λ made. made ≡ facts_of (state_of survey.now) (key.Report ns.now)) }
 {
     Ok(Facts::Report {
-        is_calm: survey.is_calm(ns),
+        is_eligible: survey.is_eligible(ns),
         hierarchy: share(hierarchy(survey, ns))?,
         children: List::of(survey.children(ns)?),
         conditions: List::of(survey.conditions(ns)?),

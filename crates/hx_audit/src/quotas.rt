@@ -3,7 +3,7 @@ ghost use Rattle.std.specs.Prelude.{◌≡◌, ◌++◌, IfOk, OnOk, Some, flat_
 ghost use Rattle.hx_object.specs.declared.kind.Kind.TheVariants.{HierarchicalResourceQuota as QuotaKind};
 ghost use Rattle.hx_model.specs.Wanted.{sums_of, used_of};
 ghost use Rattle.hx_model.specs.declared.key.Key.TheVariants as key;
-ghost use Rattle.hx_rules.specs.Briefs.{facts_of};
+ghost use Rattle.hx_reconcile.specs.Briefs.{facts_of};
 ghost use Rattle.hx_audit.specs.Candidates.{listed_in, quota_keys, state_of, wanted};
 
 use crate::keep::keep;
@@ -11,7 +11,7 @@ use crate::lookups::{quota, share};
 use hx_charge::hard_of;
 use hx_model::{Key, Resource};
 use hx_object::{Kind, Limit, List, NoMemory, Shared, Text};
-use hx_rules::Facts;
+use hx_reconcile::Facts;
 use hx_survey::Survey;
 
 /// Adds the keys of the quotas in a namespace that want a write.

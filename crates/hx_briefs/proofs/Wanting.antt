@@ -18,7 +18,7 @@ use Rattle.hx_object.specs.declared.object.Object.{Object}
 use Rattle.hx_model.specs.Cases.{is_leaving}
 use Rattle.hx_model.specs.Forest.{Forest, node_of, is_live, is_excluded, halt_of, chain_of}
 use Rattle.hx_model.specs.Keys.{is_among}
-use Rattle.hx_model.specs.Moves.{is_calm}
+use Rattle.hx_model.specs.Moves.{is_eligible}
 use Rattle.hx_model.specs.Quotas.{used}
 use Rattle.hx_model.specs.State.{State, Objects, object_at}
 use Rattle.hx_model.specs.Tree.{forest_of, namespaces_in, node_in}
@@ -35,10 +35,10 @@ use Rattle.hx_marks.proofs.Wanting.{all_known}
 use Rattle.hx_marks.specs.Law.{all_of, known_of, leaving_keys, status_keys}
 use Rattle.hx_marks.specs.Reports.{report_keys}
 use Rattle.hx_marks.specs.Usage.{usage_keys}
-use Rattle.hx_rules.specs.Briefs.{StandsFor, facts_of, planned, planned_by}
-use Rattle.hx_rules.specs.declared.brief.Brief.{Brief}
-use Rattle.hx_rules.specs.declared.brief.Facts.{Facts}
-use Rattle.hx_rules.specs.declared.brief.Facts.TheVariants as found
+use Rattle.hx_reconcile.specs.Briefs.{StandsFor, facts_of, planned, planned_by}
+use Rattle.hx_reconcile.specs.declared.brief.Brief.{Brief}
+use Rattle.hx_reconcile.specs.declared.brief.Facts.{Facts}
+use Rattle.hx_reconcile.specs.declared.brief.Facts.TheVariants as found
 use Rattle.hx_briefs.specs.Briefing.{facts_by, guards_by, sums_by}
 use Rattle.hx_briefs.specs.Wants.{HasTree, namespaces, wants_by}
 
@@ -186,11 +186,11 @@ module _ (s : State) where
         listed (live_there (node_of (forest_of s) m) live)
         (last (among_append k (usage_keys s.objects m) (leaving_keys (forest_of s) m) ∙ or_left (is_among k (usage_keys s.objects m)) _ mem))
 
-  report_listed : (m : List ℕ) → is_calm (forest_of s) m ≡ true → IsListed (key.Report m)
-  report_listed m calm =
+  report_listed : (m : List ℕ) → is_eligible (forest_of s) m ≡ true → IsListed (key.Report m)
+  report_listed m eligible =
       let k = key.Report m in
-      listed k m (live_there (node_of (forest_of s) m) (and_parts (is_live (forest_of s) m) (not (is_excluded (forest_of s) m)) calm).0)
-      (beside k m (among_append k (report_keys (forest_of s) m) (status_keys s.objects m ++ (usage_keys s.objects m ++ leaving_keys (forest_of s) m)) ∙ or_left (is_among k (report_keys (forest_of s) m)) _ (own_report (forest_of s) m calm)))
+      listed k m (live_there (node_of (forest_of s) m) (and_parts (is_live (forest_of s) m) (not (is_excluded (forest_of s) m)) eligible).0)
+      (beside k m (among_append k (report_keys (forest_of s) m) (status_keys s.objects m ++ (usage_keys s.objects m ++ leaving_keys (forest_of s) m)) ∙ or_left (is_among k (report_keys (forest_of s) m)) _ (own_report (forest_of s) m eligible)))
 
   removal_listed : (m : List ℕ) → is_leaving (forest_of s) m ≡ true → IsListed (key.Purge m)
   removal_listed m leaves =

@@ -13,7 +13,7 @@ use Rattle.hx_model.specs.Cases.{is_leaving}
 use Rattle.hx_model.specs.Charges.{hard_of, resource_named}
 use Rattle.hx_model.specs.Forest.{Forest, chain_of, children_of, is_in, is_live, tail_of}
 use Rattle.hx_model.specs.Modes.{config_id, mode_in}
-use Rattle.hx_model.specs.Moves.{is_calm}
+use Rattle.hx_model.specs.Moves.{is_eligible}
 use Rattle.hx_model.specs.Propagation.{as_list, id_in, source_at, sources_along}
 use Rattle.hx_model.specs.Quotas.{charge_below}
 use Rattle.hx_model.specs.Reports.{conditions_in}
@@ -25,8 +25,8 @@ use Rattle.hx_model.specs.Wanted.{quota_id, status_by}
 use Rattle.hx_model.specs.declared.key.Guard.{Guard}
 use Rattle.hx_model.specs.declared.key.Key.{Key}
 use Rattle.hx_model.specs.declared.key.Key.TheVariants as key
-use Rattle.hx_rules.specs.declared.brief.Facts.{Facts}
-use Rattle.hx_rules.specs.declared.brief.Facts.TheVariants as facts
+use Rattle.hx_reconcile.specs.declared.brief.Facts.{Facts}
+use Rattle.hx_reconcile.specs.declared.brief.Facts.TheVariants as facts
 
 -- ---- facts
 
@@ -49,7 +49,7 @@ tree_facts objects f n = facts.Tree (object_at objects (namespace_id n)) (is_ope
 
 -- of a report
 abbrev pub report_facts : Objects → Forest → List ℕ → Facts
-report_facts objects f n = facts.Report (is_calm f n) (object_at objects (hierarchy_id n)) (children_of f n) (conditions_in objects f n)
+report_facts objects f n = facts.Report (is_eligible f n) (object_at objects (hierarchy_id n)) (children_of f n) (conditions_in objects f n)
 
 -- of a subnamespace
 abbrev pub child_facts : List (List ℕ) → Objects → Forest → List ℕ → List ℕ → Facts

@@ -16,7 +16,7 @@ use Rattle.hx_model.specs.Wanted.{wanted_write}
 use Rattle.hx_model.specs.declared.key.Key.{Key}
 use Rattle.hx_marks.specs.Law.{known_of}
 use Rattle.hx_queue.specs.Workers.{WorkersView}
-use Rattle.hx_rules.specs.Briefs.{planned}
+use Rattle.hx_reconcile.specs.Briefs.{planned}
 use Rattle.hx_briefs.specs.Briefing.{facts_by}
 
 -- the objects of a state and its tree, and which names are excluded

@@ -10,7 +10,7 @@ use hx_forest::Forest;
 use hx_model::{Key, RunConfig};
 use hx_object::{NoMemory, Text};
 use hx_quota::Usage;
-use hx_rules::Brief;
+use hx_reconcile::Brief;
 use hx_store::Store;
 
 /// What the plan of a key is made from.

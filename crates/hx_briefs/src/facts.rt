@@ -14,7 +14,7 @@ use hx_forest::Forest;
 use hx_model::{Key, RunConfig, is_owned_by};
 use hx_object::{AnchorStatus, Id, Kind, List, NoMemory, Shared, Text};
 use hx_quota::Usage;
-use hx_rules::Facts;
+use hx_reconcile::Facts;
 use hx_store::Store;
 use std::alloc::Global;
 
@@ -75,7 +75,7 @@ fn report_facts(store: &Store, forest: &Forest, ns: &Text) -> Result<Facts, NoMe
     ensures { IfOk result (λ made. made ≡ report_facts store.now.objects forest.now.nodes ns.now) }
 {
     Ok(Facts::Report {
-        is_calm: forest.is_calm(ns),
+        is_eligible: forest.is_eligible(ns),
         hierarchy: share(hierarchy(store, ns))?,
         children: List::of(copies_of(store.allocator(), forest.children(ns))?),
         conditions: List::of(conditions_of(store, forest, ns)?),

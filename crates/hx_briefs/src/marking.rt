@@ -4,7 +4,7 @@ ghost use Rattle.hx_model.specs.State.{State};
 ghost use Rattle.hx_model.specs.Wanted.{wanted_write};
 ghost use Rattle.hx_queue.specs.Workers.{no_work};
 ghost use Rattle.hx_quota.specs.SubtreeUsage.{IsCounted};
-ghost use Rattle.hx_rules.specs.Briefs.{planned};
+ghost use Rattle.hx_reconcile.specs.Briefs.{planned};
 ghost use Rattle.hx_briefs.specs.Briefing.{facts_by};
 ghost use Rattle.hx_briefs.specs.Wants.{HasTree, AreMarked, namespaces, wants_by, wanting_of, wanting_in};
 
@@ -16,7 +16,7 @@ use hx_model::{Key, RunConfig};
 use hx_object::{Kind, List, NoMemory, Shared, Text};
 use hx_queue::Workers;
 use hx_quota::Usage;
-use hx_rules::{Brief, Plan, SharedBrief, plan};
+use hx_reconcile::{Brief, Plan, SharedBrief, plan};
 use hx_store::Store;
 
 /// Marks the keys that want a write one by one, and no other ones.

@@ -22,8 +22,8 @@ use Rattle.hx_model.specs.declared.key.Finish.TheVariants as ending
 use Rattle.hx_model.specs.declared.key.Key.{Key}
 use Rattle.hx_model.specs.declared.key.Key.TheVariants as key
 use Rattle.hx_model.specs.declared.key.Write.{Write}
-use Rattle.hx_rules.specs.Briefs.{hand_by, planned_by}
-use Rattle.hx_rules.specs.declared.brief.Brief.{Brief}
+use Rattle.hx_reconcile.specs.Briefs.{hand_by, planned_by}
+use Rattle.hx_reconcile.specs.declared.brief.Brief.{Brief}
 use Rattle.hx_marks.proofs.Making.{is_removal as is_once}
 use Rattle.hx_core.specs.Committing.{HasLanded, HasFailed, HasMarked, IsOrderly, StaysOut}
 use Rattle.hx_core.specs.Refinement.{ClusterView}

@@ -8,8 +8,8 @@ use Rattle.hx_model.specs.Tree.{forest_of}
 use Rattle.hx_model.specs.declared.config.RunConfig.{RunConfig}
 use Rattle.hx_model.specs.declared.key.Key.{Key}
 use Rattle.hx_queue.specs.Workers.{WorkersView}
-use Rattle.hx_rules.specs.Briefs.{StandsFor}
-use Rattle.hx_rules.specs.declared.brief.Brief.{Brief}
+use Rattle.hx_reconcile.specs.Briefs.{StandsFor}
+use Rattle.hx_reconcile.specs.declared.brief.Brief.{Brief}
 use Rattle.hx_briefs.specs.Briefing.{facts_by, guards_by}
 use Rattle.hx_briefs.specs.Wants.{HasTree, AreMarked}
 use Rattle.hx_briefs.proofs.Wanting.{stands_for}

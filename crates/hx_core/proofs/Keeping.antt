@@ -22,11 +22,11 @@ use Rattle.hx_model.specs.Valid.{IsValid}
 use Rattle.hx_model.specs.Wanted.{wanted_write}
 use Rattle.hx_model.specs.declared.key.Key.{Key}
 use Rattle.hx_model.specs.declared.key.Write.{Write}
-use Rattle.hx_rules.specs.Briefs.{IsShort, IsStorable, StandsFor, hand_by, planned_by}
-use Rattle.hx_rules.specs.declared.brief.Brief.{Brief}
-use Rattle.hx_rules.specs.declared.brief.Facts.{Facts}
-use Rattle.hx_rules.specs.declared.brief.Facts.TheVariants as found
-use Rattle.hx_rules.proofs.Storable.{storable}
+use Rattle.hx_reconcile.specs.Briefs.{IsShort, IsStorable, StandsFor, hand_by, planned_by}
+use Rattle.hx_reconcile.specs.declared.brief.Brief.{Brief}
+use Rattle.hx_reconcile.specs.declared.brief.Facts.{Facts}
+use Rattle.hx_reconcile.specs.declared.brief.Facts.TheVariants as found
+use Rattle.hx_reconcile.proofs.Storable.{storable}
 use Rattle.hx_marks.proofs.Among.{same_key_itself}
 use Rattle.hx_marks.proofs.Settling.{settled_exactly}
 use Rattle.hx_marks.proofs.StayingCovered.{fresh_met}

@@ -284,7 +284,7 @@ module _ (was s : State) (write : Write) (valid : IsValid was) (since : IsSince 
       let known = report_write_known was n write valid wants in
       let place : id_written write ≡ hierarchy_id n = ap id_written known.puts ∙ known.place in
       let same : object_at s.objects (namespace_id n) ≡ object_at was.objects (namespace_id n) = place_same was s (namespace_id n) valid since more.0 in
-      let live : not (is_terminating known.home.payload) ≡ true = sym (live_is was valid n known.home known.there) ∙ (and_parts (is_live (forest_of was) n) _ known.calm).0 in
+      let live : not (is_terminating known.home.payload) ≡ true = sym (live_is was valid n known.home known.there) ∙ (and_parts (is_live (forest_of was) n) _ known.eligible).0 in
       record {
         place = subst (λ (q : Id). object_at s.objects q ≡ object_at was.objects q) (sym place) (place_same was s (hierarchy_id n) valid since parts.0);
         home = subst (λ (q : Id). has_home s.objects q ≡ has_home was.objects q) (sym place) (same_home was s (hierarchy_id n) (λ e. same));

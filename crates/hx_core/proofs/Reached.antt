@@ -1,10 +1,10 @@
 -- Keys that are marked one by one, and those of an object as a whole.
 --     marked_none, marked_both, marked_same    marks of no key, of two lists one behind the other, and of a list that has the same
 --     may_still          an object's keys may be marked as a whole while hands, reach and room stay
---     reach_same         the reach stays right while the state does
+--     scope_same         the reach stays right while the state does
 --     ready_each, ready_whole    keys are ready: one by one, and as a whole
 --     marked_ready       what is marked then
---     reach_after        the reach is right after a commit
+--     scope_after        the reach is right after a commit
 use Rattle.std.proofs.Common.{◌≡◌, ◌≤◌, ◌||◌, ◌&&◌, not, ℕ, Bool, true, false, List, [], ◌++◌, length, Option, Some, None, refl, sym, ap, ◌∙◌, subst, Ok, Err, true≢false}
 use Rattle.std.specs.Prelude.{OnOk, IsErrOf, IsSomeAnd, option_map, if◌then◌else◌}
 use Rattle.std.specs.declared.result.Result.{Result}
@@ -19,10 +19,10 @@ use Rattle.hx_model.specs.declared.key.Key.{Key}
 use Rattle.hx_model.specs.declared.key.Write.{Write}
 use Rattle.hx_marks.proofs.Among.{among_append}
 use Rattle.hx_marks.specs.Law.{all_marks, open_below}
-use Rattle.hx_queue.specs.Spread.{Reach, names_in, place_keys, root_of}
+use Rattle.hx_queue.specs.Spread.{Scope, names_in, place_keys, root_of}
 use Rattle.hx_queue.specs.Workers.{WorkersView, WorkersKept, IsMarkedBy, MaySpread}
 use Rattle.hx_core.specs.Committing.{HasLanded, HasFailed, marks_but}
-use Rattle.hx_core.specs.Reaching.{HasRoot, IsReachOf, IsReady, IsSpreadable, MayMark, whole_keys}
+use Rattle.hx_core.specs.Reaching.{HasRoot, IsScopeOf, IsReady, IsSpreadable, MayMark, whole_keys}
 use Rattle.hx_core.specs.declared.commit.CommitFault.{CommitFault}
 use Rattle.hx_core.specs.declared.commit.CommitFault.TheVariants.{KeeperFault, NoMemory}
 
@@ -63,43 +63,43 @@ marked_same a b v w same marked = record {
 
 -- ---- what may be marked as a whole
 
-pub spreadable_still : (id : Id) (w w' : WorkersKept) → IsSpreadable id w → w'.seen.hands ≡ w.seen.hands → w'.reach ≡ w.reach → w'.spread ≡ w.spread → w'.places ≡ w.places → IsSpreadable id w'
-spreadable_still id w w' may hands reach spread places = record {
-  at = subst (λ (r : Option Reach). HasRoot id.ns r) (sym reach) may.at;
+pub spreadable_still : (id : Id) (w w' : WorkersKept) → IsSpreadable id w → w'.seen.hands ≡ w.seen.hands → w'.scope ≡ w.scope → w'.spread ≡ w.spread → w'.places ≡ w.places → IsSpreadable id w'
+spreadable_still id w w' may hands scope spread places = record {
+  at = subst (λ (r : Option Scope). HasRoot id.ns r) (sym scope) may.at;
   room = subst (λ n. 1 ≤ n) (sym places) may.room;
-  may = subst (λ (hs : List Hand). MaySpread id hs w'.reach w'.spread) (sym hands) (subst (λ (r : Option Reach). MaySpread id w.seen.hands r w'.spread) (sym reach) (subst (λ (ids : List Id). MaySpread id w.seen.hands w.reach ids) (sym spread) may.may));
+  may = subst (λ (hs : List Hand). MaySpread id hs w'.scope w'.spread) (sym hands) (subst (λ (r : Option Scope). MaySpread id w.seen.hands r w'.spread) (sym scope) (subst (λ (ids : List Id). MaySpread id w.seen.hands w.scope ids) (sym spread) may.may));
 }
 
-pub may_still : (o : Option Id) (w w' : WorkersKept) → MayMark o w → w'.seen.hands ≡ w.seen.hands → w'.reach ≡ w.reach → w'.spread ≡ w.spread → w'.places ≡ w.places → MayMark o w'
-may_still None w w' may hands reach spread places = tt
-may_still (Some id) w w' may hands reach spread places = spreadable_still id w w' may hands reach spread places
+pub may_still : (o : Option Id) (w w' : WorkersKept) → MayMark o w → w'.seen.hands ≡ w.seen.hands → w'.scope ≡ w.scope → w'.spread ≡ w.spread → w'.places ≡ w.places → MayMark o w'
+may_still None w w' may hands scope spread places = tt
+may_still (Some id) w w' may hands scope spread places = spreadable_still id w w' may hands scope spread places
 
 -- ---- the reach
 
-reach_is : (f : Forest) (place : Option Reach) (n : List ℕ) → IsReachOf f place → HasRoot n place → names_in place ≡ open_below f n
-reach_is f None n right at = absurd at
-reach_is f (Some r) n right at = right at.1 ∙ ap (open_below f) at.0
+scope_is : (f : Forest) (place : Option Scope) (n : List ℕ) → IsScopeOf f place → HasRoot n place → names_in place ≡ open_below f n
+scope_is f None n right at = absurd at
+scope_is f (Some r) n right at = right at.1 ∙ ap (open_below f) at.0
 
-pub reach_same : (s s' : State) (p p' : Option Reach) → s' ≡ s → p' ≡ p → IsReachOf (forest_of s) p → IsReachOf (forest_of s') p'
-reach_same s s' p p' state place right = subst (λ (r : Option Reach). IsReachOf (forest_of s') r) (sym place) (subst (λ (t : State). IsReachOf (forest_of t) p) (sym state) right)
+pub scope_same : (s s' : State) (p p' : Option Scope) → s' ≡ s → p' ≡ p → IsScopeOf (forest_of s) p → IsScopeOf (forest_of s') p'
+scope_same s s' p p' state place right = subst (λ (r : Option Scope). IsScopeOf (forest_of s') r) (sym place) (subst (λ (t : State). IsScopeOf (forest_of t) p) (sym state) right)
 
 -- a reach that is outdated is right of any tree
-pub outdated_right : (f : Forest) (p p' : Option Reach) → p' ≡ option_map (λ (r : Reach). record r { current = false }) p → IsReachOf f p'
-outdated_right f p p' is = subst (λ (r : Option Reach). IsReachOf f r) (sym is) (by p)
+pub outdated_right : (f : Forest) (p p' : Option Scope) → p' ≡ option_map (λ (r : Scope). record r { current = false }) p → IsScopeOf f p'
+outdated_right f p p' is = subst (λ (r : Option Scope). IsScopeOf f r) (sym is) (by p)
   where
-    by : (o : Option Reach) → IsReachOf f (option_map (λ (r : Reach). record r { current = false }) o)
+    by : (o : Option Scope) → IsScopeOf f (option_map (λ (r : Scope). record r { current = false }) o)
     by None = tt
     by (Some r) = λ current. absurd (true≢false (sym current))
 
 -- the reach that is set
-pub set_right : (f : Forest) (n : List ℕ) (names : List (List ℕ)) (p : Option Reach) → p ≡ Some (record { root = n; names = names; current = true }) → names ≡ open_below f n → IsReachOf f p
-set_right f n names p is are = subst (λ (r : Option Reach). IsReachOf f r) (sym is) (λ current. are)
+pub set_right : (f : Forest) (n : List ℕ) (names : List (List ℕ)) (p : Option Scope) → p ≡ Some (record { root = n; names = names; current = true }) → names ≡ open_below f n → IsScopeOf f p
+set_right f n names p is are = subst (λ (r : Option Scope). IsScopeOf f r) (sym is) (λ current. are)
 
-pub set_root : (n : List ℕ) (names : List (List ℕ)) (p : Option Reach) → p ≡ Some (record { root = n; names = names; current = true }) → HasRoot n p
-set_root n names p is = subst (λ (r : Option Reach). HasRoot n r) (sym is) (refl, refl)
+pub set_root : (n : List ℕ) (names : List (List ℕ)) (p : Option Scope) → p ≡ Some (record { root = n; names = names; current = true }) → HasRoot n p
+set_root n names p is = subst (λ (r : Option Scope). HasRoot n r) (sym is) (refl, refl)
 
 -- the root of a reach that is current
-pub root_is : (n m : List ℕ) (o : Option Reach) → Some m ≡ root_of o → m ≡ n → HasRoot n o
+pub root_is : (n m : List ℕ) (o : Option Scope) → Some m ≡ root_of o → m ≡ n → HasRoot n o
 root_is n m None is same = let h = is in cc
 root_is n m (Some r) is same = by r.current refl
   where
@@ -107,36 +107,36 @@ root_is n m (Some r) is same = by r.current refl
     by true e = let one : Some m ≡ Some r.root = is ∙ ap (λ (b : Bool). if b then Some r.root else None) e in (let h : m ≡ r.root = cc in sym h ∙ same, e)
     by false e = let none : Some m ≡ None = is ∙ ap (λ (b : Bool). if b then Some r.root else None) e in absurd (let h = none in cc)
 
-pub at_root : (n : List ℕ) (o : Option Reach) → HasRoot n o → IsSomeAnd o (λ (r : Reach). r.root ≡ n)
+pub at_root : (n : List ℕ) (o : Option Scope) → HasRoot n o → IsSomeAnd o (λ (r : Scope). r.root ≡ n)
 at_root n None at = at
 at_root n (Some r) at = at.0
 
 -- ---- what is ready
 
-pub ready_each : (s : State) (ws : List Write) (own : Option Key) (keys : List Key) (w : WorkersKept) → keys ≡ marks_but own (all_marks s ws) → length keys ≤ w.spare → IsReachOf (forest_of (state_after s ws)) w.reach → IsReady s ws own keys None w
-ready_each s ws own keys w is room right = record { named = λ k. or_none (is_among k keys) ∙ ap (is_among k) is; room = room; may = tt; reach = right }
+pub ready_each : (s : State) (ws : List Write) (own : Option Key) (keys : List Key) (w : WorkersKept) → keys ≡ marks_but own (all_marks s ws) → length keys ≤ w.spare → IsScopeOf (forest_of (state_after s ws)) w.scope → IsReady s ws own keys None w
+ready_each s ws own keys w is room right = record { named = λ k. or_none (is_among k keys) ∙ ap (is_among k) is; room = room; may = tt; scope = right }
 
 pub ready_whole : (s : State) (ws : List Write) (others : List Key) (id : Id) (w : WorkersKept) → ((k : Key) → is_among k (all_marks s ws) ≡ (is_among k others || is_among k (place_keys (open_below (forest_of s) id.ns) id)))
-    → forest_of (state_after s ws) ≡ forest_of s → IsReachOf (forest_of s) w.reach → length others ≤ w.spare → IsSpreadable id w → IsReady s ws None others (Some id) w
+    → forest_of (state_after s ws) ≡ forest_of s → IsScopeOf (forest_of s) w.scope → length others ≤ w.spare → IsSpreadable id w → IsReady s ws None others (Some id) w
 ready_whole s ws others id w named tree right room may = record {
-  named = λ k. ap (λ (names : List (List ℕ)). is_among k others || is_among k (place_keys names id)) (reach_is (forest_of s) w.reach id.ns right may.at) ∙ sym (named k);
+  named = λ k. ap (λ (names : List (List ℕ)). is_among k others || is_among k (place_keys names id)) (scope_is (forest_of s) w.scope id.ns right may.at) ∙ sym (named k);
   room = room;
   may = may;
-  reach = subst (λ (f : Forest). IsReachOf f w.reach) (sym tree) right;
+  scope = subst (λ (f : Forest). IsScopeOf f w.scope) (sym tree) right;
 }
 
 -- keys that were ready are marked
 pub marked_ready : {T : Type 0} (s : State) (ws : List Write) (own : Option Key) (keys : List Key) (spread : Option Id) (v v' : WorkersView) (w : WorkersKept) (result : Result T CommitFault) → IsReady s ws own keys spread w → w.seen ≡ v
-    → OnOk result (IsMarkedBy (keys ++ whole_keys spread w.reach) w.seen v') → OnOk result (IsMarkedBy (marks_but own (all_marks s ws)) v v')
+    → OnOk result (IsMarkedBy (keys ++ whole_keys spread w.scope) w.seen v') → OnOk result (IsMarkedBy (marks_but own (all_marks s ws)) v v')
 marked_ready s ws own keys spread v v' w (Ok l) ready seen marked =
     subst (λ (u : WorkersView). IsMarkedBy (marks_but own (all_marks s ws)) u v') seen
-    (marked_same (keys ++ whole_keys spread w.reach) (marks_but own (all_marks s ws)) w.seen v' (λ k. among_append k keys (whole_keys spread w.reach) ∙ ready.named k) marked)
+    (marked_same (keys ++ whole_keys spread w.scope) (marks_but own (all_marks s ws)) w.seen v' (λ k. among_append k keys (whole_keys spread w.scope) ∙ ready.named k) marked)
 marked_ready s ws own keys spread v v' w (Err fault) ready seen marked = tt
 
 -- ---- after a commit
 
-pub reach_after : {T : Type 0} (s t : State) (ws : List Write) (k k' : KeeperView) (p p' : Option Reach) (result : Result T CommitFault) → IsReachOf (forest_of s) p → IsReachOf (forest_of (state_after s ws)) p → p' ≡ p
-    → OnOk result (HasLanded s k ws t k') → (IsErrOf result NoMemory → t ≡ s) → (IsErrOf result KeeperFault → HasFailed s k ws t k') → IsReachOf (forest_of t) p'
-reach_after s t ws k k' p p' (Ok l) before after place landed memory fault = reach_same (state_after s ws) t p p' landed.state place after
-reach_after s t ws k k' p p' (Err NoMemory) before after place landed memory fault = reach_same s t p p' (memory refl) place before
-reach_after s t ws k k' p p' (Err KeeperFault) before after place landed memory fault = reach_same s t p p' (fault refl).state place before
+pub scope_after : {T : Type 0} (s t : State) (ws : List Write) (k k' : KeeperView) (p p' : Option Scope) (result : Result T CommitFault) → IsScopeOf (forest_of s) p → IsScopeOf (forest_of (state_after s ws)) p → p' ≡ p
+    → OnOk result (HasLanded s k ws t k') → (IsErrOf result NoMemory → t ≡ s) → (IsErrOf result KeeperFault → HasFailed s k ws t k') → IsScopeOf (forest_of t) p'
+scope_after s t ws k k' p p' (Ok l) before after place landed memory fault = scope_same (state_after s ws) t p p' landed.state place after
+scope_after s t ws k k' p p' (Err NoMemory) before after place landed memory fault = scope_same s t p p' (memory refl) place before
+scope_after s t ws k k' p p' (Err KeeperFault) before after place landed memory fault = scope_same s t p p' (fault refl).state place before

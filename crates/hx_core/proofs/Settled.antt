@@ -17,7 +17,7 @@ use Rattle.hx_model.specs.Machine.{Took, Finished, LostTake, Checked}
 use Rattle.hx_model.specs.declared.key.Finish.{Finish}
 use Rattle.hx_model.specs.declared.key.Finish.TheVariants as ending
 use Rattle.hx_model.specs.declared.key.Key.{Key}
-use Rattle.hx_rules.specs.declared.brief.Brief.{Brief}
+use Rattle.hx_reconcile.specs.declared.brief.Brief.{Brief}
 use Rattle.hx_core.specs.Queued.{HasTurned, HaveTurned, IsEnding, IsTurning}
 use Rattle.hx_core.specs.Refinement.{ClusterView, HasWorld, Simulates}
 use Rattle.hx_core.specs.Settling.{IsTurn, IsWhole, IsTraced, EndsWithin, IsEnded, IsRun, IsRest, rest_of}

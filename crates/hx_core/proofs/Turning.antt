@@ -25,9 +25,9 @@ use Rattle.hx_model.specs.Wanted.{wanted_write}
 use Rattle.hx_model.specs.declared.key.Key.{Key}
 use Rattle.hx_model.specs.declared.key.Key.TheVariants as key
 use Rattle.hx_model.specs.declared.key.Write.{Write}
-use Rattle.hx_rules.specs.Briefs.{StandsFor, facts_of, hand_by, planned}
-use Rattle.hx_rules.specs.declared.brief.Brief.{Brief}
-use Rattle.hx_rules.specs.declared.brief.Facts.{Facts}
+use Rattle.hx_reconcile.specs.Briefs.{StandsFor, facts_of, hand_by, planned}
+use Rattle.hx_reconcile.specs.declared.brief.Brief.{Brief}
+use Rattle.hx_reconcile.specs.declared.brief.Facts.{Facts}
 use Rattle.hx_marks.proofs.Among.{same_key_is}
 use Rattle.hx_core.specs.Refinement.{ClusterView, Represents, HasWorld, Simulates, IsKeptOf}
 use Rattle.hx_core.specs.Turns.{IsInHand, IsOfKey, take_entry, take_key_entry}

@@ -11,10 +11,10 @@ use Rattle.hx_model.specs.Tree.{forest_of}
 use Rattle.hx_model.specs.Valid.{IsValid}
 use Rattle.hx_model.specs.declared.key.Write.{Write}
 use Rattle.hx_core.specs.Committing.{Holds}
-use Rattle.hx_core.specs.Reaching.{IsReachOf}
+use Rattle.hx_core.specs.Reaching.{IsScopeOf}
 use Rattle.hx_core.specs.Refinement.{ClusterView, HasWorld}
 use Rattle.hx_core.specs.Turns.{IsOf}
-use Rattle.hx_queue.specs.Spread.{Reach}
+use Rattle.hx_queue.specs.Spread.{Scope}
 use Rattle.hx_queue.specs.Workers.{WorkersView}
 
 -- a state, what workers hold and which keys wait, and what the keeper shows
@@ -31,6 +31,6 @@ pub record IsSound (s : State) (workers : WorkersView) (keeper : KeeperView) (st
   pub none : staged ≡ []
 
 -- The fields are sound, and the namespaces that keys are marked in as a whole are those of the state's tree
-pub record IsInside (s : State) (workers : WorkersView) (place : Option Reach) (keeper : KeeperView) (staged : List Write) : Type 0 where
+pub record IsInside (s : State) (workers : WorkersView) (place : Option Scope) (keeper : KeeperView) (staged : List Write) : Type 0 where
   pub sound : IsSound s workers keeper staged
-  pub reach : IsReachOf (forest_of s) place
+  pub scope : IsScopeOf (forest_of s) place

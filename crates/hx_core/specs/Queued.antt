@@ -16,8 +16,8 @@ use Rattle.hx_model.specs.declared.key.Finish.{Finish}
 use Rattle.hx_model.specs.declared.key.Finish.TheVariants as ending
 use Rattle.hx_model.specs.declared.key.Key.{Key}
 use Rattle.hx_model.specs.declared.key.Write.{Write}
-use Rattle.hx_rules.specs.Briefs.{hand_by}
-use Rattle.hx_rules.specs.declared.brief.Brief.{Brief}
+use Rattle.hx_reconcile.specs.Briefs.{hand_by}
+use Rattle.hx_reconcile.specs.declared.brief.Brief.{Brief}
 use Rattle.hx_core.specs.Committing.{HasMarked}
 use Rattle.hx_core.specs.Refinement.{ClusterView}
 use Rattle.hx_queue.specs.Workers.{WorkersView, IsTakenBy, IsLetGo}

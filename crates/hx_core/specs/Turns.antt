@@ -24,7 +24,7 @@ use Rattle.hx_model.specs.declared.key.Finish.{Finish}
 use Rattle.hx_model.specs.declared.key.Finish.TheVariants as ending
 use Rattle.hx_model.specs.declared.key.Key.{Key}
 use Rattle.hx_model.specs.declared.key.Write.TheVariants.{Put}
-use Rattle.hx_rules.specs.Briefs.{Planned, hand_by}
+use Rattle.hx_reconcile.specs.Briefs.{Planned, hand_by}
 use Rattle.hx_core.specs.declared.turns.Settle.{Settle}
 use Rattle.hx_core.specs.declared.turns.Settle.TheVariants as settled
 use Rattle.hx_core.specs.declared.turns.Take.{Take}

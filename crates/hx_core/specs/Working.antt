@@ -22,10 +22,10 @@ use Rattle.hx_model.specs.declared.key.Finish.TheVariants as ending
 use Rattle.hx_model.specs.declared.key.Key.{Key}
 use Rattle.hx_model.specs.declared.key.Key.TheVariants as key
 use Rattle.hx_model.specs.declared.key.Write.{Write}
-use Rattle.hx_rules.specs.Briefs.{IsShort, StandsFor, hand_by, planned_by}
-use Rattle.hx_rules.specs.declared.brief.Brief.{Brief}
-use Rattle.hx_rules.specs.declared.brief.Facts.{Facts}
-use Rattle.hx_rules.specs.declared.brief.Facts.TheVariants as facts
+use Rattle.hx_reconcile.specs.Briefs.{IsShort, StandsFor, hand_by, planned_by}
+use Rattle.hx_reconcile.specs.declared.brief.Brief.{Brief}
+use Rattle.hx_reconcile.specs.declared.brief.Facts.{Facts}
+use Rattle.hx_reconcile.specs.declared.brief.Facts.TheVariants as facts
 use Rattle.hx_core.specs.Committing.{HasLanded, HasFailed, HasMarked}
 use Rattle.hx_core.specs.Queued.{IsEnding, IsFirst, IsSameKeeping, IsTaking}
 use Rattle.hx_core.specs.Refinement.{ClusterView, Simulates}

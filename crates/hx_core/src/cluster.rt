@@ -17,7 +17,7 @@ ghost use Rattle.hx_model.specs.declared.key.Key.{Key as key_of};
 ghost use Rattle.hx_core.specs.Committing.{HasLanded, HasFailed, HasMarked, IsOrderly};
 ghost use Rattle.hx_core.specs.Loading.{Asked};
 ghost use Rattle.hx_core.specs.Queued.{writes_in};
-ghost use Rattle.hx_core.specs.Reaching.{IsReachOf};
+ghost use Rattle.hx_core.specs.Reaching.{IsScopeOf};
 ghost use Rattle.hx_core.specs.Refinement.{Represents, HasWorld, Simulates, kept_of};
 ghost use Rattle.hx_core.specs.Starting.{IsDamagedAt, IsDamageOf, key_at, IfDamage, IfDamaged, IfWhole, IsUndamaged, IsUntouched, Tells};
 
@@ -55,7 +55,7 @@ impl<K: Keeper> Model for Cluster<K> {
 
     ghost view = { λ c. view_of c.state.state c.workers.seen (K.shown c.keeper) };
 
-    ghost invariant = { λ c. IsInside c.state.state c.workers.seen c.workers.reach (K.shown c.keeper) c.state.staged };
+    ghost invariant = { λ c. IsInside c.state.state c.workers.seen c.workers.scope (K.shown c.keeper) c.state.staged };
 }
 
 /// A keeper that no cluster was started on.
@@ -220,7 +220,7 @@ fn load_work<K: Keeper>(
     ensures waiting { IfOk result (λ p. (k : key_of) → is_among k p.1.seen.waiting ≡ wants p.0.state k) }
     ensures hands { IfOk result (λ p. p.1.seen.hands ≡ []) }
     ensures again { IfOk result (λ p. p.1.seen.again ≡ []) }
-    ensures reach { IfOk result (λ p. IsReachOf (forest_of p.0.state) p.1.reach) }
+    ensures scope { IfOk result (λ p. IsScopeOf (forest_of p.0.state) p.1.scope) }
 {
     let state = load_state(alloc, keeper, config, keys, damaged_key)?;
     let mut workers = Workers::new(alloc, keys);

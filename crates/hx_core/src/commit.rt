@@ -5,7 +5,7 @@ ghost use Rattle.hx_model.specs.Valid.{IsValid};
 ghost use Rattle.hx_model.specs.Writes.{MayWriteAll};
 ghost use Rattle.hx_marks.specs.Law.{all_marks};
 ghost use Rattle.hx_core.specs.Committing.{HasLanded, HasFailed, Holds, IsPrepared, marks_but};
-ghost use Rattle.hx_core.specs.Reaching.{IsReachOf, MayMark, whole_keys};
+ghost use Rattle.hx_core.specs.Reaching.{IsScopeOf, MayMark, whole_keys};
 ghost use Rattle.hx_queue.specs.Workers.{IsMarkedBy};
 
 use crate::rows::batch_of;
@@ -113,7 +113,7 @@ pub fn write_marked<K: Keeper>(
     requires none { state.old.staged ≡ [] }
     requires may { MayWriteAll state.old.state writes.items }
     requires some { writes.items ≢ [] }
-    requires reach { IsReachOf (forest_of state.old.state) workers.old.reach }
+    requires scope { IsScopeOf (forest_of state.old.state) workers.old.scope }
     ensures landed { OnOk result (HasLanded state.old.state (K.shown keeper.old) writes.items state.new.state (K.shown keeper.new)) }
     ensures marked { OnOk result (IsMarkedBy (marks_but (option_copied own.entry) (all_marks state.old.state writes.items)) workers.old.seen workers.new.seen) }
     ensures seen { OnErr result (workers.new.seen ≡ workers.old.seen) }
@@ -121,7 +121,7 @@ pub fn write_marked<K: Keeper>(
     ensures keeper { IsErrOf result CommitFault.NoMemory → K.shown keeper.new ≡ K.shown keeper.old }
     ensures fault { IsErrOf result CommitFault.KeeperFault → HasFailed state.old.state (K.shown keeper.old) writes.items state.new.state (K.shown keeper.new) }
     ensures staged { state.new.staged ≡ [] }
-    ensures reach { IsReachOf (forest_of state.new.state) workers.new.reach }
+    ensures scope { IsScopeOf (forest_of state.new.state) workers.new.scope }
 {
     match marks_of(state, workers, writes.as_slice(), own) {
         Ok(marks) => write_marks(keeper, state, workers, writes, marks),
@@ -148,9 +148,9 @@ fn write_marks<K: Keeper>(
     requires room { length marks.keys.items ≤ workers.old.spare }
     requires spread { MayMark marks.spread workers.old }
     ensures landed { OnOk result (HasLanded state.old.state (K.shown keeper.old) writes.items state.new.state (K.shown keeper.new)) }
-    ensures marked { OnOk result (IsMarkedBy (marks.keys.items ++ whole_keys marks.spread workers.old.reach) workers.old.seen workers.new.seen) }
+    ensures marked { OnOk result (IsMarkedBy (marks.keys.items ++ whole_keys marks.spread workers.old.scope) workers.old.seen workers.new.seen) }
     ensures seen { OnErr result (workers.new.seen ≡ workers.old.seen) }
-    ensures reach { workers.new.reach ≡ workers.old.reach }
+    ensures scope { workers.new.scope ≡ workers.old.scope }
     ensures state { IsErrOf result CommitFault.NoMemory → state.new.state ≡ state.old.state }
     ensures keeper { IsErrOf result CommitFault.NoMemory → K.shown keeper.new ≡ K.shown keeper.old }
     ensures fault { IsErrOf result CommitFault.KeeperFault → HasFailed state.old.state (K.shown keeper.old) writes.items state.new.state (K.shown keeper.new) }

@@ -7,7 +7,7 @@ ghost use Rattle.hx_model.specs.Hands.{are_met, hand_of, is_met, keeps_sources, 
 ghost use Rattle.hx_model.specs.Machine.{Finished};
 ghost use Rattle.hx_model.specs.Propagation.{source_at};
 ghost use Rattle.hx_model.specs.Valid.{IsValid};
-ghost use Rattle.hx_rules.specs.Briefs.{hand_by, planned_by};
+ghost use Rattle.hx_reconcile.specs.Briefs.{hand_by, planned_by};
 ghost use Rattle.hx_core.specs.Queued.{IsEnding};
 ghost use Rattle.hx_core.specs.Refinement.{Simulates};
 ghost use Rattle.hx_core.specs.Turns.{IsPlanOf};
@@ -20,7 +20,7 @@ use hx_admit::{GREATEST_VERSION, IndexedState};
 use hx_model::{Finish, Guard, Key, Write, is_source};
 use hx_object::{Id, NoMemory, Object, Shared};
 use hx_ports::Keeper;
-use hx_rules::{Brief, Plan};
+use hx_reconcile::{Brief, Plan};
 use hx_store::Change;
 use std::alloc::Global;
 

@@ -17,7 +17,7 @@ pub fn mark_wanting(state: &IndexedState, workers: &mut Workers) -> Result<(), N
     ensures waiting { OnOk result ((k : key_of) → is_among k workers.new.seen.waiting ≡ wants state.now.state k) }
     ensures hands { OnOk result (workers.new.seen.hands ≡ []) }
     ensures again { OnOk result (workers.new.seen.again ≡ []) }
-    ensures reach { workers.new.reach ≡ workers.old.reach }
+    ensures scope { workers.new.scope ≡ workers.old.scope }
 {
     hx_briefs::mark_wanting(
         state.store(),

@@ -11,7 +11,7 @@ ghost use Rattle.hx_marks.specs.Law.{all_marks, open_below};
 ghost use Rattle.hx_queue.specs.Spread.{place_keys};
 ghost use Rattle.hx_queue.specs.Workers.{IsMarkedBy};
 ghost use Rattle.hx_core.specs.Committing.{marks_but};
-ghost use Rattle.hx_core.specs.Reaching.{HasRoot, IsReachOf, IsReady, IsSpreadable, MayMark, whole_keys};
+ghost use Rattle.hx_core.specs.Reaching.{HasRoot, IsScopeOf, IsReady, IsSpreadable, MayMark, whole_keys};
 
 use hx_admit::IndexedState;
 use hx_marks::{SpreadMarks, keeps_tree, marks, open_below, spread_marks};
@@ -32,8 +32,8 @@ pub struct Marks {
 pub fn mark(workers: &mut Workers, marks: Marks)
     requires room { length marks.keys.items ≤ workers.old.spare }
     requires spread { MayMark marks.spread workers.old }
-    ensures marked { IsMarkedBy (marks.keys.items ++ whole_keys marks.spread workers.old.reach) workers.old.seen workers.new.seen }
-    ensures reach { workers.new.reach ≡ workers.old.reach }
+    ensures marked { IsMarkedBy (marks.keys.items ++ whole_keys marks.spread workers.old.scope) workers.old.seen workers.new.seen }
+    ensures scope { workers.new.scope ≡ workers.old.scope }
 {
     let Marks { keys, spread } = marks;
     workers.mark_all(keys);
@@ -43,8 +43,8 @@ pub fn mark(workers: &mut Workers, marks: Marks)
 /// Marks the keys of an object as a whole, if there is one.
 fn mark_whole(workers: &mut Workers, spread: Option<Id>)
     requires { MayMark spread workers.old }
-    ensures marked { IsMarkedBy (whole_keys spread workers.old.reach) workers.old.seen workers.new.seen }
-    ensures reach { workers.new.reach ≡ workers.old.reach }
+    ensures marked { IsMarkedBy (whole_keys spread workers.old.scope) workers.old.seen workers.new.seen }
+    ensures scope { workers.new.scope ≡ workers.old.scope }
 {
     match spread {
         Some(id) => workers.mark_spread(id),
@@ -63,9 +63,9 @@ pub fn marks_of(
 ) -> Result<Marks, NoMemory>
     requires valid { IsValid state.now.state }
     requires may { MayWriteAll state.now.state writes.now }
-    requires reach { IsReachOf (forest_of state.now.state) workers.old.reach }
+    requires scope { IsScopeOf (forest_of state.now.state) workers.old.scope }
     ensures ready { IfOk result (λ marks. IsReady state.now.state writes.now (option_copied own.entry) marks.keys.items marks.spread workers.new) }
-    ensures reach { IsReachOf (forest_of state.now.state) workers.new.reach }
+    ensures scope { IsScopeOf (forest_of state.now.state) workers.new.scope }
     ensures seen { workers.new.seen ≡ workers.old.seen }
 {
     match own {
@@ -78,9 +78,9 @@ pub fn marks_of(
 fn any_of(state: &IndexedState, workers: &mut Workers, writes: &[Change]) -> Result<Marks, NoMemory>
     requires valid { IsValid state.now.state }
     requires may { MayWriteAll state.now.state writes.now }
-    requires reach { IsReachOf (forest_of state.now.state) workers.old.reach }
+    requires scope { IsScopeOf (forest_of state.now.state) workers.old.scope }
     ensures ready { IfOk result (λ marks. IsReady state.now.state writes.now None marks.keys.items marks.spread workers.new) }
-    ensures reach { IsReachOf (forest_of state.now.state) workers.new.reach }
+    ensures scope { IsScopeOf (forest_of state.now.state) workers.new.scope }
     ensures seen { workers.new.seen ≡ workers.old.seen }
 {
     match whole_of(state, workers, writes)? {
@@ -98,9 +98,9 @@ fn each_of(
 ) -> Result<Marks, NoMemory>
     requires valid { IsValid state.now.state }
     requires may { MayWriteAll state.now.state writes.now }
-    requires reach { IsReachOf (forest_of state.now.state) workers.old.reach }
+    requires scope { IsScopeOf (forest_of state.now.state) workers.old.scope }
     ensures ready { IfOk result (λ marks. IsReady state.now.state writes.now (option_copied own.entry) marks.keys.items marks.spread workers.new) }
-    ensures reach { IsReachOf (forest_of state.now.state) workers.new.reach }
+    ensures scope { IsScopeOf (forest_of state.now.state) workers.new.scope }
     ensures seen { workers.new.seen ≡ workers.old.seen }
 {
     outdate_for(workers, writes);
@@ -111,8 +111,8 @@ fn each_of(
 /// Where writes change the tree, the reach is outdated.
 fn outdate_for(workers: &mut Workers, writes: &[Change])
     ensures seen { workers.new.seen ≡ workers.old.seen }
-    ensures before { (f : forest) → IsReachOf f workers.old.reach → IsReachOf f workers.new.reach }
-    ensures after { (s : State) → IsReachOf (forest_of s) workers.old.reach → IsReachOf (forest_of (state_after s writes.now)) workers.new.reach }
+    ensures before { (f : forest) → IsScopeOf f workers.old.scope → IsScopeOf f workers.new.scope }
+    ensures after { (s : State) → IsScopeOf (forest_of s) workers.old.scope → IsScopeOf (forest_of (state_after s writes.now)) workers.new.scope }
 {
     if keeps_tree(writes) {
         return;
@@ -132,7 +132,7 @@ fn keys_of(
     ensures keys { IfOk result (λ keys. keys.items ≡ marks_but (option_copied own.entry) (all_marks state.now.state writes.now)) }
     ensures room { IfOk result (λ keys. length keys.items ≤ workers.new.spare) }
     ensures seen { workers.new.seen ≡ workers.old.seen }
-    ensures reach { workers.new.reach ≡ workers.old.reach }
+    ensures scope { workers.new.scope ≡ workers.old.scope }
 {
     let mut keys = marks(
         state.store(),
@@ -159,9 +159,9 @@ fn whole_of(
 ) -> Result<Option<Marks>, NoMemory>
     requires valid { IsValid state.now.state }
     requires may { MayWriteAll state.now.state writes.now }
-    requires reach { IsReachOf (forest_of state.now.state) workers.old.reach }
+    requires scope { IsScopeOf (forest_of state.now.state) workers.old.scope }
     ensures ready { IfOk result (λ o. IfSome o (λ marks. IsReady state.now.state writes.now None marks.keys.items marks.spread workers.new)) }
-    ensures reach { IsReachOf (forest_of state.now.state) workers.new.reach }
+    ensures scope { IsScopeOf (forest_of state.now.state) workers.new.scope }
     ensures seen { workers.new.seen ≡ workers.old.seen }
 {
     let Some(SpreadMarks { id, others }) = spread_of(state, writes)? else {
@@ -203,10 +203,10 @@ fn make_room(
     others: usize,
 ) -> Result<bool, NoMemory>
     requires valid { IsValid state.now.state }
-    requires reach { IsReachOf (forest_of state.now.state) workers.old.reach }
+    requires scope { IsScopeOf (forest_of state.now.state) workers.old.scope }
     ensures room { IfOk result (λ made. made ≡ true → others ≤ workers.new.spare) }
     ensures spread { IfOk result (λ made. made ≡ true → IsSpreadable id.now workers.new) }
-    ensures reach { IsReachOf (forest_of state.now.state) workers.new.reach }
+    ensures scope { IsScopeOf (forest_of state.now.state) workers.new.scope }
     ensures seen { workers.new.seen ≡ workers.old.seen }
 {
     workers.reserve_spread()?;
@@ -223,9 +223,9 @@ fn make_room(
 /// Whether the reach is that of a namespace. It is made so where nothing is marked as a whole.
 fn reaches(state: &IndexedState, workers: &mut Workers, name: &Text) -> Result<bool, NoMemory>
     requires valid { IsValid state.now.state }
-    requires reach { IsReachOf (forest_of state.now.state) workers.old.reach }
-    ensures at { IfOk result (λ at. at ≡ true → HasRoot name.now workers.new.reach) }
-    ensures reach { IsReachOf (forest_of state.now.state) workers.new.reach }
+    requires scope { IsScopeOf (forest_of state.now.state) workers.old.scope }
+    ensures at { IfOk result (λ at. at ≡ true → HasRoot name.now workers.new.scope) }
+    ensures scope { IsScopeOf (forest_of state.now.state) workers.new.scope }
     ensures seen { workers.new.seen ≡ workers.old.seen }
     ensures places { workers.new.places ≡ workers.old.places }
 {
@@ -237,13 +237,13 @@ fn reaches(state: &IndexedState, workers: &mut Workers, name: &Text) -> Result<b
     }
     let root = name.clone()?;
     let names = open_below(state.allocator(), state.forest(), name)?;
-    workers.set_reach(root, names);
+    workers.set_scope(root, names);
     Ok(true)
 }
 
 /// Whether the reach is that of a namespace.
 fn has_root(workers: &Workers, name: &Text) -> bool
-    ensures { result ≡ true → HasRoot name.now workers.now.reach }
+    ensures { result ≡ true → HasRoot name.now workers.now.scope }
 {
     match workers.root() {
         Some(root) => root.as_str() == name.as_str(),

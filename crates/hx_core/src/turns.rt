@@ -1,6 +1,6 @@
 // What workers are answered.
 use hx_model::{Finish, Key};
-use hx_rules::SharedBrief;
+use hx_reconcile::SharedBrief;
 
 /// The answer to a worker that asks for work.
 #[derive(Drop)]

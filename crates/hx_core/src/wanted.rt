@@ -11,7 +11,7 @@ use crate::briefs::brief_now;
 use hx_admit::IndexedState;
 use hx_model::{Key, Write};
 use hx_object::{Id, NoMemory, Object};
-use hx_rules::{Plan, plan};
+use hx_reconcile::{Plan, plan};
 
 /// Whether a write is the one that its key wants, as the state is.
 pub fn is_wanted(state: &IndexedState, key: &Key, write: &Write) -> Result<bool, NoMemory>

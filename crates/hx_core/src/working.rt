@@ -3,7 +3,7 @@ ghost use Rattle.std.specs.Prelude.{◌≡◌, ◌≤◌, ℕ, [], ◌∷◌, tr
 ghost use Rattle.hx_model.specs.Keys.{is_among};
 ghost use Rattle.hx_model.specs.Hands.{hand_of, is_held};
 ghost use Rattle.hx_model.specs.Machine.{Checked, Dropped, Finished};
-ghost use Rattle.hx_rules.specs.Briefs.{IsShort, StandsFor, hand_by, planned_by};
+ghost use Rattle.hx_reconcile.specs.Briefs.{IsShort, StandsFor, hand_by, planned_by};
 ghost use Rattle.hx_core.specs.Queued.{IsEnding, IsFirst, IsReleased, IsTaking};
 ghost use Rattle.hx_core.specs.Refinement.{Simulates};
 ghost use Rattle.hx_core.specs.Turns.{IsInHand, IsOfKey, take_entry, take_key_entry};
@@ -19,7 +19,7 @@ use hx_model::{Finish, Key};
 use hx_object::{NoMemory, Shared};
 use hx_ports::Keeper;
 use hx_queue::Workers;
-use hx_rules::{Plan, SharedBrief, plan};
+use hx_reconcile::{Plan, SharedBrief, plan};
 use std::alloc::Global;
 
 impl<K: Keeper> Cluster<K> {
@@ -236,7 +236,7 @@ fn give_to(state: &IndexedState, workers: &mut Workers, worker: u32, key: Key) -
     requires empty { hand_of worker workers.old.seen.hands ≡ None }
     requires free { is_held key workers.old.seen.hands ≡ false }
     ensures given { IsGivenBy worker key state.now.state workers.old.seen result workers.new.seen }
-    ensures reach { workers.new.reach ≡ workers.old.reach }
+    ensures scope { workers.new.scope ≡ workers.old.scope }
 {
     match ready_job(state, workers, &key) {
         Ok((brief, shared)) => {
@@ -263,7 +263,7 @@ fn ready_job(
     ensures seen { workers.new.seen ≡ workers.old.seen }
     ensures room { OnOk result (1 ≤ workers.new.spare) }
     ensures apart { OnOk result (is_spread workers.new.spread key.now ≡ false) }
-    ensures reach { workers.new.reach ≡ workers.old.reach }
+    ensures scope { workers.new.scope ≡ workers.old.scope }
 {
     workers.line_up(key)?;
     workers.reserve(1)?;

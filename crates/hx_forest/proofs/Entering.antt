@@ -11,10 +11,10 @@ use Rattle.std.proofs.lemmas.Map.Entries.{length-keys_of}
 use Rattle.std.proofs.lemmas.Option.{none-some, same_Some}
 use Rattle.hx_model.proofs.Climbing.{is_same, same_itself}
 use Rattle.hx_forest.specs.declared.children.Children.{Children}
-use Rattle.hx_forest.specs.declared.places.Nodes.{Nodes}
+use Rattle.hx_forest.specs.declared.nodes.Nodes.{Nodes}
 use Rattle.hx_forest.specs.Names.{NamesView}
-use Rattle.hx_forest.specs.Places.{moved, IsCut}
-use Rattle.hx_forest.specs.Ways.{index_at}
+use Rattle.hx_forest.specs.NodeTable.{moved, IsCut}
+use Rattle.hx_forest.specs.ParentRefs.{index_at}
 use Rattle.hx_forest.specs.Children.{list_at, others_of, lists_of, names_in, IsTied, IsTaken, HasEntered, HasLeft, Fits}
 use Rattle.hx_forest.proofs.Slots.{push_here, push_before, length_moved, moved_slot, index_push, index_within, own_slot}
 

@@ -17,9 +17,9 @@ use Rattle.std.proofs.lemmas.Option.{none-some, same_Some, slice_get-get_or}
 use Rattle.hx_model.specs.Forest.{Forest, is_in}
 use Rattle.hx_model.proofs.Climbing.{is_same, same_itself}
 use Rattle.hx_forest.specs.declared.children.Children.{Children}
-use Rattle.hx_forest.specs.declared.places.Nodes.{Nodes}
+use Rattle.hx_forest.specs.declared.nodes.Nodes.{Nodes}
 use Rattle.hx_forest.specs.Names.{IsAscending, NamesView}
-use Rattle.hx_forest.specs.Ways.{index_at}
+use Rattle.hx_forest.specs.ParentRefs.{index_at}
 use Rattle.hx_forest.specs.Children.{Lists, list_at, others_of, lists_of, names_in, IsTied, IsIndex, HasList, Fits}
 use Rattle.hx_forest.proofs.Ascending.{none_ascends}
 use Rattle.hx_forest.proofs.Listing.{has_first}

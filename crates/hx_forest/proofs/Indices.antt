@@ -14,12 +14,12 @@ use Rattle.std.proofs.lemmas.Option.{none-some, same_Some}
 use Rattle.hx_model.specs.Forest.{Forest, is_there, parent_of}
 use Rattle.hx_model.specs.Walks.{walk_to}
 use Rattle.hx_model.proofs.Climbing.{is_same, same_itself}
-use Rattle.hx_forest.specs.declared.places.Nodes.{Nodes}
-use Rattle.hx_forest.specs.Places.{Place}
-use Rattle.hx_forest.specs.Ways.{forest_of, node_in, place_of, index_at, name_in, place_in, parent_in}
+use Rattle.hx_forest.specs.declared.nodes.Nodes.{Nodes}
+use Rattle.hx_forest.specs.NodeTable.{Place}
+use Rattle.hx_forest.specs.ParentRefs.{forest_of, node_in, place_of, index_at, name_in, place_in, parent_in}
 use Rattle.hx_forest.specs.Inside.{nodes_end, walk_names}
 use Rattle.hx_forest.proofs.Placing.{name_at_index, own_index}
-use Rattle.hx_forest.proofs.Ways.{node_there, place_at_name, place_there, node_above, kept_place}
+use Rattle.hx_forest.proofs.ParentRefs.{node_there, place_at_name, place_there, node_above, kept_place}
 use Rattle.hx_forest.proofs.Stepping.{counted_on, ends_on, to_on, to_out, to_here}
 use Rattle.hx_forest.proofs.Passing.{names_on, names_none}
 

@@ -3,7 +3,7 @@ pub mod Nodes
 pub mod Placing
 pub mod Slots
 pub mod Restless
-pub mod Ways
+pub mod ParentRefs
 pub mod Notes
 pub mod Listing
 pub mod Ascending

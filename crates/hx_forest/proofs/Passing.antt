@@ -10,10 +10,10 @@ use Rattle.hx_model.specs.Forest.{Forest, is_in, is_there, node_of, parent_of, c
 use Rattle.hx_model.proofs.Climbing.{Climbs, at_top, stopped, onward, chain-Climbs}
 use Rattle.hx_model.proofs.Walking.{longer}
 use Rattle.hx_forest.specs.Inside.{walk_names}
-use Rattle.hx_forest.specs.declared.places.Nodes.{Nodes}
-use Rattle.hx_forest.specs.Places.{Place}
-use Rattle.hx_forest.specs.Ways.{forest_of, node_in, place_of}
-use Rattle.hx_forest.proofs.Ways.{node_there}
+use Rattle.hx_forest.specs.declared.nodes.Nodes.{Nodes}
+use Rattle.hx_forest.specs.NodeTable.{Place}
+use Rattle.hx_forest.specs.ParentRefs.{forest_of, node_in, place_of}
+use Rattle.hx_forest.proofs.ParentRefs.{node_there}
 
 pub names_none : (left : ℕ) (f : Forest) → walk_names left f None ≡ []
 names_none zero f = refl

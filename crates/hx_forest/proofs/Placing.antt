@@ -1,4 +1,4 @@
--- Places, in the order in which they lie.
+-- NodeTable, in the order in which they lie.
 --     as_many, keys_from, distinct_from, distinct_seen, length_from, names_from, nodes_from, steps_from, standings_from     of nodes and rungs in the same order
 --     index_position         the index of a name, by the test of names
 --     place_at_index         what lies where a name lies
@@ -24,9 +24,9 @@ use Rattle.indexmap.proofs.RemoveLemmas.{swap_out}
 use Rattle.hx_model.proofs.Climbing.{is_same, same_itself}
 use Rattle.hx_model.proofs.Objects.{same_test, swap_tests}
 use Rattle.hx_model.specs.declared.node.Node.{Node}
-use Rattle.hx_forest.specs.declared.steps.Standing.{Standing}
-use Rattle.hx_forest.specs.declared.steps.Step.{Step}
-use Rattle.hx_forest.specs.Places.{Place, PlacesView, place_with, step_of, standing_of, places_from, AreStanding, index_in, entry_in, changed_at}
+use Rattle.hx_forest.specs.declared.node_table.Standing.{Standing}
+use Rattle.hx_forest.specs.declared.node_table.Step.{Step}
+use Rattle.hx_forest.specs.NodeTable.{Place, NodeTableView, place_with, step_of, standing_of, places_from, AreStanding, index_in, entry_in, changed_at}
 
 abbrev Nodes : Type 0
 Nodes = List (List ℕ × Node)
@@ -53,8 +53,8 @@ keys_from (e ∷ es) (r ∷ rs) is = ap (λ ks. e.0 ∷ ks) (keys_from es rs is.
 pub distinct_from : (es : Nodes) (rs : Rungs) → AreStanding es rs → IsDistinct bytes_eq (keys_of es) → IsDistinct bytes_eq (keys_of (places_from es rs))
 distinct_from es rs is distinct = subst (λ (ks : List (List ℕ)). IsDistinct bytes_eq ks) (sym (keys_from es rs is)) distinct
 
-pub distinct_seen : (es : Nodes) (rs : Rungs) (k : ℕ) (seen : PlacesView) → record { entries = places_from es rs; spare = k } ≡ seen → AreStanding es rs → IsDistinct bytes_eq (keys_of es) → IsDistinct bytes_eq (keys_of seen.entries)
-distinct_seen es rs k seen is standing distinct = subst (λ (v : PlacesView). IsDistinct bytes_eq (keys_of v.entries)) is (distinct_from es rs standing distinct)
+pub distinct_seen : (es : Nodes) (rs : Rungs) (k : ℕ) (seen : NodeTableView) → record { entries = places_from es rs; spare = k } ≡ seen → AreStanding es rs → IsDistinct bytes_eq (keys_of es) → IsDistinct bytes_eq (keys_of seen.entries)
+distinct_seen es rs k seen is standing distinct = subst (λ (v : NodeTableView). IsDistinct bytes_eq (keys_of v.entries)) is (distinct_from es rs standing distinct)
 
 pub length_from : (es : Nodes) (rs : Rungs) → AreStanding es rs → length (places_from es rs) ≡ length es
 length_from [] rs is = refl

@@ -12,11 +12,11 @@ use Rattle.std.specs.Prelude.{vec_capacity, vec_len}
 use Rattle.indexmap.specs.IndexMap.{spare}
 use Rattle.hx_forest.specs.declared.children.Children.{Children}
 use Rattle.hx_forest.specs.declared.children.Link.{Link}
-use Rattle.hx_forest.specs.declared.places.Nodes.{Nodes}
+use Rattle.hx_forest.specs.declared.nodes.Nodes.{Nodes}
 use Rattle.hx_forest.specs.declared.prepared.Prepared.{Prepared}
 use Rattle.hx_forest.specs.Children.{Lists, lists_of, IsIndex, Fits}
 use Rattle.hx_forest.specs.Kept.{changed_by, MayChangeAll}
-use Rattle.hx_forest.specs.Ways.{forest_of}
+use Rattle.hx_forest.specs.ParentRefs.{forest_of}
 use Rattle.hx_forest.specs.Staged.{changes_of, StartsEmpty, FitsUnder, IsPrepared}
 use Rattle.hx_forest.specs.Invariant.{IsReady}
 use Rattle.hx_forest.proofs.Indexing.{lists_named, index_named}

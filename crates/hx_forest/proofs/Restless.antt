@@ -2,7 +2,7 @@
 --     same_restless         with one changed that stands as it did
 --     small_count, count_push, count_set, count_cut      so a count is kept
 --     none_restless, none_named      where none stands so, none of their nodes does
---     all_calm              and each that names a parent is calm
+--     all_eligible              and each that names a parent is eligible
 use Rattle.std.specs.Prelude.{◌<◌, ◌^◌, slice_get, swap_remove, slice_set, slice_index_or, take, nat_lt, is_some, option_and_then}
 use Rattle.std.proofs.Common.{◌≡◌, ◌≤◌, ℕ, zero, suc, ◌+◌, ◌-◌, Bool, true, false, cond, not, ◌&&◌, List, [], ◌∷◌, ◌++◌, length, Option, Some, None, option_map, refl, sym, ap, ◌∙◌, arith, true≢false}
 use Rattle.std.specs.Map.{lookup}
@@ -11,14 +11,14 @@ use Rattle.std.specs.Str.{bytes_eq}
 use Rattle.std.proofs.lemmas.Bool.{ltb-false}
 use Rattle.std.proofs.lemmas.Option.{none-some, same_Some}
 use Rattle.hx_model.specs.Forest.{Forest, node_of, parent_of}
-use Rattle.hx_model.specs.Moves.{is_calm}
+use Rattle.hx_model.specs.Moves.{is_eligible}
 use Rattle.hx_model.specs.declared.node.Node.{Node}
-use Rattle.hx_forest.specs.declared.steps.Standing.{Standing}
-use Rattle.hx_forest.specs.declared.steps.Step.{Step}
-use Rattle.hx_forest.specs.declared.places.Nodes.{Nodes as Kept}
-use Rattle.hx_forest.specs.Ways.{forest_of, place_of}
-use Rattle.hx_forest.proofs.Ways.{node_there}
-use Rattle.hx_forest.specs.Places.{Place, place_with, standing_of, places_from, AreStanding, is_restless, one_if, restless_in}
+use Rattle.hx_forest.specs.declared.node_table.Standing.{Standing}
+use Rattle.hx_forest.specs.declared.node_table.Step.{Step}
+use Rattle.hx_forest.specs.declared.nodes.Nodes.{Nodes as Kept}
+use Rattle.hx_forest.specs.ParentRefs.{forest_of, place_of}
+use Rattle.hx_forest.proofs.ParentRefs.{node_there}
+use Rattle.hx_forest.specs.NodeTable.{Place, place_with, standing_of, places_from, AreStanding, is_restless, one_if, restless_in}
 
 abbrev Nodes : Type 0
 Nodes = List (List ℕ × Node)
@@ -162,15 +162,15 @@ none_named nodes none q node at = by (place_of nodes q) refl
         let same : p.node ≡ node = same_Some p.node node (sym (ap (option_map (λ p. p.node)) there) ∙ sym (node_there nodes q) ∙ at) in
         ap (λ (m : Node). is_restless (standing_of m)) (sym same) ∙ none q p there
 
--- then each that names a parent is calm
-pub all_calm : (f : Forest) → ((q : List ℕ) (node : Node) → node_of f q ≡ Some node → is_restless (standing_of node) ≡ false) → (n : List ℕ) → is_some (parent_of f n) ≡ true → is_calm f n ≡ true
-all_calm f none n has = by (node_of f n) refl has
+-- then each that names a parent is eligible
+pub all_eligible : (f : Forest) → ((q : List ℕ) (node : Node) → node_of f q ≡ Some node → is_restless (standing_of node) ≡ false) → (n : List ℕ) → is_some (parent_of f n) ≡ true → is_eligible f n ≡ true
+all_eligible f none n has = by (node_of f n) refl has
   where
-    calm : (a b : Bool) → a ≡ true → (not (not a) && not b) ≡ false → b ≡ true
-    calm true true h e = refl
-    calm true false h e = absurd (true≢false e)
-    calm false b h e = absurd (true≢false (sym h))
+    eligible : (a b : Bool) → a ≡ true → (not (not a) && not b) ≡ false → b ≡ true
+    eligible true true h e = refl
+    eligible true false h e = absurd (true≢false e)
+    eligible false b h e = absurd (true≢false (sym h))
 
     by : (o : Option Node) → node_of f n ≡ o → is_some (option_and_then (λ node. node.parent) o) ≡ true → (option_map_or (λ node. not node.terminating) o false && not (option_map_or (λ node. node.excluded) o false)) ≡ true
     by None out h = absurd (true≢false (sym h))
-    by (Some node) there h = calm (is_some node.parent) (not node.terminating && not node.excluded) h (none n node there)
+    by (Some node) there h = eligible (is_some node.parent) (not node.terminating && not node.excluded) h (none n node there)

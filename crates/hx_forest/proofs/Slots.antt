@@ -20,7 +20,7 @@ use Rattle.std.proofs.lemmas.Map.Entries.{length-keys_of}
 use Rattle.std.proofs.lemmas.Option.{none-some, same_Some, slice_get-get_or, slice_get_within}
 use Rattle.hx_model.proofs.Climbing.{is_same, same_itself}
 use Rattle.hx_model.proofs.Objects.{swap_tests}
-use Rattle.hx_forest.specs.Places.{Place, index_in, entry_in, changed_at, moved, IsCut}
+use Rattle.hx_forest.specs.NodeTable.{Place, index_in, entry_in, changed_at, moved, IsCut}
 use Rattle.hx_forest.proofs.Placing.{place_at_index, name_at_index, own_index}
 
 abbrev Rows : Type 0

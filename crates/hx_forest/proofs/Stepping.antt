@@ -15,9 +15,9 @@ use Rattle.hx_model.specs.Forest.{Forest, is_there, node_of, parent_of}
 use Rattle.hx_model.specs.Walks.{walk_to, walk_ends}
 use Rattle.hx_model.specs.First.{so, first}
 use Rattle.hx_model.specs.declared.node.Halt.TheVariants.{ParentMissing, IllegalParent}
-use Rattle.hx_forest.specs.declared.steps.Standing.{Standing}
+use Rattle.hx_forest.specs.declared.node_table.Standing.{Standing}
 use Rattle.hx_forest.specs.Inside.{halt_at, halt_by, is_halted_by, node_at, nodes_end, nodes_halt}
-use Rattle.hx_forest.specs.Places.{standing_of}
+use Rattle.hx_forest.specs.NodeTable.{standing_of}
 
 nothing_left : {A : Type 0} → 0 < 0 → A
 nothing_left pos = let no : ⊥ = omega arith in absurd no
@@ -106,7 +106,7 @@ halted_by node above = by node.parent above
     under false true = refl
     under false false = refl
 
-    by : (parent : Option (List ℕ)) (above : Option Node) → (not (not (is_some parent)) && option_map_or (λ (s : Standing). not s.calm) (option_map standing_of above) true) ≡ is_some (halt_at parent above)
+    by : (parent : Option (List ℕ)) (above : Option Node) → (not (not (is_some parent)) && option_map_or (λ (s : Standing). not s.eligible) (option_map standing_of above) true) ≡ is_some (halt_at parent above)
     by None above = refl
     by (Some p) None = refl
     by (Some p) (Some q) = under q.terminating q.excluded

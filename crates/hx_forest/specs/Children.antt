@@ -15,9 +15,9 @@ use Rattle.std.specs.Map.{lookup}
 use Rattle.std.specs.Str.{bytes_eq}
 use Rattle.hx_model.specs.Forest.{Forest, children_of, is_in}
 use Rattle.hx_forest.specs.declared.children.Children.{Children}
-use Rattle.hx_forest.specs.declared.places.Nodes.{Nodes}
+use Rattle.hx_forest.specs.declared.nodes.Nodes.{Nodes}
 use Rattle.hx_forest.specs.Names.{IsAscending, NamesView}
-use Rattle.hx_forest.specs.Ways.{index_at}
+use Rattle.hx_forest.specs.ParentRefs.{index_at}
 
 -- a list for each name, where it has one
 abbrev pub Lists : Type 0

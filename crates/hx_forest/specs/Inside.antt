@@ -16,7 +16,7 @@ use Rattle.hx_model.specs.Forest.{Forest, node_of, is_there, parent_of, children
 use Rattle.hx_model.specs.Walks.{walk_to}
 use Rattle.hx_model.specs.declared.node.Node.{Node}
 use Rattle.hx_model.specs.declared.node.Halt.{Halt}
-use Rattle.hx_forest.specs.declared.steps.Standing.{Standing}
+use Rattle.hx_forest.specs.declared.node_table.Standing.{Standing}
 use Rattle.hx_model.specs.declared.node.Halt.TheVariants.{ParentMissing, IllegalParent}
 
 -- the namespaces that a walk up passes in so many steps
@@ -49,7 +49,7 @@ halt_by f parent = halt_at parent (node_at f parent)
 
 -- whether a namespace has such a reason, by how its node and that of its parent stand
 abbrev pub is_halted_by : Standing → Option Standing → Bool
-is_halted_by member above = not member.root && option_map_or (λ s. not s.calm) above true
+is_halted_by member above = not member.root && option_map_or (λ s. not s.eligible) above true
 
 -- how many nodes a walk up from a node passes, where it has ended by then
 abbrev pub nodes_end : ℕ → Forest → Option Node → Option ℕ

@@ -6,10 +6,10 @@ use Rattle.std.specs.List.{AllByRecursion}
 use Rattle.indexmap.specs.IndexMap.{spare}
 use Rattle.hx_forest.specs.Children.{lists_of, IsIndex}
 use Rattle.hx_forest.specs.Kept.{MayChangeAll}
-use Rattle.hx_forest.specs.Ways.{forest_of, AllLeadUp}
+use Rattle.hx_forest.specs.ParentRefs.{forest_of, AllLeadUp}
 use Rattle.hx_forest.specs.Notes.{AreNoted}
 use Rattle.hx_forest.specs.Staged.{IsPrepared, changes_of}
-use Rattle.hx_forest.specs.declared.places.Nodes.{Nodes}
+use Rattle.hx_forest.specs.declared.nodes.Nodes.{Nodes}
 use Rattle.hx_forest.specs.declared.children.Children.{Children}
 use Rattle.hx_forest.specs.declared.prepared.Prepared.{Prepared}
 use Rattle.hx_forest.specs.declared.forest.Forest.TheInside.{Inside}

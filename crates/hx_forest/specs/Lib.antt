@@ -1,7 +1,7 @@
 pub mod Names
 pub mod Named
-pub mod Places
-pub mod Ways
+pub mod NodeTable
+pub mod ParentRefs
 pub mod Notes
 pub mod Children
 pub mod Inside

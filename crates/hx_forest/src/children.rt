@@ -4,9 +4,9 @@ ghost use Rattle.std.specs.Str.{bytes_eq};
 ghost use Rattle.indexmap.specs.IndexMap.{spare};
 ghost use Rattle.hx_model.specs.Forest.{is_in};
 ghost use Rattle.hx_forest.specs.Names.{IsAscending};
-ghost use Rattle.hx_forest.specs.Ways.{index_at};
+ghost use Rattle.hx_forest.specs.ParentRefs.{index_at};
 ghost use Rattle.hx_forest.specs.Children.{list_at, others_of, lists_of, names_in, IsTied, IsTaken, HasEntered, HasLeft, HasList, Fits};
-ghost use Rattle.hx_forest.specs.declared.places.Nodes.{Nodes};
+ghost use Rattle.hx_forest.specs.declared.nodes.Nodes.{Nodes};
 
 use crate::names::Names;
 use hx_object::{NoMemory, Text};

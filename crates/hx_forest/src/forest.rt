@@ -6,7 +6,7 @@ ghost use Rattle.hx_forest.specs.Kept.{changed_by_all, MayChangeAll};
 
 use crate::change::Change;
 use crate::children::Children;
-use crate::places::Nodes;
+use crate::nodes::Nodes;
 use crate::prepared::{Prepared, make, prepare, reserve};
 use hx_model::Node;
 use hx_object::{NoMemory, Text};
@@ -36,7 +36,7 @@ impl Drop for Forest {
 
 impl Model for Forest {
     ghost use Rattle.hx_forest.specs.Kept.{ForestView, view_code};
-    ghost use Rattle.hx_forest.specs.Ways.{forest_of};
+    ghost use Rattle.hx_forest.specs.ParentRefs.{forest_of};
     ghost use Rattle.hx_forest.specs.Staged.{changes_of};
 
     ghost Value = { ForestView };

@@ -4,17 +4,17 @@ ghost use Rattle.std.specs.Map.{keys_of};
 ghost use Rattle.hx_model.specs.Cases.{is_leaving};
 ghost use Rattle.hx_model.specs.First.{so, first};
 ghost use Rattle.hx_model.specs.Forest.{own_halt_of, halt_of, is_live, parent_of};
-ghost use Rattle.hx_model.specs.Moves.{is_calm};
+ghost use Rattle.hx_model.specs.Moves.{is_eligible};
 ghost use Rattle.hx_model.specs.TreeLabels.{is_open};
 ghost use Rattle.hx_model.specs.Walks.{walk_ends};
 ghost use Rattle.hx_forest.specs.Inside.{halt_at, halt_under, is_halted_by, nodes_halt};
-ghost use Rattle.hx_forest.specs.Ways.{forest_of, node_in, index_at, place_in, AllLeadUp};
+ghost use Rattle.hx_forest.specs.ParentRefs.{forest_of, node_in, index_at, place_in, AllLeadUp};
 ghost use Rattle.hx_forest.specs.Notes.{AreNoted};
 ghost use Rattle.hx_model.specs.declared.node.Halt.TheVariants.{Ancestor};
 
 use crate::forest::Forest;
-use crate::places::Nodes;
-use crate::steps::Standing;
+use crate::node_table::Standing;
+use crate::nodes::Nodes;
 use hx_model::{Halt, Node};
 use hx_object::Text;
 
@@ -47,18 +47,18 @@ impl Forest {
     }
 
     /// Whether a namespace is there and not on its way out, and isn't excluded.
-    pub fn is_calm(&self, name: &Text) -> bool
-        ensures { result ≡ is_calm self.now.nodes name.now }
+    pub fn is_eligible(&self, name: &Text) -> bool
+        ensures { result ≡ is_eligible self.now.nodes name.now }
     {
         match self.nodes.standing_of(name) {
-            Some(standing) => standing.calm,
+            Some(standing) => standing.eligible,
             None => false,
         }
     }
 
     /// Whether a namespace that names a parent may be on its way out or excluded, in constant time. Where none is, all below one that takes part do.
     pub fn may_be_restless(&self) -> bool
-        ensures { result ≡ false → (n : List ℕ) → is_some (parent_of self.now.nodes n) ≡ true → is_calm self.now.nodes n ≡ true }
+        ensures { result ≡ false → (n : List ℕ) → is_some (parent_of self.now.nodes n) ≡ true → is_eligible self.now.nodes n ≡ true }
     {
         self.nodes.has_restless()
     }
@@ -81,11 +81,11 @@ impl Forest {
 impl Nodes {
     /// Notes that a namespace isn't halted, where it isn't.
     fn note(&mut self, name: &Text)
-        requires ways { AllLeadUp self.old }
+        requires parent_refs { AllLeadUp self.old }
         requires notes { AreNoted self.old }
         ensures nodes { forest_of self.new ≡ forest_of self.old }
         ensures names { keys_of self.new.places.entries ≡ keys_of self.old.places.entries }
-        ensures ways { AllLeadUp self.new }
+        ensures parent_refs { AllLeadUp self.new }
         ensures notes { AreNoted self.new }
         ensures room { self.old.places.spare ≤ self.new.places.spare }
     {
@@ -99,19 +99,19 @@ impl Nodes {
 
     /// Whether a namespace takes part.
     fn is_open(&self, name: &Text) -> bool
-        requires ways { AllLeadUp self.now }
+        requires parent_refs { AllLeadUp self.now }
         requires notes { AreNoted self.now }
         ensures { result ≡ is_open (forest_of self.now) name.now }
     {
         match self.index_of(name) {
-            Some(at) => self.is_calm(at) && self.halt_from(name, at).is_none(),
+            Some(at) => self.is_eligible(at) && self.halt_from(name, at).is_none(),
             None => false,
         }
     }
 
     /// Why a namespace is halted: the first reason that holds.
     fn halt(&self, name: &Text) -> Option<Halt>
-        requires ways { AllLeadUp self.now }
+        requires parent_refs { AllLeadUp self.now }
         requires notes { AreNoted self.now }
         ensures { result ≡ halt_of (forest_of self.now) name.now }
     {
@@ -122,18 +122,18 @@ impl Nodes {
     }
 
     /// Whether the namespace at an index isn't on its way out, and isn't excluded.
-    fn is_calm(&self, at: usize) -> bool
+    fn is_eligible(&self, at: usize) -> bool
         ensures { (node : Node) → node_in (place_in self.now (Some at)) ≡ Some node → result ≡ (not node.terminating && not node.excluded) }
     {
         match self.standing(Some(at)) {
-            Some(standing) => standing.calm,
+            Some(standing) => standing.eligible,
             None => false,
         }
     }
 
     /// Why a namespace is halted that lies at this index, as it is noted or by a walk up. One that ends meets each member once.
     fn halt_from(&self, name: &Text, at: usize) -> Option<Halt>
-        requires ways { AllLeadUp self.now }
+        requires parent_refs { AllLeadUp self.now }
         requires notes { AreNoted self.now }
         requires at { index_at self.now (Some name.now) ≡ Some at }
         ensures { result ≡ halt_of (forest_of self.now) name.now }
@@ -180,7 +180,7 @@ impl Nodes {
 
     /// Why a namespace is halted whose walk up comes to a cycle.
     fn halt_by_ring(&self, name: &Text) -> Option<Halt>
-        requires ways { AllLeadUp self.now }
+        requires parent_refs { AllLeadUp self.now }
         requires ring { is_some (walk_ends (length (forest_of self.now) + 1) (forest_of self.now) (Some name.now)) ≡ false }
         ensures { result ≡ halt_of (forest_of self.now) name.now }
     {
@@ -229,7 +229,7 @@ fn is_halted_by(member: &Standing, above: Option<&Standing>) -> bool
         return false;
     }
     match above {
-        Some(parent) => !parent.calm,
+        Some(parent) => !parent.eligible,
         None => true,
     }
 }

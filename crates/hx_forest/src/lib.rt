@@ -9,9 +9,9 @@ mod descents;
 mod forest;
 mod halting;
 mod names;
-mod places;
+mod node_table;
+mod nodes;
 mod prepared;
-mod steps;
 mod walks;
 
 pub use change::Change;

@@ -7,13 +7,13 @@ ghost use Rattle.hx_model.specs.Forest.{is_there, with_parent};
 ghost use Rattle.hx_model.specs.ForestChanges.{with_node, without_node};
 ghost use Rattle.hx_forest.specs.Children.{lists_of, IsTied, IsIndex, Fits};
 ghost use Rattle.hx_forest.specs.Kept.{changed_by, MayChange};
-ghost use Rattle.hx_forest.specs.Ways.{forest_of, index_at, parent_in, AllLeadUp};
+ghost use Rattle.hx_forest.specs.ParentRefs.{forest_of, index_at, parent_in, AllLeadUp};
 ghost use Rattle.hx_forest.specs.Notes.{AreNoted};
 ghost use Rattle.hx_forest.specs.Staged.{parted_by, joined_by, leaves_by, joins_by, place_of, changes_of, IsLeft, IsJoined, StartsEmpty, FitsUnder, IsLinked, IsPrepared};
 
 use crate::change::Change;
 use crate::children::{Children, Link};
-use crate::places::Nodes;
+use crate::nodes::Nodes;
 use hx_model::Node;
 use hx_object::{NoMemory, Text};
 use std::alloc::Global;
@@ -74,7 +74,7 @@ pub(crate) fn reserve(
 ) -> Result<(), NoMemory>
     requires { IsTied nodes.old children.old }
     ensures nodes { forest_of nodes.new ≡ forest_of nodes.old }
-    ensures ways { AllLeadUp nodes.old → AllLeadUp nodes.new }
+    ensures parent_refs { AllLeadUp nodes.old → AllLeadUp nodes.new }
     ensures notes { AreNoted nodes.old → AreNoted nodes.new }
     ensures names { (q : List ℕ) → option_map (λ n. n.names) (lists_of nodes.new children.new q) ≡ option_map (λ n. n.names) (lists_of nodes.old children.old q) }
     ensures tied { IsTied nodes.new children.new }
@@ -135,14 +135,14 @@ fn reserve_for(
 /// Makes a change of nodes, and of the children that follow from them. It takes no memory.
 pub(crate) fn make(nodes: &mut Nodes, children: &mut Children, prepared: Prepared)
     requires may { MayChange prepared.change (forest_of nodes.old) }
-    requires ways { AllLeadUp nodes.old }
+    requires parent_refs { AllLeadUp nodes.old }
     requires index { IsIndex nodes.old children.old (forest_of nodes.old) }
     requires ready { IsPrepared 1 (lists_of nodes.old children.old) prepared }
     requires node_room { 1 ≤ nodes.old.places.spare }
     requires list_room { 1 ≤ vec_capacity children.old.lists - vec_len children.old.lists }
     requires other_room { 1 ≤ spare children.old.others }
     ensures nodes { forest_of nodes.new ≡ changed_by prepared.change (forest_of nodes.old) }
-    ensures ways { AllLeadUp nodes.new }
+    ensures parent_refs { AllLeadUp nodes.new }
     ensures notes { AreNoted nodes.old → AreNoted nodes.new }
     ensures index { IsIndex nodes.new children.new (forest_of nodes.new) }
     ensures node_room { nodes.old.places.spare ≤ nodes.new.places.spare + 1 }
@@ -158,13 +158,13 @@ pub(crate) fn make(nodes: &mut Nodes, children: &mut Children, prepared: Prepare
 /// Makes a change of nodes, but that no child joins its new parent. What names another parent lies at the index that comes back.
 fn change_nodes(nodes: &mut Nodes, children: &mut Children, change: Change) -> Option<usize>
     requires may { MayChange change (forest_of nodes.old) }
-    requires ways { AllLeadUp nodes.old }
+    requires parent_refs { AllLeadUp nodes.old }
     requires index { IsIndex nodes.old children.old (forest_of nodes.old) }
     requires node_room { 1 ≤ nodes.old.places.spare }
     requires list_room { 1 ≤ vec_capacity children.old.lists - vec_len children.old.lists }
     requires other_room { 1 ≤ spare children.old.others }
     ensures nodes { forest_of nodes.new ≡ changed_by change (forest_of nodes.old) }
-    ensures ways { AllLeadUp nodes.new }
+    ensures parent_refs { AllLeadUp nodes.new }
     ensures notes { AreNoted nodes.old → AreNoted nodes.new }
     ensures index { IsIndex nodes.new children.new (parted_by change (forest_of nodes.old)) }
     ensures at { IfSome (joined_by change) (λ place. parent_in nodes.new result ≡ Some place.0) }
@@ -190,12 +190,12 @@ fn change_nodes(nodes: &mut Nodes, children: &mut Children, change: Change) -> O
 /// Adds a node, and gives back where it lies. Who names it already is its child.
 fn add(nodes: &mut Nodes, children: &mut Children, name: Text, node: Node) -> usize
     requires absent { is_there (forest_of nodes.old) name ≡ false }
-    requires ways { AllLeadUp nodes.old }
+    requires parent_refs { AllLeadUp nodes.old }
     requires index { IsIndex nodes.old children.old (forest_of nodes.old) }
     requires node_room { 1 ≤ nodes.old.places.spare }
     requires list_room { 1 ≤ vec_capacity children.old.lists - vec_len children.old.lists }
     ensures nodes { forest_of nodes.new ≡ with_node name node (forest_of nodes.old) }
-    ensures ways { AllLeadUp nodes.new }
+    ensures parent_refs { AllLeadUp nodes.new }
     ensures notes { AreNoted nodes.old → AreNoted nodes.new }
     ensures index { IsIndex nodes.new children.new (forest_of nodes.old) }
     ensures at { parent_in nodes.new (Some result) ≡ node.parent }
@@ -206,7 +206,7 @@ fn add(nodes: &mut Nodes, children: &mut Children, name: Text, node: Node) -> us
 {
     children.enter(&name);
     let at = nodes.add(name, node);
-    find_ways_to(nodes, children, at);
+    find_parent_refs_to(nodes, children, at);
     at
 }
 
@@ -218,10 +218,10 @@ fn set_parent(
     parent: Option<Text>,
 ) -> Option<usize>
     requires there { is_there (forest_of nodes.old) name.now ≡ true }
-    requires ways { AllLeadUp nodes.old }
+    requires parent_refs { AllLeadUp nodes.old }
     requires index { IsIndex nodes.old children.old (forest_of nodes.old) }
     ensures nodes { forest_of nodes.new ≡ with_parent name.now parent (forest_of nodes.old) }
-    ensures ways { AllLeadUp nodes.new }
+    ensures parent_refs { AllLeadUp nodes.new }
     ensures notes { AreNoted nodes.old → AreNoted nodes.new }
     ensures index { IsIndex nodes.new children.new (with_parent name.now None (forest_of nodes.old)) }
     ensures at { parent_in nodes.new result ≡ parent }
@@ -240,11 +240,11 @@ fn set_parent(
 /// Takes a node out. Its children stay those of its name.
 fn remove(nodes: &mut Nodes, children: &mut Children, name: Text)
     requires there { is_there (forest_of nodes.old) name ≡ true }
-    requires ways { AllLeadUp nodes.old }
+    requires parent_refs { AllLeadUp nodes.old }
     requires index { IsIndex nodes.old children.old (forest_of nodes.old) }
     requires room { 1 ≤ spare children.old.others }
     ensures nodes { forest_of nodes.new ≡ without_node name (forest_of nodes.old) }
-    ensures ways { AllLeadUp nodes.new }
+    ensures parent_refs { AllLeadUp nodes.new }
     ensures notes { AreNoted nodes.old → AreNoted nodes.new }
     ensures index { IsIndex nodes.new children.new (without_node name (forest_of nodes.old)) }
     ensures node_room { nodes.old.places.spare ≤ nodes.new.places.spare }
@@ -259,14 +259,14 @@ fn remove(nodes: &mut Nodes, children: &mut Children, name: Text)
     let old = nodes.remove(at);
     unlink(children, above, old.as_ref(), &name);
     children.leave(at, name);
-    find_ways_to(nodes, children, at);
+    find_parent_refs_to(nodes, children, at);
 }
 
 /// Looks up the ways to the node at an index anew. It takes no memory.
-fn find_ways_to(nodes: &mut Nodes, children: &Children, at: usize)
+fn find_parent_refs_to(nodes: &mut Nodes, children: &Children, at: usize)
     ensures nodes { forest_of nodes.new ≡ forest_of nodes.old }
     ensures names { keys_of nodes.new.places.entries ≡ keys_of nodes.old.places.entries }
-    ensures ways { AllLeadUp nodes.old → AllLeadUp nodes.new }
+    ensures parent_refs { AllLeadUp nodes.old → AllLeadUp nodes.new }
     ensures notes { AreNoted nodes.old → AreNoted nodes.new }
     ensures room { nodes.old.places.spare ≤ nodes.new.places.spare }
 {
@@ -274,7 +274,7 @@ fn find_ways_to(nodes: &mut Nodes, children: &Children, at: usize)
         return;
     };
     let names = children.of(Some(at), name);
-    nodes.find_ways(names);
+    nodes.find_parent_refs(names);
 }
 
 /// Takes a child away from a parent that lies at an index, where it has one. It takes no memory.
@@ -293,7 +293,7 @@ fn unlink(children: &mut Children, at: Option<usize>, parent: Option<&Text>, chi
 
 /// Keeps a child under the parent of the node at an index. It takes no memory.
 fn join(nodes: &Nodes, children: &mut Children, at: Option<usize>, link: Option<Link>)
-    requires ways { AllLeadUp nodes.now }
+    requires parent_refs { AllLeadUp nodes.now }
     requires at { IfSome link (λ l. parent_in nodes.now at ≡ Some l.parent) }
     requires tied { IsTied nodes.now children.old }
     requires list { StartsEmpty 1 link }

@@ -4,10 +4,10 @@ ghost use Rattle.std.specs.Iterator.{YieldsFirstRef, item_count};
 ghost use Rattle.hx_model.specs.Forest.{depth_of, in_chain, chain_of};
 ghost use Rattle.hx_model.specs.Walks.{walk_to};
 ghost use Rattle.hx_forest.specs.Inside.{nodes_end};
-ghost use Rattle.hx_forest.specs.Ways.{forest_of, node_in, index_at, place_in, AllLeadUp};
+ghost use Rattle.hx_forest.specs.ParentRefs.{forest_of, node_in, index_at, place_in, AllLeadUp};
 
 use crate::forest::Forest;
-use crate::places::Nodes;
+use crate::nodes::Nodes;
 use hx_object::{NoMemory, Text};
 use std::marker::Model;
 
@@ -23,7 +23,7 @@ pub struct Ancestors<'a> {
 impl<'a> Model for Ancestors<'a> {
     ghost use Rattle.std.specs.Prelude.{List, ℕ};
     ghost use Rattle.hx_forest.specs.Inside.{walk_names};
-    ghost use Rattle.hx_forest.specs.Ways.{forest_of, name_in, AllLeadUp};
+    ghost use Rattle.hx_forest.specs.ParentRefs.{forest_of, name_in, AllLeadUp};
 
     ghost Value = { List (List ℕ) };
 
@@ -115,7 +115,7 @@ impl Nodes {
 
     /// How many members the chain of a namespace has that lies at an index, where it is there.
     fn chain_len_at(&self, name: &Text, at: Option<usize>) -> usize
-        requires ways { AllLeadUp self.now }
+        requires parent_refs { AllLeadUp self.now }
         requires at { at ≡ index_at self.now (Some name.now) }
         ensures { result ≡ length (chain_of (forest_of self.now) name.now) }
     {

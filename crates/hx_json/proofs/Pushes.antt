@@ -18,10 +18,10 @@ use Rattle.hx_object.specs.declared.object.Payload.{Payload}
 use Rattle.hx_object.specs.declared.object.Payload.TheVariants.{Namespace, Config, Hierarchy, Anchor, Quota, Plain}
 use Rattle.hx_object.specs.Json.{own_members}
 use Rattle.hx_model.specs.Json.{objects_items, list_text}
-use Rattle.hx_model.specs.Replies.{status_text, gone_text}
+use Rattle.hx_model.specs.Replies.{status_text, deleted_text}
 use Rattle.hx_model.specs.declared.refusal.Refusal.{Refusal}
 use Rattle.hx_model.specs.declared.refusal.Refusal.TheVariants as of
-use Rattle.hx_json.specs.Pushed.{pairs_text, pairs_front, namespace_text, metadata_text, head_text, namespace_rest, config_rest, quota_spec, hard_text, used_text, usages_rest, spec_part, conditions_alone, conditions_behind, status_rest, rest_text, pushed_list, pushed_status, pushed_gone, rule_text, over_text}
+use Rattle.hx_json.specs.Pushed.{pairs_text, pairs_front, namespace_text, metadata_text, head_text, namespace_rest, config_rest, quota_spec, hard_text, used_text, usages_rest, spec_part, conditions_alone, conditions_behind, status_rest, rest_text, pushed_list, pushed_status, pushed_deleted, rule_text, over_text}
 
 -- two brackets behind a text
 closed_twice : (text : List ℕ) → (text ++ 125 ∷ []) ++ 125 ∷ [] ≡ text ++ codes "}}"
@@ -191,6 +191,6 @@ status_pushed (of.Broken rule) = refl
 status_pushed (of.OverQuota ns quota resource used asked hard) = refl
 status_pushed _ = refl
 
-pub gone_pushed : (version : ℕ) → pushed_gone version ≡ gone_text version
-unfolding pushed_gone gone_text escape_byte
-gone_pushed version = ap (λ t. codes "{\"apiVersion\":\"v1\",\"kind\":\"Status\",\"metadata\":{\"resourceVersion\":" ++ t) (sym (append_assoc (quoted (decimal version)) (125 ∷ []) (codes ",\"status\":\"Success\"}")))
+pub deleted_pushed : (version : ℕ) → pushed_deleted version ≡ deleted_text version
+unfolding pushed_deleted deleted_text escape_byte
+deleted_pushed version = ap (λ t. codes "{\"apiVersion\":\"v1\",\"kind\":\"Status\",\"metadata\":{\"resourceVersion\":" ++ t) (sym (append_assoc (quoted (decimal version)) (125 ∷ []) (codes ",\"status\":\"Success\"}")))

@@ -1,4 +1,4 @@
--- How code puts texts together, piece by piece from left to right. Those of `pushed_list`, `pushed_status` and `pushed_gone` are the whole texts.
+-- How code puts texts together, piece by piece from left to right. Those of `pushed_list`, `pushed_status` and `pushed_deleted` are the whole texts.
 --     pairs_text, pairs_front      pairs as an object, and the same under a name and with a comma behind
 --     metadata_text, head_text     the metadata, and an object up to its metadata
 --     front_part, later_part       kept members in front of the first that each object has, and those between two
@@ -182,5 +182,5 @@ pushed_status r =
     ++ (codes ",\"metadata\":{},\"reason\":" ++ (quoted (reason_of r) ++ codes ",\"status\":\"Failure\"}"))))))
 
 -- a removal
-unfoldable pub pushed_gone : ℕ → List ℕ
-pushed_gone version = codes "{\"apiVersion\":\"v1\",\"kind\":\"Status\",\"metadata\":{\"resourceVersion\":" ++ (quoted (decimal version) ++ codes "},\"status\":\"Success\"}")
+unfoldable pub pushed_deleted : ℕ → List ℕ
+pushed_deleted version = codes "{\"apiVersion\":\"v1\",\"kind\":\"Status\",\"metadata\":{\"resourceVersion\":" ++ (quoted (decimal version) ++ codes "},\"status\":\"Success\"}")

@@ -9,4 +9,4 @@ mod write;
 pub use fault::{JsonFault, Read, RowFault};
 pub use law::law_of_texts;
 pub use read::{BodyReader, is_long_decimal};
-pub use write::{push_gone, push_list, push_object, push_status, write_object};
+pub use write::{push_deleted, push_list, push_object, push_status, write_object};

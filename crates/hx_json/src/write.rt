@@ -10,4 +10,4 @@ mod usages;
 
 pub use list::push_list;
 pub use object::{push_object, write_object};
-pub use status::{push_gone, push_status};
+pub use status::{push_deleted, push_status};

@@ -16,7 +16,7 @@ use Rattle.hx_model.specs.Covered.{IsSameFor}
 use Rattle.hx_model.specs.Forest.{children_of, halt_of, is_in, is_live, chain_of}
 use Rattle.hx_model.specs.Keys.{is_among, is_key, may_mark}
 use Rattle.hx_model.specs.Modes.{config_id}
-use Rattle.hx_model.specs.Moves.{is_calm}
+use Rattle.hx_model.specs.Moves.{is_eligible}
 use Rattle.hx_model.specs.Propagation.{id_in}
 use Rattle.hx_model.specs.Reports.{conditions_by, misses_anchor}
 use Rattle.hx_model.specs.State.{State, object_at, same_id, namespace_id, lies_in, least_in, state_after}
@@ -101,7 +101,7 @@ module _ (s t : State) (id : Id) (is : is_anchor id.kind ≡ true) (left : Leave
   inside m out q lies = left.others q (false_from_ne_true (same_id q id) (λ h. true≢false (sym lies ∙ ap (lies_in m) (is_same_id q id h) ∙ out)))
 
   -- the report of a namespace that isn't marked: its anchor is there as before, or it isn't this one
-  module _ (new : Option Object) (here : object_at t.objects id ≡ new) (m : List ℕ) (out : is_among (key.Report m) (anchored_reports s id (object_at s.objects id) new) ≡ false) (calm : is_calm (forest_of s) m ≡ true) where
+  module _ (new : Option Object) (here : object_at t.objects id ≡ new) (m : List ℕ) (out : is_among (key.Report m) (anchored_reports s id (object_at s.objects id) new) ≡ false) (eligible : is_eligible (forest_of s) m ≡ true) where
     home : object_at t.objects (namespace_id m) ≡ object_at s.objects (namespace_id m)
     home = left.others (namespace_id m) (other_kind id (namespace_id m) is refl)
 
@@ -110,7 +110,7 @@ module _ (s t : State) (id : Id) (is : is_anchor id.kind ≡ true) (left : Leave
     presence x p at named place =
         let owns : owns_named s id ≡ true =
         subst (λ (q : Id). owns_named s q ≡ true) place (ap (λ o. option_map_or (is_owned_by p) o false) at ∙ ap (λ o. same_name o (Some p)) named ∙ same_itself p) in
-        let told : is_among (key.Report m) (report_keys (forest_of s) id.name) ≡ true = subst (λ (q : Id). is_among (key.Report m) (report_keys (forest_of s) q.name) ≡ true) place (own_report (forest_of s) m calm) in
+        let told : is_among (key.Report m) (report_keys (forest_of s) id.name) ≡ true = subst (λ (q : Id). is_among (key.Report m) (report_keys (forest_of s) q.name) ≡ true) place (own_report (forest_of s) m eligible) in
         let same : differ (is_some (object_at s.objects id)) (is_some new) ≡ false = false_from_ne_true (differ (is_some (object_at s.objects id)) (is_some new)) (λ h.
         true≢false (sym ((λ i. is_among (key.Report m) (if h i && owns i then report_keys (forest_of s) id.name else [])) ∙ told) ∙ out)) in
         ap (λ (q : Id). is_none (object_at t.objects q)) place ∙ ap is_none here ∙ by_presence (object_at s.objects id) new same ∙ ap (λ (q : Id). is_none (object_at s.objects q)) (sym place)
@@ -139,13 +139,13 @@ module _ (s t : State) (id : Id) (is : is_anchor id.kind ≡ true) (left : Leave
 
     report_law : IsSameFor s t (key.Report m)
     report_law =
-        same_report s t m (ap (λ f. is_calm f m) left.tree) (left.others (hierarchy_id m) (other_kind id (hierarchy_id m) is refl)) home (ap (λ f. children_of f m) left.tree)
+        same_report s t m (ap (λ f. is_eligible f m) left.tree) (left.others (hierarchy_id m) (other_kind id (hierarchy_id m) is refl)) home (ap (λ f. children_of f m) left.tree)
         ((λ i. conditions_by (halt_of (left.tree i) m) (option_map_or (misses_anchor t.objects m) (home i) false)) ∙ ap (conditions_by (halt_of (forest_of s) m)) (misses (object_at s.objects (namespace_id m)) refl))
 
   report_same : (new : Option Object) → object_at t.objects id ≡ new → (m : List ℕ) → is_among (key.Report m) (anchored_reports s id (object_at s.objects id) new) ≡ false → IsSameFor s t (key.Report m)
-  report_same new here m out = elim (cases_Bool (is_calm (forest_of s) m)) [
-    | inl calm ↦ report_law new here m out calm
-    | inr silent ↦ silent_report s t m silent (ap (λ f. is_calm f m) left.tree ∙ silent)
+  report_same new here m out = elim (cases_Bool (is_eligible (forest_of s) m)) [
+    | inl eligible ↦ report_law new here m out eligible
+    | inr silent ↦ silent_report s t m silent (ap (λ f. is_eligible f m) left.tree ∙ silent)
   ]
 
   law_by : (new : Option Object) → object_at t.objects id ≡ new → (k : Key) → is_among k (anchor_keys id) ≡ false → is_among k (leaving_keys (forest_of s) id.ns) ≡ false → is_among k (anchored_reports s id (object_at s.objects id) new) ≡ false → UsedSame s t k → IsSameFor s t k

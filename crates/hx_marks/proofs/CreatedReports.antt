@@ -13,7 +13,7 @@ use Rattle.hx_model.specs.Covered.{IsSameFor}
 use Rattle.hx_model.specs.First.{so, first}
 use Rattle.hx_model.specs.Forest.{Forest, is_in, is_there, parent_of, chain_of, in_chain, children_of, is_child, halt_of, own_halt_of, tail_of}
 use Rattle.hx_model.specs.Keys.{same_key, is_among, has_named, is_key}
-use Rattle.hx_model.specs.Moves.{is_calm}
+use Rattle.hx_model.specs.Moves.{is_eligible}
 use Rattle.hx_model.specs.Propagation.{as_list}
 use Rattle.hx_model.specs.Reports.{conditions_by, misses_anchor, report_write}
 use Rattle.hx_model.specs.Serving.{IsServed}
@@ -33,7 +33,7 @@ use Rattle.hx_marks.proofs.Among.{same_key_is, among_append, among_here, among_c
 use Rattle.hx_marks.proofs.CreatedChains.{own_by, in_rest, made_below}
 use Rattle.hx_marks.proofs.Frames.{none_in_both}
 use Rattle.hx_marks.proofs.OneMore.{HasOneMore, noted, apart_report, children_same}
-use Rattle.hx_marks.proofs.OneMoreHalting.{named, calm_there, calm_live, child_below, halt_apart}
+use Rattle.hx_marks.proofs.OneMoreHalting.{named, eligible_there, eligible_live, child_below, halt_apart}
 use Rattle.hx_marks.proofs.Reporting.{silent_wants, report_among, reports_known}
 
 -- ---- a namespace that has nothing to tell
@@ -97,7 +97,7 @@ module _ (s t : State) (n : List ℕ) (more : HasOneMore s t n) where
   module _ (untold : object_at s.objects (hierarchy_id n) ≡ None) (served : AllByRecursion IsServed t.objects) where
     -- where it has no parent and no children, it has nothing to tell
     own_silent : parent_of g n ≡ None → children_of f n ≡ [] → wanted_report t n ≡ None
-    own_silent alone childless = (λ i. report_write (is_calm g n) (found i) (children i) (conditions_by (halts i) (misses i)) n) ∙ nothing_told (is_calm g n) n
+    own_silent alone childless = (λ i. report_write (is_eligible g n) (found i) (children i) (conditions_by (halts i) (misses i)) n) ∙ nothing_told (is_eligible g n) n
       where
         found : object_at t.objects (hierarchy_id n) ≡ None
         found = more.others (hierarchy_id n) refl ∙ untold
@@ -123,7 +123,7 @@ module _ (s t : State) (n : List ℕ) (more : HasOneMore s t n) where
     own_same : own ≡ false → IsSameFor s t (key.Report n)
     own_same none =
         none_in_both s t (key.Report n)
-        (silent_wants s n (calm_live f n (not_live f n more.made.absent)))
+        (silent_wants s n (eligible_live f n (not_live f n more.made.absent)))
         (own_silent (none_some (parent_of g n) (out_left (is_some (parent_of g n)) (has_any (children_of f n)) none)) (none_any (children_of f n) (out_right (is_some (parent_of g n)) (has_any (children_of f n)) none)))
 
     -- ---- all reports
@@ -131,7 +131,7 @@ module _ (s t : State) (n : List ℕ) (more : HasOneMore s t n) where
     pub report_made : (m : List ℕ) → is_among (key.Report m) all ≡ false → IsSameFor s t (key.Report m)
     report_made m out = elim (cases_Bool (bytes_eq n m)) [
       | inl here ↦ subst (λ (q : List ℕ). IsSameFor s t (key.Report q)) (is_same n m here) (own_same (unmarked here))
-      | inr off ↦ apart_report s t n more m off (λ calm. (above calm, below calm off, halt_apart f g n more.made m (there calm off) (away calm off)))
+      | inr off ↦ apart_report s t n more m off (λ eligible. (above eligible, below eligible off, halt_apart f g n more.made m (there eligible off) (away eligible off)))
     ]
       where
         out_own : (own && is_among (key.Report m) (key.Report n ∷ [])) ≡ false
@@ -146,30 +146,30 @@ module _ (s t : State) (n : List ℕ) (more : HasOneMore s t n) where
             own_marked : own ≡ true → (own && is_among (key.Report m) (key.Report n ∷ [])) ≡ true
             own_marked h = ap (λ b. b && is_among (key.Report m) (key.Report n ∷ [])) h ∙ subst (λ (q : List ℕ). is_among (key.Report q) (key.Report n ∷ []) ≡ true) (is_same n m here) (among_here (key.Report n) [])
 
-        there : is_calm f m ≡ true → bytes_eq n m ≡ false → is_there g m ≡ true
-        there calm off = ap is_some (more.made.others m off) ∙ calm_there f m calm
+        there : is_eligible f m ≡ true → bytes_eq n m ≡ false → is_there g m ≡ true
+        there eligible off = ap is_some (more.made.others m off) ∙ eligible_there f m eligible
 
         -- its parent's report is marked
-        above : is_calm f m ≡ true → is_child g m n ≡ false
-        above calm = false_from_ne_true (is_child g m n) (λ h.
+        above : is_eligible f m ≡ true → is_child g m n ≡ false
+        above eligible = false_from_ne_true (is_child g m n) (λ h.
             let mem : is_in m (as_list (parent_of g n)) ≡ true = ap (λ o. is_in m (as_list o)) (named g m n h) ∙ or_left (bytes_eq m m) false (same_itself m) in
-            true≢false (sym (or_left (is_among (key.Report m) near) (is_among (key.Report m) far) (report_among f (as_list (parent_of g n)) m calm mem)) ∙ out_rest))
+            true≢false (sym (or_left (is_among (key.Report m) near) (is_among (key.Report m) far) (report_among f (as_list (parent_of g n)) m eligible mem)) ∙ out_rest))
 
         -- and what waited for it below
-        away : is_calm f m ≡ true → bytes_eq n m ≡ false → in_chain g m n ≡ false
-        away calm off = false_from_ne_true (in_chain g m n) (λ h.
+        away : is_eligible f m ≡ true → bytes_eq n m ≡ false → in_chain g m n ≡ false
+        away eligible off = false_from_ne_true (in_chain g m n) (λ h.
             let mem : is_in m (below_children f n) ≡ true = in_rest m n (below_children f n) (swap_same n m off) (made_below f g n more.made m h) in
-            true≢false (sym (or_right (is_among (key.Report m) near) (is_among (key.Report m) far) (report_among f (below_children f n) m calm mem)) ∙ out_rest))
+            true≢false (sym (or_right (is_among (key.Report m) near) (is_among (key.Report m) far) (report_among f (below_children f n) m eligible mem)) ∙ out_rest))
 
-        below : is_calm f m ≡ true → bytes_eq n m ≡ false → is_child g n m ≡ false
-        below calm off = false_from_ne_true (is_child g n m) (λ h. true≢false (sym (child_below f g n more.made m (there calm off) h) ∙ away calm off))
+        below : is_eligible f m ≡ true → bytes_eq n m ≡ false → is_child g n m ≡ false
+        below eligible off = false_from_ne_true (is_child g n m) (λ h. true≢false (sym (child_below f g n more.made m (there eligible off) h) ∙ away eligible off))
 
   -- ---- keys of the two states
 
   known_name : (k : Key) (names : List (List ℕ)) → is_among k (reports_of f names) ≡ true → is_key s k ≡ true
   known_name k names mem =
       let known = reports_known f names k mem in
-      ap (is_key s) known.1 ∙ or_left (is_there f known.0) (has_named s.objects SubnamespaceAnchor known.0) (calm_there f known.0 known.2)
+      ap (is_key s) known.1 ∙ or_left (is_there f known.0) (has_named s.objects SubnamespaceAnchor known.0) (eligible_there f known.0 known.2)
 
   pub reports_within : (k : Key) → is_among k all ≡ true → (is_key s k || is_key t k) ≡ true
   reports_within k mem = elim (or_cases (own && is_among k (key.Report n ∷ [])) (is_among k near || is_among k far) (sym (split k) ∙ mem)) [

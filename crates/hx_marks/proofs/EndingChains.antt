@@ -10,7 +10,7 @@ use Rattle.std.proofs.lemmas.Bool.{and_parts, cases_Bool, or_left, or_right}
 use Rattle.hx_model.specs.declared.node.Halt.TheVariants.{InCycle, ParentMissing, IllegalParent}
 use Rattle.hx_model.specs.First.{so, first}
 use Rattle.hx_model.specs.Forest.{Forest, is_in, is_there, is_live, is_excluded, parent_of, chain_of, in_chain, own_halt_of, halt_of}
-use Rattle.hx_model.specs.Moves.{up_to, is_calm}
+use Rattle.hx_model.specs.Moves.{up_to, is_eligible}
 use Rattle.hx_model.specs.TreeLabels.{is_open}
 use Rattle.hx_model.proofs.Climbing.{Climbs, at_top, stopped, onward, chain-Climbs, same_itself, itself, through, above_chain, chain_trans, one_end}
 use Rattle.hx_model.proofs.Opening.{halts_by_members, not_live}
@@ -46,7 +46,7 @@ module _ (f g : Forest) (quieter : IsQuieter f g) where
   pub quiet_above : (m a : List ℕ) → in_chain f m a ≡ true → is_open g m ≡ true → is_live g a ≡ true
   quiet_above m a has acts =
       (and_parts (is_live g a) (not (is_excluded g a) && is_none (halt_of g a))
-      (and_parts (list_all (is_calm g) (up_to a (chain_of g m))) (is_open g a) (sym (open_under g a m (ap (is_in a) (quiet_chain m) ∙ has)) ∙ acts)).1).0
+      (and_parts (list_all (is_eligible g) (up_to a (chain_of g m))) (is_open g a) (sym (open_under g a m (ap (is_in a) (quiet_chain m) ∙ has)) ∙ acts)).1).0
 
   -- ---- where all of a chain are as live as before
 

@@ -1,5 +1,5 @@
 -- What stays of namespaces where more of them are on their way out.
---     calm_is_there       one that takes reports is there
+--     eligible_is_there       one that takes reports is there
 --     own_same            the reasons that one has by itself, where its parent is as live as before
 --     halt_same           why it is halted, where it takes reports and takes part as before
 --     forest_ascends      the names of a tree are in ascending order
@@ -17,7 +17,7 @@ use Rattle.hx_object.specs.declared.object.Id.{Id}
 use Rattle.hx_object.specs.declared.object.Object.{Object}
 use Rattle.hx_model.specs.First.{so, first}
 use Rattle.hx_model.specs.Forest.{Forest, is_in, is_there, is_live, is_excluded, parent_of, children_of, own_halt_of, has_halted_ancestor, halt_of}
-use Rattle.hx_model.specs.Moves.{is_calm}
+use Rattle.hx_model.specs.Moves.{is_eligible}
 use Rattle.hx_model.specs.Serving.{IsServed}
 use Rattle.hx_model.specs.State.{State, Objects, namespace_id, ascends as objects_ascend, is_below_all as objects_below}
 use Rattle.hx_model.specs.Tree.{forest_of, node_in, namespaces_in}
@@ -33,10 +33,10 @@ use Rattle.hx_marks.proofs.EndingChains.{IsQuieter, quiet_chain}
 
 -- ---- reasons
 
-pub calm_is_there : (f : Forest) (m : List ℕ) → is_calm f m ≡ true → is_there f m ≡ true
-calm_is_there f m calm = elim (cases_Bool (is_there f m)) [
+pub eligible_is_there : (f : Forest) (m : List ℕ) → is_eligible f m ≡ true → is_there f m ≡ true
+eligible_is_there f m eligible = elim (cases_Bool (is_there f m)) [
   | inl there ↦ there
-  | inr gone ↦ absurd (true≢false (sym (and_parts (is_live f m) (not (is_excluded f m)) calm).0 ∙ not_live f m gone))
+  | inr gone ↦ absurd (true≢false (sym (and_parts (is_live f m) (not (is_excluded f m)) eligible).0 ∙ not_live f m gone))
 ]
 
 -- the reasons that m has by itself stay where its parent is as live as before
@@ -51,8 +51,8 @@ own_same f g quieter m lives = by (parent_of f m) refl
         ∙ sym (ap (own_by f m) is)
 
 -- one that takes reports takes part exactly if it isn't halted
-open_calm : (f : Forest) (m : List ℕ) → is_calm f m ≡ true → is_open f m ≡ is_none (halt_of f m)
-open_calm f m calm = by (is_live f m) (not (is_excluded f m)) (is_none (halt_of f m)) calm
+open_eligible : (f : Forest) (m : List ℕ) → is_eligible f m ≡ true → is_open f m ≡ is_none (halt_of f m)
+open_eligible f m eligible = by (is_live f m) (not (is_excluded f m)) (is_none (halt_of f m)) eligible
   where
     by : (a b c : Bool) → (a && b) ≡ true → (a && (b && c)) ≡ c
     by true true c e = refl
@@ -60,11 +60,11 @@ open_calm f m calm = by (is_live f m) (not (is_excluded f m)) (is_none (halt_of 
     by false b c e = absurd (true≢false (sym e))
 
 -- why m is halted stays where its own reasons do, and whether it takes part
-pub halt_same : (f g : Forest) (m : List ℕ) → is_calm f m ≡ true → is_calm g m ≡ true → own_halt_of g m ≡ own_halt_of f m → is_open g m ≡ is_open f m → halt_of g m ≡ halt_of f m
+pub halt_same : (f g : Forest) (m : List ℕ) → is_eligible f m ≡ true → is_eligible g m ≡ true → own_halt_of g m ≡ own_halt_of f m → is_open g m ≡ is_open f m → halt_of g m ≡ halt_of f m
 halt_same f g m before after own acts =
     ap (λ o. first (o ∷ so (has_halted_ancestor g m) Ancestor ∷ [])) own
     ∙ by (own_halt_of f m) (has_halted_ancestor g m) (has_halted_ancestor f m)
-    (ap (λ o. is_none (first (o ∷ so (has_halted_ancestor g m) Ancestor ∷ []))) (sym own) ∙ sym (open_calm g m after) ∙ acts ∙ open_calm f m before)
+    (ap (λ o. is_none (first (o ∷ so (has_halted_ancestor g m) Ancestor ∷ []))) (sym own) ∙ sym (open_eligible g m after) ∙ acts ∙ open_eligible f m before)
   where
     by : (o : Option Halt) (a b : Bool) → is_none (first (o ∷ so a Ancestor ∷ [])) ≡ is_none (first (o ∷ so b Ancestor ∷ [])) → first (o ∷ so a Ancestor ∷ []) ≡ first (o ∷ so b Ancestor ∷ [])
     by (Some halt) a b e = refl

@@ -18,7 +18,7 @@ use Rattle.hx_model.specs.Covered.{IsSameFor}
 use Rattle.hx_model.specs.Forest.{Forest, is_in, is_there, is_live, is_excluded, parent_of, chain_of, in_chain, halt_of}
 use Rattle.hx_model.specs.Keys.{is_among, has_named, is_key, may_mark}
 use Rattle.hx_model.specs.Modes.{config_id}
-use Rattle.hx_model.specs.Moves.{is_calm}
+use Rattle.hx_model.specs.Moves.{is_eligible}
 use Rattle.hx_model.specs.Propagation.{id_in}
 use Rattle.hx_model.specs.Reports.{misses_anchor, conditions_by}
 use Rattle.hx_model.specs.Serving.{IsServed}
@@ -242,9 +242,9 @@ module _ (s t : State) (names : List (List ℕ)) (keys : List Key) (before : All
   ]
 
   -- whether its parent is there and holds no anchor of its name
-  misses_same : (m : List ℕ) → is_calm f m ≡ true → Unmarked (key.Report m) → object_at t.objects (namespace_id m) ≡ object_at s.objects (namespace_id m)
+  misses_same : (m : List ℕ) → is_eligible f m ≡ true → Unmarked (key.Report m) → object_at t.objects (namespace_id m) ≡ object_at s.objects (namespace_id m)
       → option_map_or (misses_anchor t.objects m) (object_at t.objects (namespace_id m)) false ≡ option_map_or (misses_anchor s.objects m) (object_at s.objects (namespace_id m)) false
-  misses_same m calm out home = ap (λ o. option_map_or (misses_anchor t.objects m) o false) home ∙ by (object_at s.objects (namespace_id m)) refl
+  misses_same m eligible out home = ap (λ o. option_map_or (misses_anchor t.objects m) o false) home ∙ by (object_at s.objects (namespace_id m)) refl
     where
       by : (found : Option Object) → object_at s.objects (namespace_id m) ≡ found → option_map_or (misses_anchor t.objects m) found false ≡ option_map_or (misses_anchor s.objects m) found false
       by None absent = refl
@@ -253,7 +253,7 @@ module _ (s t : State) (names : List (List ℕ)) (keys : List Key) (before : All
           -- no anchor goes that its annotation asks for
           unheld : (p : List ℕ) → subnamespace_parent x ≡ Some p → AreMarked (anchored_reports s (anchor_id p m) (object_at s.objects (anchor_id p m)) None) keys → (o : Option Object) → object_at s.objects (anchor_id p m) ≡ o → o ≡ None
           unheld p named reported None e = refl
-          unheld p named reported (Some a) e = absurd (true≢false (sym (reported (key.Report m) (anchored_own s p m x a there named e calm)) ∙ out))
+          unheld p named reported (Some a) e = absurd (true≢false (sym (reported (key.Report m) (anchored_own s p m x a there named e eligible)) ∙ out))
 
           held : (p : List ℕ) → subnamespace_parent x ≡ Some p → object_at t.objects (anchor_id p m) ≡ object_at s.objects (anchor_id p m)
           held p named = elim (has.anchors p m) [
@@ -269,39 +269,39 @@ module _ (s t : State) (names : List (List ℕ)) (keys : List Key) (before : All
           under (Some p) named = (λ i. taken p i && is_none (held p named i))
 
   -- a parent that began to leave has marked it
-  parent_stays : (m : List ℕ) → is_calm f m ≡ true → Unmarked (key.Report m) → (p : List ℕ) → parent_of f m ≡ Some p → is_live g p ≡ is_live f p
-  parent_stays m calm out p under = elim (has.homes p) [
+  parent_stays : (m : List ℕ) → is_eligible f m ≡ true → Unmarked (key.Report m) → (p : List ℕ) → parent_of f m ≡ Some p → is_live g p ≡ is_live f p
+  parent_stays m eligible out p under = elim (has.homes p) [
     | inl same ↦ same_live p same
-    | inr begun ↦ absurd (true≢false (sym (near_marked p (key.Report m) begun (near_child f p m calm under)) ∙ out))
+    | inr begun ↦ absurd (true≢false (sym (near_marked p (key.Report m) begun (near_child f p m eligible under)) ∙ out))
   ]
 
   -- so has one above it, where it took part
-  report_open : (m : List ℕ) → is_calm f m ≡ true → Unmarked (key.Report m) → is_open g m ≡ is_open f m
-  report_open m calm out = elim (standing m) [
+  report_open : (m : List ℕ) → is_eligible f m ≡ true → Unmarked (key.Report m) → is_open g m ≡ is_open f m
+  report_open m eligible out = elim (standing m) [
     | inr stands ↦ stands.acts
     | inl (a, begun, over, shut) ↦ elim (cases_Bool (is_open f m)) [
       | inl acts ↦
           let found = top_above a m begun over acts in
-          absurd (true≢false (sym (found.reported (key.Report m) (ending_open f found.top m calm acts found.over)) ∙ out))
+          absurd (true≢false (sym (found.reported (key.Report m) (ending_open f found.top m eligible acts found.over)) ∙ out))
       | inr closed ↦ shut ∙ sym closed
     ]
   ]
 
   report_law : (m : List ℕ) → Unmarked (key.Report m) → IsSameFor s t (key.Report m)
   report_law m out = elim (has.homes m) [
-    | inr begun ↦ elim (cases_Bool (is_calm f m)) [
-      | inl calm ↦ absurd (true≢false (sym (near_marked m (key.Report m) begun (near_own f m calm)) ∙ out))
+    | inr begun ↦ elim (cases_Bool (is_eligible f m)) [
+      | inl eligible ↦ absurd (true≢false (sym (near_marked m (key.Report m) begun (near_own f m eligible)) ∙ out))
       | inr none ↦ silent_report s t m none (ap (λ b. b && not (is_excluded g m)) (dead_then m begun))
     ]
     | inl home ↦
-        let same : is_calm g m ≡ is_calm f m = (λ i. same_live m home i && not (quieter.excluded m i)) in
-        elim (cases_Bool (is_calm f m)) [
+        let same : is_eligible g m ≡ is_eligible f m = (λ i. same_live m home i && not (quieter.excluded m i)) in
+        elim (cases_Bool (is_eligible f m)) [
           | inr none ↦ silent_report s t m none (same ∙ none)
-          | inl calm ↦
-              let halt : halt_of g m ≡ halt_of f m = halt_same f g m calm (same ∙ calm) (own_same f g quieter m (parent_stays m calm out)) (report_open m calm out) in
+          | inl eligible ↦
+              let halt : halt_of g m ≡ halt_of f m = halt_same f g m eligible (same ∙ eligible) (own_same f g quieter m (parent_stays m eligible out)) (report_open m eligible out) in
               same_report s t m same (has.others (hierarchy_id m) refl refl) home
               (children_stay f g quieter (forest_ascends s up before) (forest_ascends t has.ascending has.served) m)
-              (λ i. conditions_by (halt i) (misses_same m calm out home i))
+              (λ i. conditions_by (halt i) (misses_same m eligible out home i))
         ]
   ]
 

@@ -16,7 +16,7 @@ use Rattle.hx_model.specs.Answers.{owns_named}
 use Rattle.hx_model.specs.Cases.{same_name}
 use Rattle.hx_model.specs.Forest.{Forest, is_in, is_there, parent_of, children_of, in_chain}
 use Rattle.hx_model.specs.Keys.{is_among, has_named, is_key}
-use Rattle.hx_model.specs.Moves.{is_calm}
+use Rattle.hx_model.specs.Moves.{is_eligible}
 use Rattle.hx_model.specs.State.{State, object_at, namespace_id}
 use Rattle.hx_model.specs.Subnamespaces.{anchor_id, is_owned_by}
 use Rattle.hx_model.specs.Tree.{forest_of, subnamespace_parent}
@@ -28,14 +28,14 @@ use Rattle.hx_forest.proofs.Changing.{children_has}
 use Rattle.hx_marks.specs.Below.{open_below}
 use Rattle.hx_marks.specs.Reports.{report_keys, reports_of, ending_reports, anchored_reports}
 use Rattle.hx_marks.proofs.Among.{among_append, among_cond, among_here}
-use Rattle.hx_marks.proofs.EndingHalting.{calm_is_there}
+use Rattle.hx_marks.proofs.EndingHalting.{eligible_is_there}
 use Rattle.hx_marks.proofs.OpenBelow.{in_open_below}
 use Rattle.hx_marks.proofs.Reporting.{report_among, reports_known}
 
 -- ---- what is marked
 
-own_among : (f : Forest) (m : List ℕ) → is_calm f m ≡ true → is_among (key.Report m) (report_keys f m) ≡ true
-own_among f m calm = ap (λ b. is_among (key.Report m) (if b then key.Report m ∷ [] else [])) calm ∙ among_here (key.Report m) []
+own_among : (f : Forest) (m : List ℕ) → is_eligible f m ≡ true → is_among (key.Report m) (report_keys f m) ≡ true
+own_among f m eligible = ap (λ b. is_among (key.Report m) (if b then key.Report m ∷ [] else [])) eligible ∙ among_here (key.Report m) []
 
 -- its own, or one of the others
 ending_parts : (f : Forest) (a : List ℕ) (k : Key) → is_among k (ending_reports f a) ≡ (is_among k (report_keys f a) || (is_among k (reports_of f (children_of f a)) || is_among k (reports_of f (open_below f a))))
@@ -47,37 +47,37 @@ ending_parts f a k =
 abbrev pub near_reports : Forest → List ℕ → List Key
 near_reports f a = report_keys f a ++ reports_of f (children_of f a)
 
-pub near_own : (f : Forest) (a : List ℕ) → is_calm f a ≡ true → is_among (key.Report a) (near_reports f a) ≡ true
-near_own f a calm = among_append (key.Report a) (report_keys f a) (reports_of f (children_of f a)) ∙ or_left (is_among (key.Report a) (report_keys f a)) _ (own_among f a calm)
+pub near_own : (f : Forest) (a : List ℕ) → is_eligible f a ≡ true → is_among (key.Report a) (near_reports f a) ≡ true
+near_own f a eligible = among_append (key.Report a) (report_keys f a) (reports_of f (children_of f a)) ∙ or_left (is_among (key.Report a) (report_keys f a)) _ (own_among f a eligible)
 
-pub near_child : (f : Forest) (a m : List ℕ) → is_calm f m ≡ true → parent_of f m ≡ Some a → is_among (key.Report m) (near_reports f a) ≡ true
-near_child f a m calm under =
+pub near_child : (f : Forest) (a m : List ℕ) → is_eligible f m ≡ true → parent_of f m ≡ Some a → is_among (key.Report m) (near_reports f a) ≡ true
+near_child f a m eligible under =
     let mem : is_in m (children_of f a) ≡ true = children_has f a m ∙ ap (λ o. option_map_or (bytes_eq a) o false) under ∙ same_itself a in
     among_append (key.Report m) (report_keys f a) (reports_of f (children_of f a))
-    ∙ or_right (is_among (key.Report m) (report_keys f a)) _ (report_among f (children_of f a) m calm mem)
+    ∙ or_right (is_among (key.Report m) (report_keys f a)) _ (report_among f (children_of f a) m eligible mem)
 
-pub ending_open : (f : Forest) (a m : List ℕ) → is_calm f m ≡ true → is_open f m ≡ true → in_chain f m a ≡ true → is_among (key.Report m) (ending_reports f a) ≡ true
-ending_open f a m calm acts over =
+pub ending_open : (f : Forest) (a m : List ℕ) → is_eligible f m ≡ true → is_open f m ≡ true → in_chain f m a ≡ true → is_among (key.Report m) (ending_reports f a) ≡ true
+ending_open f a m eligible acts over =
     ending_parts f a (key.Report m)
     ∙ or_right (is_among (key.Report m) (report_keys f a)) _
-    (or_right (is_among (key.Report m) (reports_of f (children_of f a))) _ (report_among f (open_below f a) m calm (in_open_below f a m acts over)))
+    (or_right (is_among (key.Report m) (reports_of f (children_of f a))) _ (report_among f (open_below f a) m eligible (in_open_below f a m acts over)))
 
 -- the anchor of m in p goes, where m names p by its annotation
-pub anchored_own : (s : State) (p m : List ℕ) (x a : Object) → object_at s.objects (namespace_id m) ≡ Some x → subnamespace_parent x ≡ Some p → object_at s.objects (anchor_id p m) ≡ Some a → is_calm (forest_of s) m ≡ true
+pub anchored_own : (s : State) (p m : List ℕ) (x a : Object) → object_at s.objects (namespace_id m) ≡ Some x → subnamespace_parent x ≡ Some p → object_at s.objects (anchor_id p m) ≡ Some a → is_eligible (forest_of s) m ≡ true
     → is_among (key.Report m) (anchored_reports s (anchor_id p m) (object_at s.objects (anchor_id p m)) None) ≡ true
-anchored_own s p m x a there named held calm =
+anchored_own s p m x a there named held eligible =
     let owns : owns_named s (anchor_id p m) ≡ true = ap (λ o. option_map_or (is_owned_by p) o false) there ∙ ap (λ o. same_name o (Some p)) named ∙ same_itself p in
     ap (λ o. is_among (key.Report m) (anchored_reports s (anchor_id p m) o None)) held
     ∙ ap (λ b. is_among (key.Report m) (if b then report_keys (forest_of s) m else [])) owns
-    ∙ own_among (forest_of s) m calm
+    ∙ own_among (forest_of s) m eligible
 
 -- ---- keys of the state
 
 -- the reports of some namespaces
 reported_key : (s : State) (names : List (List ℕ)) (k : Key) → is_among k (reports_of (forest_of s) names) ≡ true → is_key s k ≡ true
 reported_key s names k mem =
-    let (m, is, calm, within) = reports_known (forest_of s) names k mem in
-    ap (is_key s) is ∙ or_left (is_there (forest_of s) m) (has_named s.objects SubnamespaceAnchor m) (calm_is_there (forest_of s) m calm)
+    let (m, is, eligible, within) = reports_known (forest_of s) names k mem in
+    ap (is_key s) is ∙ or_left (is_there (forest_of s) m) (has_named s.objects SubnamespaceAnchor m) (eligible_is_there (forest_of s) m eligible)
 
 own_key : (s : State) (n : List ℕ) (k : Key) → is_among k (report_keys (forest_of s) n) ≡ true → is_key s k ≡ true
 own_key s n k mem = reported_key s (n ∷ []) k (among_append k (report_keys (forest_of s) n) [] ∙ or_left (is_among k (report_keys (forest_of s) n)) false mem)

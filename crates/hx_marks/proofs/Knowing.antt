@@ -14,7 +14,7 @@ use Rattle.hx_model.specs.declared.key.Key.{Key}
 use Rattle.hx_model.specs.declared.key.Key.TheVariants as key
 use Rattle.hx_marks.specs.Law.{all_of}
 use Rattle.hx_marks.proofs.OpenBelow.{open_is_there}
-use Rattle.hx_marks.proofs.Reporting.{calm_there}
+use Rattle.hx_marks.proofs.Reporting.{eligible_there}
 use Rattle.hx_marks.proofs.UsageKeys.{usage_is_key}
 use Rattle.hx_marks.proofs.Wanting.{all_known}
 use Rattle.hx_marks.proofs.Within.{all_keys, leaving_there, status_key}
@@ -32,7 +32,7 @@ pub wanted_key : (s : State) (k : Key) → wanted_write s k ≢ None → is_key 
 wanted_key s (key.Copy n kind name) wants = taking_key s (key.Copy n kind name) (all_known s (key.Copy n kind name) wants)
 wanted_key s (key.Tree n) wants = taking_key s (key.Tree n) (all_known s (key.Tree n) wants)
 wanted_key s (key.Child n name) wants = taking_key s (key.Child n name) (all_known s (key.Child n name) wants)
-wanted_key s (key.Report n) wants = name_key s n (calm_there (forest_of s) n (all_known s (key.Report n) wants))
+wanted_key s (key.Report n) wants = name_key s n (eligible_there (forest_of s) n (all_known s (key.Report n) wants))
 wanted_key s (key.Anchor n name) wants = status_key s n (key.Anchor n name) (all_known s (key.Anchor n name) wants).1
 wanted_key s (key.Used n name) wants = usage_is_key s n (key.Used n name) (all_known s (key.Used n name) wants).1
 wanted_key s (key.Purge n) wants = name_key s n (leaving_there (forest_of s) n (all_known s (key.Purge n) wants))

@@ -19,7 +19,7 @@ use Rattle.hx_model.specs.Covered.{IsSameFor}
 use Rattle.hx_model.specs.Forest.{Forest, node_of, is_there, is_live, chain_of, children_of, halt_of, is_in}
 use Rattle.hx_model.specs.Keys.{is_among, is_key, may_mark, has_named}
 use Rattle.hx_model.specs.Modes.{mode_of}
-use Rattle.hx_model.specs.Moves.{is_calm}
+use Rattle.hx_model.specs.Moves.{is_eligible}
 use Rattle.hx_model.specs.Propagation.{id_in, sources_above}
 use Rattle.hx_model.specs.Serving.{IsServed}
 use Rattle.hx_model.specs.State.{State, object_at, put, namespace_id, state_after, lies_in}
@@ -277,12 +277,12 @@ module _ (s : State) (x old : Object) (valid : IsValid s) (is : is_namespace x.i
 
   -- its report, or that of another namespace
   reports : (m : List ℕ) → is_among (key.Report m) (report_keys (forest_of s) x.id.name) ≡ false → IsSameFor s t (key.Report m)
-  reports m out = elim (cases_Bool (is_calm (forest_of s) m)) [
-    | inr silent ↦ silent_report s t m silent (ap (λ f. is_calm f m) tree ∙ silent)
-    | inl calm ↦ elim (cases_Bool (bytes_eq m x.id.name)) [
-      | inl same ↦ absurd (true≢false (sym (own_report (forest_of s) m calm) ∙ ap (λ a. is_among (key.Report m) (report_keys (forest_of s) a)) (is_same m x.id.name same) ∙ out))
+  reports m out = elim (cases_Bool (is_eligible (forest_of s) m)) [
+    | inr silent ↦ silent_report s t m silent (ap (λ f. is_eligible f m) tree ∙ silent)
+    | inl eligible ↦ elim (cases_Bool (bytes_eq m x.id.name)) [
+      | inl same ↦ absurd (true≢false (sym (own_report (forest_of s) m eligible) ∙ ap (λ a. is_among (key.Report m) (report_keys (forest_of s) a)) (is_same m x.id.name same) ∙ out))
       | inr apart ↦
-          same_report s t m (ap (λ f. is_calm f m) tree) (leaf_same (hierarchy_id m) refl) (home_same m apart) (ap (λ f. children_of f m) tree)
+          same_report s t m (ap (λ f. is_eligible f m) tree) (leaf_same (hierarchy_id m) refl) (home_same m apart) (ap (λ f. children_of f m) tree)
           (conditions_same s t m (ap (λ f. halt_of f m) tree) (home_same m apart) there_still (λ p. ap is_none (leaf_same (anchor_id p m) refl)))
     ]
   ]

@@ -20,7 +20,7 @@ use Rattle.hx_object.specs.declared.object.Object.{Object}
 use Rattle.hx_model.specs.Cases.{is_leaving}
 use Rattle.hx_model.specs.Covered.{IsSameFor}
 use Rattle.hx_model.specs.Forest.{children_of, halt_of, is_live}
-use Rattle.hx_model.specs.Moves.{is_calm}
+use Rattle.hx_model.specs.Moves.{is_eligible}
 use Rattle.hx_model.specs.State.{State, object_at, same_id, namespace_id, state_after}
 use Rattle.hx_model.specs.Subnamespaces.{anchor_id}
 use Rattle.hx_model.specs.Tree.{hierarchy, hierarchy_id, forest_of}
@@ -92,7 +92,7 @@ module _ (s t : State) (id : Id) (new : Option Object) (left : Leaves s t id new
 
   pub report_stays : IsSameFor s t (key.Report n)
   report_stays =
-      same_report s t n (ap (λ f. is_calm f n) left.tree)
+      same_report s t n (ap (λ f. is_eligible f n) left.tree)
       (left.others (hierarchy_id n) (false_from_ne_true (same_id (hierarchy_id n) id) (λ h. true≢false (ap (λ (q : Id). is_hierarchy q.kind) (is_same_id (hierarchy_id n) id h) ∙ level))))
       (found n) (ap (λ f. children_of f n) left.tree)
       (conditions_same s t n (ap (λ f. halt_of f n) left.tree) (found n) (λ p. ap is_some (found p)) (λ p. ap is_none (unanchored p)))

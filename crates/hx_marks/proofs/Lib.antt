@@ -22,7 +22,7 @@ pub mod ModeKeys
 pub mod Replacing
 pub mod Labelling
 pub mod MoveChains
-pub mod Calm
+pub mod Eligible
 pub mod MoveSources
 pub mod MoveStates
 pub mod MoveBelow

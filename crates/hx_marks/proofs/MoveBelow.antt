@@ -1,7 +1,7 @@
 -- What a namespace that gets another parent changes for the keys of its subtree, and that it is marked.
 --     moved_has          who was below it is below it then
 --     marked_of          a key that one name of a list marks
---     live_in            a namespace whose way up to it is calm
+--     live_in            a namespace whose way up to it is eligible
 --     outside_same       keys outside the subtree want the same
 --     inside_same        so do those in it that aren't marked
 --     moved_same         so do all that aren't marked
@@ -15,7 +15,7 @@ use Rattle.hx_object.specs.declared.kind.Kind.{Kind}
 use Rattle.hx_object.specs.declared.object.Object.{Object}
 use Rattle.hx_model.specs.Forest.{Forest, is_in, names_of, is_there, parent_of, chain_of, in_chain, tail_of, subtree_of, with_parent}
 use Rattle.hx_model.specs.Keys.{same_key, is_among}
-use Rattle.hx_model.specs.Moves.{up_to, chain_from, is_calm, is_open_above, moved_chain_of, is_moved_open, mode_at}
+use Rattle.hx_model.specs.Moves.{up_to, chain_from, is_eligible, is_open_above, moved_chain_of, is_moved_open, mode_at}
 use Rattle.hx_model.specs.Propagation.{id_in, sources_along, top_of}
 use Rattle.hx_model.specs.State.{State, Objects, object_at, namespace_id}
 use Rattle.hx_model.specs.Tree.{forest_of}
@@ -49,11 +49,11 @@ moved_has f n parent m has = by (walk_to (length f) f (Some m) n) refl
 pub marked_of : (k : Key) (marks : List ℕ → List Key) (names : List (List ℕ)) (m : List ℕ) → is_in m names ≡ true → is_among k (marks m) ≡ true → is_among k (flat_map marks names) ≡ true
 marked_of k marks names m mem h = among_flat_map k marks names ∙ passing_name (λ a. is_among k (marks a)) m names mem h
 
--- a namespace below n whose way up to it is calm
-pub live_in : (f : Forest) (n m : List ℕ) → is_there f m ≡ true → in_chain f m n ≡ true → list_all (is_calm f) (up_to n (chain_of f m)) ≡ true → is_in m (live_below f n) ≡ true
-live_in f n m there has calm =
-    is_in_filter (λ a. list_all (is_calm f) (up_to n (chain_of f a))) m (subtree_of f n)
-    ∙ and_from (is_in m (subtree_of f n)) _ (in_below f m n ∙ and_from (is_in m (names_of f)) (in_chain f m n) (sym (names_have f m) ∙ there) has) calm
+-- a namespace below n whose way up to it is eligible
+pub live_in : (f : Forest) (n m : List ℕ) → is_there f m ≡ true → in_chain f m n ≡ true → list_all (is_eligible f) (up_to n (chain_of f m)) ≡ true → is_in m (live_below f n) ≡ true
+live_in f n m there has eligible =
+    is_in_filter (λ a. list_all (is_eligible f) (up_to n (chain_of f a))) m (subtree_of f n)
+    ∙ and_from (is_in m (subtree_of f n)) _ (in_below f m n ∙ and_from (is_in m (names_of f)) (in_chain f m n) (sym (names_have f m) ∙ there) has) eligible
 
 not_open : (f : Forest) (n m : List ℕ) → in_chain f m n ≡ true → is_open f n ≡ false → is_open f m ≡ false
 not_open f n m has shut = false_from_ne_true (is_open f m) (λ h. true≢false (sym (open_above f n m has h) ∙ shut))
@@ -107,21 +107,21 @@ module _ (s : State) (n : List ℕ) (parent : Option (List ℕ)) (there : is_the
   has_itself : in_chain f n n ≡ true
   has_itself = ap (is_in n) (chain_first f n there) ∙ or_left (bytes_eq n n) (is_in n (tail_of (chain_of f n))) (same_itself n)
 
-  calm_way : (m : List ℕ) (p : Option (List ℕ)) → is_moved_open f n p m ≡ true → list_all (is_calm f) (up_to n (chain_of f m)) ≡ true
-  calm_way m p h = (and_parts (list_all (is_calm f) (up_to n (chain_of f m))) _ h).0
+  eligible_way : (m : List ℕ) (p : Option (List ℕ)) → is_moved_open f n p m ≡ true → list_all (is_eligible f) (up_to n (chain_of f m)) ≡ true
+  eligible_way m p h = (and_parts (list_all (is_eligible f) (up_to n (chain_of f m))) _ h).0
 
-  -- where n takes part, it is calm, and its parent takes part
-  top_before : is_open f n ≡ true → (is_calm f n && is_open_above f (parent_of f n)) ≡ true
-  top_before h = (and_parts (list_all (is_calm f) (up_to n (chain_of f n))) _ (sym (opens_before h n has_itself) ∙ h)).1
+  -- where n takes part, it is eligible, and its parent takes part
+  top_before : is_open f n ≡ true → (is_eligible f n && is_open_above f (parent_of f n)) ≡ true
+  top_before h = (and_parts (list_all (is_eligible f) (up_to n (chain_of f n))) _ (sym (opens_before h n has_itself) ∙ h)).1
 
-  top_after : is_open g n ≡ true → (is_calm f n && is_open_above f parent) ≡ true
-  top_after h = (and_parts (list_all (is_calm f) (up_to n (chain_of f n))) _ (sym (opens_after h n has_itself) ∙ h)).1
+  top_after : is_open g n ≡ true → (is_eligible f n && is_open_above f parent) ≡ true
+  top_after h = (and_parts (list_all (is_eligible f) (up_to n (chain_of f n))) _ (sym (opens_after h n has_itself) ∙ h)).1
 
   above_before : is_open f n ≡ true → is_open_above f (parent_of f n) ≡ true
-  above_before h = (and_parts (is_calm f n) _ (top_before h)).1
+  above_before h = (and_parts (is_eligible f n) _ (top_before h)).1
 
   above_after : is_open g n ≡ true → is_open_above f parent ≡ true
-  above_after h = (and_parts (is_calm f n) _ (top_after h)).1
+  above_after h = (and_parts (is_eligible f n) _ (top_after h)).1
 
   -- ---- in the subtree
 
@@ -144,15 +144,15 @@ module _ (s : State) (n : List ℕ) (parent : Option (List ℕ)) (there : is_the
     shut_after : is_open g n ≡ false → is_open g (spot k) ≡ false
     shut_after shut = not_open g n (spot k) (moved_has f n parent (spot k) has) shut
 
-    live : is_there f (spot k) ≡ true → list_all (is_calm f) (up_to n (chain_of f (spot k))) ≡ true → is_in (spot k) (live_below f n) ≡ true
-    live here calm = live_in f n (spot k) here has calm
+    live : is_there f (spot k) ≡ true → list_all (is_eligible f) (up_to n (chain_of f (spot k))) ≡ true → is_in (spot k) (live_below f n) ≡ true
+    live here eligible = live_in f n (spot k) here has eligible
 
     -- it takes part no more
     ends : is_open f n ≡ true → is_open g n ≡ false → is_among k (flat_map (λ a. all_of s.objects (chain_of f a) a) (live_below f n)) ≡ false → before ≡ after
     ends h shut unmarked = elim (cases_Bool (is_open f (spot k))) [
       | inl opens ↦
           none_from before (λ wants.
-          true≢false (sym (marked_of k (λ a. all_of s.objects (chain_of f a) a) (live_below f n) (spot k) (live (open_there f (spot k) opens) (calm_way (spot k) (parent_of f n) (sym (opens_before h (spot k) has) ∙ opens))) (at_known s (is_open f (spot k)) (chain_of f (spot k)) k wants))
+          true≢false (sym (marked_of k (λ a. all_of s.objects (chain_of f a) a) (live_below f n) (spot k) (live (open_there f (spot k) opens) (eligible_way (spot k) (parent_of f n) (sym (opens_before h (spot k) has) ∙ opens))) (at_known s (is_open f (spot k)) (chain_of f (spot k)) k wants))
           ∙ unmarked))
           ∙ sym (nothing_after (shut_after shut))
       | inr shuts ↦ nothing_before shuts ∙ sym (nothing_after (shut_after shut))
@@ -165,7 +165,7 @@ module _ (s : State) (n : List ℕ) (parent : Option (List ℕ)) (there : is_the
           nothing_before (shut_before shut)
           ∙ sym (none_from after (λ wants.
           true≢false (sym (marked_of k (λ a. all_of s.objects (moved_chain_of f n parent a) a) (live_below f n) (spot k)
-          (live (sym (moved_there f n parent (spot k)) ∙ open_there g (spot k) opens) (calm_way (spot k) parent (sym (opens_after h (spot k) has) ∙ opens)))
+          (live (sym (moved_there f n parent (spot k)) ∙ open_there g (spot k) opens) (eligible_way (spot k) parent (sym (opens_after h (spot k) has) ∙ opens)))
           (subst (λ (chain : List (List ℕ)). is_among k (all_of s.objects chain (spot k)) ≡ true) (chain_after h (spot k) has) (at_known s (is_open g (spot k)) (chain_of g (spot k)) k wants)))
           ∙ unmarked)))
       | inr shuts ↦ nothing_before (shut_before shut) ∙ sym (nothing_after shuts)
@@ -212,16 +212,16 @@ module _ (s : State) (n : List ℕ) (parent : Option (List ℕ)) (there : is_the
   -- it always takes part
   stays : (k : Key) (has : in_chain f (spot k) n ≡ true) → is_open f n ≡ true → is_open g n ≡ true
       → is_among k (flat_map (sent_marks sent) (live_below f n)) ≡ false → before k has ≡ after k has
-  stays k has h j unmarked = elim (cases_Bool (list_all (is_calm f) (up_to n (chain_of f (spot k))))) [
-    | inl calm ↦
-        let opens : is_open f (spot k) ≡ true = opens_before h (spot k) has ∙ and_from (list_all (is_calm f) (up_to n (chain_of f (spot k)))) _ calm (top_before h) in
-        let moved : is_open g (spot k) ≡ true = opens_after j (spot k) has ∙ and_from (list_all (is_calm f) (up_to n (chain_of f (spot k)))) _ calm (top_after j) in
+  stays k has h j unmarked = elim (cases_Bool (list_all (is_eligible f) (up_to n (chain_of f (spot k))))) [
+    | inl eligible ↦
+        let opens : is_open f (spot k) ≡ true = opens_before h (spot k) has ∙ and_from (list_all (is_eligible f) (up_to n (chain_of f (spot k)))) _ eligible (top_before h) in
+        let moved : is_open g (spot k) ≡ true = opens_after j (spot k) has ∙ and_from (list_all (is_eligible f) (up_to n (chain_of f (spot k)))) _ eligible (top_after j) in
         (λ i. wanted_at s (opens i) (chain_before h (spot k) has i) k)
-        ∙ middle h j k (live k has (open_there f (spot k) opens) calm) unmarked
+        ∙ middle h j k (live k has (open_there f (spot k) opens) eligible) unmarked
         ∙ sym (λ i. wanted_at s (moved i) (chain_after j (spot k) has i) k)
     | inr wild ↦
-        nothing_before k has (opens_before h (spot k) has ∙ ap (λ b. b && (is_calm f n && is_open_above f (parent_of f n))) wild)
-        ∙ sym (nothing_after k has (opens_after j (spot k) has ∙ ap (λ b. b && (is_calm f n && is_open_above f parent)) wild))
+        nothing_before k has (opens_before h (spot k) has ∙ ap (λ b. b && (is_eligible f n && is_open_above f (parent_of f n))) wild)
+        ∙ sym (nothing_after k has (opens_after j (spot k) has ∙ ap (λ b. b && (is_eligible f n && is_open_above f parent)) wild))
   ]
 
   inside_same : (a b : Bool) → is_open f n ≡ a → is_open g n ≡ b → (k : Key) → in_chain f (spot k) n ≡ true → is_among k (moved_by s n (parent_of f n) parent a b) ≡ false → wanted_in s f k ≡ wanted_in s g k

@@ -59,11 +59,11 @@ open_chain f m h = chain_first f m (open_there f m h) ∙ ap (λ xs. m ∷ xs) (
 pub open_parent : (f : Forest) (m : List ℕ) → is_open f m ≡ true → is_open_above f (parent_of f m) ≡ true
 open_parent f m h = by (parent_of f m) refl
   where
-    calm : (comes live shut : Bool) → first (so comes InCycle ∷ so (not live) ParentMissing ∷ so shut IllegalParent ∷ []) ≡ None → (live ≡ true) × (shut ≡ false)
-    calm true live shut e = absurd (true≢false (ap is_some e))
-    calm false true true e = absurd (true≢false (ap is_some e))
-    calm false true false e = (refl, refl)
-    calm false false shut e = absurd (true≢false (ap is_some e))
+    eligible : (comes live shut : Bool) → first (so comes InCycle ∷ so (not live) ParentMissing ∷ so shut IllegalParent ∷ []) ≡ None → (live ≡ true) × (shut ≡ false)
+    eligible true live shut e = absurd (true≢false (ap is_some e))
+    eligible false true true e = absurd (true≢false (ap is_some e))
+    eligible false true false e = (refl, refl)
+    eligible false false shut e = absurd (true≢false (ap is_some e))
 
     tests : (next : Option (List ℕ)) → parent_of f m ≡ next
         → first (so (option_map_or (λ p. in_chain f p m) next false) InCycle ∷ so (option_map_or (λ p. not (is_live f p)) next false) ParentMissing ∷ so (option_map_or (λ p. is_excluded f p) next false) IllegalParent ∷ []) ≡ None
@@ -72,7 +72,7 @@ open_parent f m h = by (parent_of f m) refl
     by : (next : Option (List ℕ)) → parent_of f m ≡ next → is_open_above f next ≡ true
     by None is = refl
     by (Some q) is =
-        let parts = calm (in_chain f q m) (is_live f q) (is_excluded f q) (tests (Some q) is) in
+        let parts = eligible (in_chain f q m) (is_live f q) (is_excluded f q) (tests (Some q) is) in
         let whole : list_all (λ a. is_none (own_halt_of f a)) (m ∷ chain_of f q) ≡ true =
         sym (ap (list_all (λ a. is_none (own_halt_of f a))) (open_chain f m h ∙ ap (λ o. m ∷ chain_from f o) is)) ∙ sym (halts_by_members f m (open_there f m h)) ∙ open_unhalted f m h in
         let unhalted : is_none (halt_of f q) ≡ true = halts_by_members f q (live_there f q parts.0) ∙ (and_parts (is_none (own_halt_of f m)) _ whole).1 in

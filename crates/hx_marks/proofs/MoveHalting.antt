@@ -1,10 +1,10 @@
 -- Why namespaces are halted, before and after one of them gets another parent.
---     halt_by_open       a namespace that is calm is halted by its own reasons, or else exactly if it takes no part
+--     halt_by_open       a namespace that is eligible is halted by its own reasons, or else exactly if it takes no part
 --     ring_of            a ring that has m, and n above it, has n: its parent's chain has both
 --     ring_closes        a ring that has n under its new parent: so the chain of that parent had both
 --     own_moved          another namespace has its own reasons as before, where it comes back to itself as before
 --     back_outside       so does one that isn't below n
---     open_moved_under   below n one takes part then exactly if all up to n are calm, and n takes part
+--     open_moved_under   below n one takes part then exactly if all up to n are eligible, and n takes part
 use Rattle.std.specs.Prelude.{is_none}
 use Rattle.std.proofs.Common.{◌≡◌, ℕ, suc, ◌≤◌, ◌⊎◌, Bool, true, false, not, ◌&&◌, Option, Some, None, List, [], ◌∷◌, refl, sym, ap, ◌∙◌, subst, inl, inr, arith, true≢false}
 use Rattle.std.specs.List.{list_all}
@@ -14,7 +14,7 @@ use Rattle.std.proofs.lemmas.Bool.{and_parts, cases_Bool, false_from_ne_true}
 use Rattle.std.proofs.lemmas.Option.{same_Some}
 use Rattle.hx_model.specs.First.{so, first}
 use Rattle.hx_model.specs.Forest.{Forest, is_in, is_there, is_live, is_excluded, parent_of, chain_of, in_chain, comes_back, own_halt_of, halt_of, has_halted_ancestor, with_parent}
-use Rattle.hx_model.specs.Moves.{up_to, chain_from, is_calm, is_open_above}
+use Rattle.hx_model.specs.Moves.{up_to, chain_from, is_eligible, is_open_above}
 use Rattle.hx_model.specs.TreeLabels.{is_open}
 use Rattle.hx_model.specs.declared.node.Halt.{Halt}
 use Rattle.hx_model.specs.declared.node.Halt.TheVariants.{InCycle, ParentMissing, IllegalParent, Ancestor}
@@ -28,14 +28,14 @@ use Rattle.hx_marks.proofs.MoveChains.{open_apart, open_above, up_none}
 -- ---- why one is halted
 
 -- by its own reasons, or else exactly if it takes no part
-pub halt_by_open : (f : Forest) (m : List ℕ) → is_calm f m ≡ true → halt_of f m ≡ first (own_halt_of f m ∷ so (not (is_open f m)) Ancestor ∷ [])
-halt_by_open f m calm =
+pub halt_by_open : (f : Forest) (m : List ℕ) → is_eligible f m ≡ true → halt_of f m ≡ first (own_halt_of f m ∷ so (not (is_open f m)) Ancestor ∷ [])
+halt_by_open f m eligible =
     by (own_halt_of f m) (has_halted_ancestor f m)
     ∙ ap (λ b. first (own_halt_of f m ∷ so (not b) Ancestor ∷ [])) (sym opens)
   where
     opens : is_open f m ≡ is_none (halt_of f m)
     opens =
-        let parts = and_parts (is_live f m) (not (is_excluded f m)) calm in
+        let parts = and_parts (is_live f m) (not (is_excluded f m)) eligible in
         ap (λ b. b && (not (is_excluded f m) && is_none (halt_of f m))) parts.0
         ∙ ap (λ b. b && is_none (halt_of f m)) parts.1
 
@@ -156,19 +156,19 @@ and_false : (a : Bool) → (a && false) ≡ false
 and_false true = refl
 and_false false = refl
 
--- below n: where all up to n are calm, and n takes part
+-- below n: where all up to n are eligible, and n takes part
 pub open_moved_under : (f : Forest) (n : List ℕ) (parent : Option (List ℕ)) (m : List ℕ) → is_there f n ≡ true → in_chain f m n ≡ true
-    → is_open (with_parent n parent f) m ≡ (list_all (is_calm f) (up_to n (chain_of f m)) && is_open (with_parent n parent f) n)
+    → is_open (with_parent n parent f) m ≡ (list_all (is_eligible f) (up_to n (chain_of f m)) && is_open (with_parent n parent f) n)
 open_moved_under f n parent m there has = elim (cases_Bool (is_open g n)) [
-  | inr shut ↦ false_from_ne_true (is_open g m) (λ h. true≢false (sym (open_above g n m (moved_has f n parent m has) h) ∙ shut)) ∙ sym (ap (λ b. calm && b) shut ∙ and_false calm)
-  | inl takes ↦ moved_open_below f n parent (apart takes) there m has ∙ ap (λ b. calm && b) (sym (top (apart takes)))
+  | inr shut ↦ false_from_ne_true (is_open g m) (λ h. true≢false (sym (open_above g n m (moved_has f n parent m has) h) ∙ shut)) ∙ sym (ap (λ b. eligible && b) shut ∙ and_false eligible)
+  | inl takes ↦ moved_open_below f n parent (apart takes) there m has ∙ ap (λ b. eligible && b) (sym (top (apart takes)))
 ]
   where
     g : Forest
     g = with_parent n parent f
 
-    calm : Bool
-    calm = list_all (is_calm f) (up_to n (chain_of f m))
+    eligible : Bool
+    eligible = list_all (is_eligible f) (up_to n (chain_of f m))
 
     apart : is_open (with_parent n parent f) n ≡ true → IsApart f n parent
     apart h = by parent (sym (ap (λ o. option_map_or (λ q. in_chain (with_parent n parent f) q n) o false) (moved_parent f n parent there)) ∙ open_apart (with_parent n parent f) n h)
@@ -180,5 +180,5 @@ open_moved_under f n parent m there has = elim (cases_Bool (is_open g n)) [
     itself_in : in_chain f n n ≡ true
     itself_in = above_chain f n n (itself there)
 
-    top : IsApart f n parent → is_open (with_parent n parent f) n ≡ (is_calm f n && is_open_above f parent)
-    top far = moved_open_below f n parent far there n itself_in ∙ ap (λ xs. list_all (is_calm f) xs && (is_calm f n && is_open_above f parent)) (up_none f n there)
+    top : IsApart f n parent → is_open (with_parent n parent f) n ≡ (is_eligible f n && is_open_above f parent)
+    top far = moved_open_below f n parent far there n itself_in ∙ ap (λ xs. list_all (is_eligible f) xs && (is_eligible f n && is_open_above f parent)) (up_none f n there)

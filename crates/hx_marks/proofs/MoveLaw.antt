@@ -21,7 +21,7 @@ use Rattle.hx_model.specs.Covered.{IsSameFor}
 use Rattle.hx_model.specs.First.{or_else}
 use Rattle.hx_model.specs.Forest.{Forest, is_there, parent_of, with_parent, node_of}
 use Rattle.hx_model.specs.Keys.{is_among}
-use Rattle.hx_model.specs.Moves.{is_calm}
+use Rattle.hx_model.specs.Moves.{is_eligible}
 use Rattle.hx_model.specs.Serving.{IsServed}
 use Rattle.hx_model.specs.State.{State, Objects, object_at, put, cut, home_in, same_id, namespace_id, state_after}
 use Rattle.hx_model.specs.Tree.{hierarchy, hierarchy_id, subnamespace_parent, named_parent, forest_in, forest_of}
@@ -43,7 +43,7 @@ use Rattle.hx_marks.specs.Reports.{report_keys, moved_reports, placed_reports, a
 use Rattle.hx_marks.proofs.Among.{among_append, out_left, out_right}
 use Rattle.hx_marks.proofs.Frames.{KeepsLeast, put_least, cut_least}
 use Rattle.hx_marks.proofs.MoveBelow.{moved_same}
-use Rattle.hx_marks.proofs.MoveReports.{calm_there, report_out, found_apart, found_named, report_kept, report_moved}
+use Rattle.hx_marks.proofs.MoveReports.{eligible_there, report_out, found_apart, found_named, report_kept, report_moved}
 use Rattle.hx_marks.proofs.MoveStates.{same_for}
 use Rattle.hx_marks.proofs.Parts.{UsedSame, marks_beside}
 
@@ -107,7 +107,7 @@ module _ (s : State) (valid : IsValid s) (id : Id) (is : is_hierarchy id.kind �
   after = record s { objects = new; last = last }
 
   -- where the tree stays
-  stays : forest_in s.config.excluded new ≡ forest_of s → ((m : List ℕ) → k ≡ key.Report m → is_calm (forest_of s) m ≡ true → same_id (hierarchy_id m) id ≡ false) → IsSameFor s after k
+  stays : forest_in s.config.excluded new ≡ forest_of s → ((m : List ℕ) → k ≡ key.Report m → is_eligible (forest_of s) m ≡ true → same_id (hierarchy_id m) id ≡ false) → IsSameFor s after k
   stays tree apart = same_for s id is new last keeps (forest_of s) tree (λ n. refl) (λ n. refl) least k (λ m report. report_kept s id is new last keeps m tree (apart m report)) used out refl
 
   -- where its namespace is there
@@ -136,7 +136,7 @@ module _ (s : State) (valid : IsValid s) (id : Id) (is : is_hierarchy id.kind �
           → is_among k (if b then report_keys (forest_of s) id.ns else moved_reports (forest_of s) id.ns (parent_of (forest_of s) id.ns) parent (is_open (forest_of s) id.ns) (is_open moved id.ns)) ≡ false → IsSameFor s after k
       by true same marks told =
           stays (tree ∙ ap (λ p. with_parent id.ns p (forest_of s)) (sym (same_names (parent_of (forest_of s) id.ns) parent same)) ∙ with_same_parent s valid id.ns home here)
-          (λ m report calm. found_apart id m (report_out (forest_of s) id.ns m calm (sym (ap (λ (q : Key). is_among q (report_keys (forest_of s) id.ns)) report) ∙ told)))
+          (λ m report eligible. found_apart id m (report_out (forest_of s) id.ns m eligible (sym (ap (λ (q : Key). is_among q (report_keys (forest_of s) id.ns)) report) ∙ told)))
       by false differs marks told =
           same_for s id is new last keeps moved tree (moved_live (forest_of s) id.ns parent) (moved_leaving (forest_of s) id.ns parent) least k
           (λ m report. report_moved s id is new last keeps m parent there tree (sym (ap (λ (q : Key). is_among q (moved_reports (forest_of s) id.ns (parent_of (forest_of s) id.ns) parent (is_open (forest_of s) id.ns) (is_open moved id.ns))) report) ∙ told))
@@ -145,7 +145,7 @@ module _ (s : State) (valid : IsValid s) (id : Id) (is : is_hierarchy id.kind �
   by_home : (named : Option (List ℕ)) (o : Option Object) → object_at s.objects (namespace_id id.ns) ≡ o
       → forest_in s.config.excluded new ≡ option_map_or (λ home. with_parent id.ns (or_else (subnamespace_parent home) named) (forest_of s)) o (forest_of s)
       → is_among k (move_marks s after id.ns) ≡ false → is_among k (hierarchy_reports s after id.ns) ≡ false → IsSameFor s after k
-  by_home named None here tree unmarked untold = stays tree (λ m report calm. found_apart id m (false_from_ne_true (bytes_eq id.ns m) (λ h. true≢false (sym (calm_there (forest_of s) m calm) ∙ ap (is_there (forest_of s)) (sym (is_same id.ns m h)) ∙ gone))))
+  by_home named None here tree unmarked untold = stays tree (λ m report eligible. found_apart id m (false_from_ne_true (bytes_eq id.ns m) (λ h. true≢false (sym (eligible_there (forest_of s) m eligible) ∙ ap (is_there (forest_of s)) (sym (is_same id.ns m h)) ∙ gone))))
     where
       gone : is_there (forest_of s) id.ns ≡ false
       gone = there-objects s.config.excluded s.objects id.ns (all_served s.last s.objects valid.stored) ∙ ap is_some here
@@ -162,7 +162,7 @@ module _ (s : State) (valid : IsValid s) (id : Id) (is : is_hierarchy id.kind �
       by_name true called tree unmarked untold =
           by_home named (object_at s.objects (namespace_id id.ns)) refl
           (tree ∙ ap (λ o. option_map_or (λ home. with_parent id.ns (or_else (subnamespace_parent home) named) (forest_of s)) o (forest_of s)) (home_of_hierarchy s.objects id is)) unmarked untold
-      by_name false other tree unmarked untold = stays tree (λ m report calm. found_named id m other)
+      by_name false other tree unmarked untold = stays tree (λ m report eligible. found_named id m other)
 
 pub put_moves : (s : State) → IsValid s → (x : Object) → is_hierarchy x.id.kind ≡ true → MovesTree s x.id (named_parent x) (put x s.objects)
 put_moves s valid x is = forest-put_moves s.config.excluded s.objects x.id is valid.in_order (all_served s.last s.objects valid.stored) x (named_parent x) refl refl

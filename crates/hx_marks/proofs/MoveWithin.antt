@@ -15,7 +15,7 @@ use Rattle.hx_model.specs.Answers.{is_listed}
 use Rattle.hx_model.specs.Cases.{same_name}
 use Rattle.hx_model.specs.Forest.{Forest, is_in, is_there, parent_of, chain_of, in_chain, names_of, subtree_of}
 use Rattle.hx_model.specs.Keys.{same_key, is_among, is_key, has_named, may_mark}
-use Rattle.hx_model.specs.Moves.{up_to, is_calm, moved_chain_of, chain_from, mode_at, copied_kinds}
+use Rattle.hx_model.specs.Moves.{up_to, is_eligible, moved_chain_of, chain_from, mode_at, copied_kinds}
 use Rattle.hx_model.specs.State.{State, object_at, state_after}
 use Rattle.hx_model.specs.Tree.{hierarchy, forest_of}
 use Rattle.hx_model.specs.TreeLabels.{is_open}
@@ -70,7 +70,7 @@ module _ (s : State) (m : List ℕ) (there : is_there (forest_of s) m ≡ true) 
 
 live_there : (f : Forest) (n m : List ℕ) → is_in m (live_below f n) ≡ true → is_there f m ≡ true
 live_there f n m mem =
-    let below = (and_parts (is_in m (subtree_of f n)) _ (sym (is_in_filter (λ a. list_all (is_calm f) (up_to n (chain_of f a))) m (subtree_of f n)) ∙ mem)).0 in
+    let below = (and_parts (is_in m (subtree_of f n)) _ (sym (is_in_filter (λ a. list_all (is_eligible f) (up_to n (chain_of f a))) m (subtree_of f n)) ∙ mem)).0 in
     names_have f m ∙ (and_parts (is_in m (names_of f)) _ (sym (is_in_filter (λ a. in_chain f a n) m (names_of f)) ∙ below)).0
 
 module _ (s : State) (valid : IsValid s) (k : Key) (n : List ℕ) where

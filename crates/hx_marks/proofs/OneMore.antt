@@ -26,7 +26,7 @@ use Rattle.hx_model.specs.First.{or_else}
 use Rattle.hx_model.specs.Forest.{Forest, in_chain, is_in, is_live, is_child, children_of, halt_of, names_of, parent_of}
 use Rattle.hx_model.specs.Keys.{is_among}
 use Rattle.hx_model.specs.Modes.{config_id}
-use Rattle.hx_model.specs.Moves.{is_calm}
+use Rattle.hx_model.specs.Moves.{is_eligible}
 use Rattle.hx_model.specs.Propagation.{id_in}
 use Rattle.hx_model.specs.Reports.{conditions_by, misses_anchor}
 use Rattle.hx_model.specs.Serving.{IsServed}
@@ -45,7 +45,7 @@ use Rattle.hx_marks.proofs.Asking.{asking_among}
 use Rattle.hx_marks.proofs.CreatedChains.{IsMade, another, parent_same, made_chain_same, made_open_same}
 use Rattle.hx_marks.proofs.Keeping.{Stands, kept_copy, kept_tree, kept_child, kept_anchor, kept_purge}
 use Rattle.hx_marks.proofs.KeptTree.{node_alike}
-use Rattle.hx_marks.proofs.OneMoreHalting.{calm_same}
+use Rattle.hx_marks.proofs.OneMoreHalting.{eligible_same}
 use Rattle.hx_marks.proofs.Replacing.{copied_leaf}
 use Rattle.hx_marks.proofs.Reporting.{same_report, silent_report}
 use Rattle.hx_marks.specs.Law.{anchor_keys, asking_keys}
@@ -223,17 +223,17 @@ module _ (s t : State) (n : List ℕ) (more : HasOneMore s t n) where
 
   -- one that isn't named by it and doesn't name it, and is halted as before
   pub apart_report : (m : List ℕ) → bytes_eq n m ≡ false
-      → (is_calm (forest_of s) m ≡ true → (is_child (forest_of t) m n ≡ false) × (is_child (forest_of t) n m ≡ false) × (halt_of (forest_of t) m ≡ halt_of (forest_of s) m))
+      → (is_eligible (forest_of s) m ≡ true → (is_child (forest_of t) m n ≡ false) × (is_child (forest_of t) n m ≡ false) × (halt_of (forest_of t) m ≡ halt_of (forest_of s) m))
       → IsSameFor s t (key.Report m)
-  apart_report m off stays = elim (cases_Bool (is_calm (forest_of s) m)) [
-    | inr restless ↦ silent_report s t m restless (calm ∙ restless)
-    | inl calm_before ↦
-        let same = stays calm_before in
-        same_report s t m calm (more.others (hierarchy_id m) refl) (more.names m off) (children_same m same.0) (λ i. conditions_by (same.2 i) (misses_same m off same.1 i))
+  apart_report m off stays = elim (cases_Bool (is_eligible (forest_of s) m)) [
+    | inr restless ↦ silent_report s t m restless (eligible ∙ restless)
+    | inl eligible_before ↦
+        let same = stays eligible_before in
+        same_report s t m eligible (more.others (hierarchy_id m) refl) (more.names m off) (children_same m same.0) (λ i. conditions_by (same.2 i) (misses_same m off same.1 i))
   ]
     where
-      calm : is_calm (forest_of t) m ≡ is_calm (forest_of s) m
-      calm = calm_same (forest_of s) (forest_of t) n more.made m off
+      eligible : is_eligible (forest_of t) m ≡ is_eligible (forest_of s) m
+      eligible = eligible_same (forest_of s) (forest_of t) n more.made m off
 
 -- where the keys of those that ask for a name are left out, no anchor does
 pub unasked : (objects : Objects) (n m name : List ℕ) (k : Key) → is_among k (anchor_keys (anchor_id m name)) ≡ true → is_among k (asking_keys objects n) ≡ false → bytes_eq n name ≡ true → object_at objects (anchor_id m name) ≡ None

@@ -1,7 +1,7 @@
 -- Why a namespace is halted where another is made: n isn't there in the forest f, is there in g, and all else is as before.
 --     named, names       who is a child names its parent, and back
---     calm_there, calm_live   one that is calm is there;  one that isn't live isn't calm
---     calm_same          another is calm as before
+--     eligible_there, eligible_live   one that is eligible is there;  one that isn't live isn't eligible
+--     eligible_same          another is eligible as before
 --     child_below        who names n is below it
 --     ring_back          two that are below one another come back to themselves
 --     halt_apart         one whose chain doesn't have n is halted as before
@@ -15,7 +15,7 @@ use Rattle.std.proofs.lemmas.Bool.{and_parts, cases_Bool, or_left, or_right, fal
 use Rattle.hx_model.specs.declared.node.Halt.TheVariants.{InCycle, ParentMissing, IllegalParent, Ancestor}
 use Rattle.hx_model.specs.First.{so, first}
 use Rattle.hx_model.specs.Forest.{Forest, is_in, is_there, is_live, is_excluded, parent_of, chain_of, in_chain, comes_back, own_halt_of, has_halted_ancestor, halt_of, tail_of, is_child}
-use Rattle.hx_model.specs.Moves.{is_calm}
+use Rattle.hx_model.specs.Moves.{is_eligible}
 use Rattle.hx_model.proofs.Climbing.{Above, itself, through, chain_above, above_chain, chain_trans, is_same, same_itself}
 use Rattle.hx_model.proofs.Conflicting.{tail_chain}
 use Rattle.hx_model.proofs.Opening.{chain_first, not_live}
@@ -36,14 +36,14 @@ named f n m h = by (parent_of f m) h
 pub names : (f : Forest) (n m : List ℕ) → parent_of f m ≡ Some n → is_child f n m ≡ true
 names f n m is = ap (λ o. option_map_or (bytes_eq n) o false) is ∙ same_itself n
 
-pub calm_there : (f : Forest) (n : List ℕ) → is_calm f n ≡ true → is_there f n ≡ true
-calm_there f n h = elim (cases_Bool (is_there f n)) [
+pub eligible_there : (f : Forest) (n : List ℕ) → is_eligible f n ≡ true → is_there f n ≡ true
+eligible_there f n h = elim (cases_Bool (is_there f n)) [
   | inl there ↦ there
   | inr out ↦ absurd (true≢false (sym (and_parts (is_live f n) _ h).0 ∙ not_live f n out))
 ]
 
-pub calm_live : (f : Forest) (n : List ℕ) → is_live f n ≡ false → is_calm f n ≡ false
-calm_live f n dead = ap (λ b. b && not (is_excluded f n)) dead
+pub eligible_live : (f : Forest) (n : List ℕ) → is_live f n ≡ false → is_eligible f n ≡ false
+eligible_live f n dead = ap (λ b. b && not (is_excluded f n)) dead
 
 -- two that are below one another come back to themselves
 pub ring_back : (f : Forest) (a b : List ℕ) → bytes_eq a b ≡ false → in_chain f a b ≡ true → in_chain f b a ≡ true → comes_back f a ≡ true
@@ -75,8 +75,8 @@ halts_later f n m q there off has is dead =
 -- ---- two forests
 
 module _ (f g : Forest) (n : List ℕ) (is_made : IsMade f g n) where
-  pub calm_same : (m : List ℕ) → bytes_eq n m ≡ false → is_calm g m ≡ is_calm f m
-  calm_same m off = λ i. live_same f g n is_made m off i && not (excluded_same f g n is_made m off i)
+  pub eligible_same : (m : List ℕ) → bytes_eq n m ≡ false → is_eligible g m ≡ is_eligible f m
+  eligible_same m off = λ i. live_same f g n is_made m off i && not (excluded_same f g n is_made m off i)
 
   pub child_below : (m : List ℕ) → is_there g m ≡ true → is_child g n m ≡ true → in_chain g m n ≡ true
   child_below m there child = above_chain g m n (through there (named g n m child) (itself is_made.made))

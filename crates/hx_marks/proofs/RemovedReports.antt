@@ -9,7 +9,7 @@ use Rattle.hx_object.specs.declared.kind.Kind.TheVariants.{SubnamespaceAnchor}
 use Rattle.hx_model.specs.Covered.{IsSameFor}
 use Rattle.hx_model.specs.Forest.{Forest, is_in, is_there, is_live, names_of, parent_of, chain_of, in_chain, comes_back, children_of, is_child, halt_of}
 use Rattle.hx_model.specs.Keys.{is_among, has_named, is_key}
-use Rattle.hx_model.specs.Moves.{is_calm}
+use Rattle.hx_model.specs.Moves.{is_eligible}
 use Rattle.hx_model.specs.Propagation.{as_list}
 use Rattle.hx_model.specs.State.{State}
 use Rattle.hx_model.specs.Tree.{forest_of}
@@ -23,7 +23,7 @@ use Rattle.hx_marks.specs.Reports.{reports_of, removed_reports}
 use Rattle.hx_marks.proofs.Among.{among_append, among_cond, out_left, out_right}
 use Rattle.hx_marks.proofs.Keeping.{turned}
 use Rattle.hx_marks.proofs.OneMore.{HasOneMore, apart_report}
-use Rattle.hx_marks.proofs.OneMoreHalting.{named, calm_there, calm_live, calm_same, ring_back, halt_apart, halt_below}
+use Rattle.hx_marks.proofs.OneMoreHalting.{named, eligible_there, eligible_live, eligible_same, ring_back, halt_apart, halt_below}
 use Rattle.hx_marks.proofs.Reporting.{silent_report, report_among, reports_known}
 
 -- only keys of the state are marked
@@ -51,7 +51,7 @@ gone_within s n k mem = elim (or_cases (is_among k near) (is_among k (below ++ r
     known_name : (names : List (List ℕ)) → is_among k (reports_of (forest_of s) names) ≡ true → is_key s k ≡ true
     known_name names among =
         let known = reports_known (forest_of s) names k among in
-        ap (is_key s) known.1 ∙ or_left (is_there (forest_of s) known.0) (has_named s.objects SubnamespaceAnchor known.0) (calm_there (forest_of s) known.0 known.2)
+        ap (is_key s) known.1 ∙ or_left (is_there (forest_of s) known.0) (has_named s.objects SubnamespaceAnchor known.0) (eligible_there (forest_of s) known.0 known.2)
 
 module _ (s t : State) (n : List ℕ) (more : HasOneMore t s n) (dead : is_live (forest_of s) n ≡ false) where
   abbrev f : Forest
@@ -60,15 +60,15 @@ module _ (s t : State) (n : List ℕ) (more : HasOneMore t s n) (dead : is_live 
   abbrev g : Forest
   g = forest_of t
 
-  module _ (m : List ℕ) (out : is_among (key.Report m) (removed_reports f n) ≡ false) (off : bytes_eq n m ≡ false) (calm_then : is_calm g m ≡ true) where
+  module _ (m : List ℕ) (out : is_among (key.Report m) (removed_reports f n) ≡ false) (off : bytes_eq n m ≡ false) (eligible_then : is_eligible g m ≡ true) where
     abbrev k : Key
     k = key.Report m
 
-    calm : is_calm f m ≡ true
-    calm = calm_same g f n more.made m off ∙ calm_then
+    eligible : is_eligible f m ≡ true
+    eligible = eligible_same g f n more.made m off ∙ eligible_then
 
     there : is_there f m ≡ true
-    there = calm_there f m calm
+    there = eligible_there f m eligible
 
     abbrev near : List Key
     near = reports_of f (as_list (parent_of f n))
@@ -95,18 +95,18 @@ module _ (s t : State) (n : List ℕ) (more : HasOneMore t s n) (dead : is_live 
     no_parent_of : is_child f m n ≡ false
     no_parent_of = false_from_ne_true (is_child f m n) (λ h.
         let mem : is_in m (as_list (parent_of f n)) ≡ true = ap (λ o. is_in m (as_list o)) (named f m n h) ∙ or_left (bytes_eq m m) false (same_itself m) in
-        true≢false (sym (report_among f (as_list (parent_of f n)) m calm mem) ∙ out_near))
+        true≢false (sym (report_among f (as_list (parent_of f n)) m eligible mem) ∙ out_near))
 
     -- nor a child
     no_child_of : is_child f n m ≡ false
     no_child_of = false_from_ne_true (is_child f n m) (λ h.
         let mem : is_in m (children_of f n) ≡ true = is_in_filter (is_child f n) m (names_of f) ∙ and_from (is_in m (names_of f)) (is_child f n m) (sym (names_have f m) ∙ there) h in
-        true≢false (sym (report_among f (children_of f n) m calm mem) ∙ out_below))
+        true≢false (sym (report_among f (children_of f n) m eligible mem) ∙ out_below))
 
     -- nor one of its ring
     no_ring : in_chain f m n ≡ true → in_chain f n m ≡ false
     no_ring has = false_from_ne_true (in_chain f n m) (λ h.
-        true≢false (sym (and_from (comes_back f n) (is_among k (reports_of f (chain_of f n))) (ring_back f n m off h has) (report_among f (chain_of f n) m calm h)) ∙ out_ring))
+        true≢false (sym (and_from (comes_back f n) (is_among k (reports_of f (chain_of f n))) (ring_back f n m off h has) (report_among f (chain_of f n) m eligible h)) ∙ out_ring))
 
     halts : halt_of f m ≡ halt_of g m
     halts = elim (cases_Bool (in_chain f m n)) [
@@ -116,6 +116,6 @@ module _ (s t : State) (n : List ℕ) (more : HasOneMore t s n) (dead : is_live 
 
   pub report_gone : (m : List ℕ) → is_among (key.Report m) (removed_reports f n) ≡ false → IsSameFor s t (key.Report m)
   report_gone m out = elim (cases_Bool (bytes_eq n m)) [
-    | inl here ↦ subst (λ (q : List ℕ). IsSameFor s t (key.Report q)) (is_same n m here) (silent_report s t n (calm_live f n dead) (calm_live g n (not_live g n more.made.absent)))
-    | inr off ↦ turned t s (key.Report m) (apart_report t s n more m off (λ calm. (no_parent_of m out off calm, no_child_of m out off calm, halts m out off calm)))
+    | inl here ↦ subst (λ (q : List ℕ). IsSameFor s t (key.Report q)) (is_same n m here) (silent_report s t n (eligible_live f n dead) (eligible_live g n (not_live g n more.made.absent)))
+    | inr off ↦ turned t s (key.Report m) (apart_report t s n more m off (λ eligible. (no_parent_of m out off eligible, no_child_of m out off eligible, halts m out off eligible)))
   ]

@@ -13,7 +13,7 @@ use Rattle.hx_model.specs.Answers.{same_object}
 use Rattle.hx_model.specs.First.{so, or_else}
 use Rattle.hx_model.specs.Forest.{Forest, children_of, halt_of, parent_of, with_parent}
 use Rattle.hx_model.specs.Hands.{versioned}
-use Rattle.hx_model.specs.Moves.{is_calm}
+use Rattle.hx_model.specs.Moves.{is_eligible}
 use Rattle.hx_model.specs.Reports.{bare_report, conditions_of, is_telling, report_write, with_report}
 use Rattle.hx_model.specs.State.{State, object_at, put, same_id, namespace_id, with_version, state_after}
 use Rattle.hx_model.specs.Subnamespaces.{anchor_id}
@@ -28,12 +28,12 @@ use Rattle.hx_model.proofs.Objects.{found_id, found_again, is_same_id}
 use Rattle.hx_model.proofs.Planting.{node_of-objects, there-objects}
 use Rattle.hx_marks.proofs.MoveLaw.{MovesTree, put_moves}
 use Rattle.hx_marks.proofs.Replacing.{valid_served}
-use Rattle.hx_marks.proofs.Reporting.{calm_there, conditions_same}
+use Rattle.hx_marks.proofs.Reporting.{eligible_there, conditions_same}
 use Rattle.hx_marks.proofs.Settling.{stands_placed}
 
 -- what is put tells what the state has to tell, and gives what was given
 pub record IsReportWrite (s : State) (n : List ℕ) (write : Write) : Type 0 where
-  pub calm : is_calm (forest_of s) n ≡ true
+  pub eligible : is_eligible (forest_of s) n ≡ true
   pub home : Object
   pub there : object_at s.objects (namespace_id n) ≡ Some home
   pub report : Object
@@ -49,7 +49,7 @@ no_write : (write : Write) → ◌≡◌ {A = Option Write} None (Some write) �
 no_write write e = true≢false (sym (ap is_some e))
 
 pub report_write_known : (s : State) (n : List ℕ) (write : Write) → IsValid s → wanted_report s n ≡ Some write → IsReportWrite s n write
-report_write_known s n write valid wants = by (is_calm (forest_of s) n) (object_at s.objects (hierarchy_id n)) refl refl wants
+report_write_known s n write valid wants = by (is_eligible (forest_of s) n) (object_at s.objects (hierarchy_id n)) refl refl wants
   where
     children : List (List ℕ)
     children = children_of (forest_of s) n
@@ -57,21 +57,21 @@ report_write_known s n write valid wants = by (is_calm (forest_of s) n) (object_
     conditions : List Condition
     conditions = conditions_of s n
 
-    home_of : (o : Option Object) → object_at s.objects (namespace_id n) ≡ o → is_calm (forest_of s) n ≡ true → (x : Object) × (object_at s.objects (namespace_id n) ≡ Some x)
-    home_of (Some x) at calm = (x, at)
-    home_of None absent calm = absurd (true≢false (sym (calm_there (forest_of s) n calm) ∙ there-objects s.config.excluded s.objects n (valid_served s valid) ∙ ap is_some absent))
+    home_of : (o : Option Object) → object_at s.objects (namespace_id n) ≡ o → is_eligible (forest_of s) n ≡ true → (x : Object) × (object_at s.objects (namespace_id n) ≡ Some x)
+    home_of (Some x) at eligible = (x, at)
+    home_of None absent eligible = absurd (true≢false (sym (eligible_there (forest_of s) n eligible) ∙ there-objects s.config.excluded s.objects n (valid_served s valid) ∙ ap is_some absent))
 
-    made : (x : Object) → is_calm (forest_of s) n ≡ true → write ≡ Put x → x.id ≡ hierarchy_id n → named_parent x ≡ option_and_then named_parent (object_at s.objects (hierarchy_id n)) → ((version : ℕ) → with_report children conditions (with_version x version) ≡ x)
+    made : (x : Object) → is_eligible (forest_of s) n ≡ true → write ≡ Put x → x.id ≡ hierarchy_id n → named_parent x ≡ option_and_then named_parent (object_at s.objects (hierarchy_id n)) → ((version : ℕ) → with_report children conditions (with_version x version) ≡ x)
         → IsReportWrite s n write
-    made x calm puts place given tells =
-        let home = home_of (object_at s.objects (namespace_id n)) refl calm in
-        record { calm = calm; home = home.0; there = home.1; report = x; puts = puts; place = place; given = given; tells = tells }
+    made x eligible puts place given tells =
+        let home = home_of (object_at s.objects (namespace_id n)) refl eligible in
+        record { eligible = eligible; home = home.0; there = home.1; report = x; puts = puts; place = place; given = given; tells = tells }
 
     by_test : (b : Bool) (x : Object) → so b (Put x) ≡ Some write → write ≡ Put x
     by_test true x e = some_put x write e
     by_test false x e = absurd (no_write write e)
 
-    by : (calm : Bool) (found : Option Object) → is_calm (forest_of s) n ≡ calm → object_at s.objects (hierarchy_id n) ≡ found → report_write calm found children conditions n ≡ Some write → IsReportWrite s n write
+    by : (eligible : Bool) (found : Option Object) → is_eligible (forest_of s) n ≡ eligible → object_at s.objects (hierarchy_id n) ≡ found → report_write eligible found children conditions n ≡ Some write → IsReportWrite s n write
     by false None is at e = absurd (no_write write e)
     by false (Some x) is at e = absurd (no_write write e)
     by true None is at e =
@@ -103,8 +103,8 @@ report_satisfied s n write version valid known =
     let told : conditions_of t n ≡ conditions_of s n =
     conditions_same s t n (ap (λ (g : Forest). halt_of g n) tree) (other (namespace_id n) refl) (λ p. ap is_some (other (namespace_id p) refl)) (λ p. ap is_none (other (anchor_id p n) refl)) in
     ap (λ w. wanted_report (state_after s (versioned version w ∷ [])) n) known.puts
-    ∙ (λ i. report_write (is_calm (tree i) n) (found i) (children_of (tree i) n) (told i) n)
-    ∙ ap (λ b. report_write b (Some y) (children_of f n) (conditions_of s n) n) known.calm
+    ∙ (λ i. report_write (is_eligible (tree i) n) (found i) (children_of (tree i) n) (told i) n)
+    ∙ ap (λ b. report_write b (Some y) (children_of f n) (conditions_of s n) n) known.eligible
     ∙ stands_placed (with_report (children_of f n) (conditions_of s n) y) y (sym (ap (λ (x : Object). with_version x 0) (known.tells version)))
   where
     moved : (y : Object) → y.id ≡ hierarchy_id n → MovesTree s y.id (named_parent y) (put y s.objects) → forest_in s.config.excluded (put y s.objects) ≡ with_parent n (or_else (subnamespace_parent known.home) (named_parent y)) (forest_of s)

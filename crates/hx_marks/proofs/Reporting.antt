@@ -16,7 +16,7 @@ use Rattle.hx_object.specs.declared.object.Object.{Object}
 use Rattle.hx_model.specs.Covered.{IsSameFor}
 use Rattle.hx_model.specs.Forest.{Forest, children_of, halt_of, is_excluded, is_in, is_live, is_there, node_of}
 use Rattle.hx_model.specs.Keys.{same_key, has_named, is_among, is_key}
-use Rattle.hx_model.specs.Moves.{is_calm}
+use Rattle.hx_model.specs.Moves.{is_eligible}
 use Rattle.hx_model.specs.Reports.{conditions_by, conditions_of, misses_anchor, report_write}
 use Rattle.hx_model.specs.State.{State, object_at, namespace_id}
 use Rattle.hx_model.specs.Subnamespaces.{anchor_id}
@@ -35,21 +35,21 @@ silent : (found : Option Object) (children : List (List ℕ)) (conditions : List
 silent None children conditions n = refl
 silent (Some x) children conditions n = refl
 
-pub silent_wants : (s : State) (m : List ℕ) → is_calm (forest_of s) m ≡ false → wanted_report s m ≡ None
+pub silent_wants : (s : State) (m : List ℕ) → is_eligible (forest_of s) m ≡ false → wanted_report s m ≡ None
 silent_wants s m out =
     ap (λ b. report_write b (object_at s.objects (hierarchy_id m)) (children_of (forest_of s) m) (conditions_of s m) m) out
     ∙ silent (object_at s.objects (hierarchy_id m)) (children_of (forest_of s) m) (conditions_of s m) m
 
 -- where its namespace takes none, before and after
-pub silent_report : (s t : State) (m : List ℕ) → is_calm (forest_of s) m ≡ false → is_calm (forest_of t) m ≡ false → IsSameFor s t (key.Report m)
+pub silent_report : (s t : State) (m : List ℕ) → is_eligible (forest_of s) m ≡ false → is_eligible (forest_of t) m ≡ false → IsSameFor s t (key.Report m)
 silent_report s t m before after = none_in_both s t (key.Report m) (silent_wants s m before) (silent_wants t m after)
 
 -- where all that is looked at stays
-pub same_report : (s t : State) (m : List ℕ) → is_calm (forest_of t) m ≡ is_calm (forest_of s) m → object_at t.objects (hierarchy_id m) ≡ object_at s.objects (hierarchy_id m) → object_at t.objects (namespace_id m) ≡ object_at s.objects (namespace_id m)
+pub same_report : (s t : State) (m : List ℕ) → is_eligible (forest_of t) m ≡ is_eligible (forest_of s) m → object_at t.objects (hierarchy_id m) ≡ object_at s.objects (hierarchy_id m) → object_at t.objects (namespace_id m) ≡ object_at s.objects (namespace_id m)
     → children_of (forest_of t) m ≡ children_of (forest_of s) m → conditions_of t m ≡ conditions_of s m → IsSameFor s t (key.Report m)
-same_report s t m calm found home children conditions =
+same_report s t m eligible found home children conditions =
     same_in_both s t (key.Report m)
-    (λ i. report_write (sym calm i) (sym found i) (sym children i) (sym conditions i) m)
+    (λ i. report_write (sym eligible i) (sym found i) (sym children i) (sym conditions i) m)
     (λ i. (record { id = hierarchy_id m; version = option_version (sym found i) }) ∷ (record { id = namespace_id m; version = option_version (sym home i) }) ∷ [])
   where
     option_version : Option Object → Option ℕ
@@ -74,19 +74,19 @@ conditions_same s t m halts home names anchors =
 -- ---- keys of reports
 
 -- the report of one that takes them is among its own
-pub own_report : (f : Forest) (m : List ℕ) → is_calm f m ≡ true → is_among (key.Report m) (report_keys f m) ≡ true
-own_report f m calm = ap (λ b. is_among (key.Report m) (if b then key.Report m ∷ [] else [])) calm ∙ among_here (key.Report m) []
+pub own_report : (f : Forest) (m : List ℕ) → is_eligible f m ≡ true → is_among (key.Report m) (report_keys f m) ≡ true
+own_report f m eligible = ap (λ b. is_among (key.Report m) (if b then key.Report m ∷ [] else [])) eligible ∙ among_here (key.Report m) []
 
-pub report_among : (f : Forest) (names : List (List ℕ)) (m : List ℕ) → is_calm f m ≡ true → is_in m names ≡ true → is_among (key.Report m) (reports_of f names) ≡ true
-report_among f names m calm mem =
+pub report_among : (f : Forest) (names : List (List ℕ)) (m : List ℕ) → is_eligible f m ≡ true → is_in m names ≡ true → is_among (key.Report m) (reports_of f names) ≡ true
+report_among f names m eligible mem =
     among_flat_map (key.Report m) (report_keys f) names
-    ∙ passing_name (λ n. is_among (key.Report m) (report_keys f n)) m names mem (own_report f m calm)
+    ∙ passing_name (λ n. is_among (key.Report m) (report_keys f n)) m names mem (own_report f m eligible)
 
 -- what is among them is the report of one of the names, which takes reports
-pub reports_known : (f : Forest) (names : List (List ℕ)) (k : Key) → is_among k (reports_of f names) ≡ true → (m : List ℕ) × (k ≡ key.Report m) × (is_calm f m ≡ true) × (is_in m names ≡ true)
+pub reports_known : (f : Forest) (names : List (List ℕ)) (k : Key) → is_among k (reports_of f names) ≡ true → (m : List ℕ) × (k ≡ key.Report m) × (is_eligible f m ≡ true) × (is_in m names ≡ true)
 reports_known f names k mem =
     let found = found_name (λ n. is_among k (report_keys f n)) names (sym (among_flat_map k (report_keys f) names) ∙ mem) in
-    let parts = and_parts (is_calm f found.0) _ (sym (among_cond k (is_calm f found.0) (key.Report found.0 ∷ [])) ∙ found.2) in
+    let parts = and_parts (is_eligible f found.0) _ (sym (among_cond k (is_eligible f found.0) (key.Report found.0 ∷ [])) ∙ found.2) in
     (found.0, only found.0 parts.1, parts.0, found.1)
   where
     only : (m : List ℕ) → is_among k (key.Report m ∷ []) ≡ true → k ≡ key.Report m
@@ -96,8 +96,8 @@ reports_known f names k mem =
     ]
 
 -- a namespace that takes reports is there
-pub calm_there : (f : Forest) (m : List ℕ) → is_calm f m ≡ true → is_there f m ≡ true
-calm_there f m calm = by (node_of f m) (and_parts (is_live f m) (not (is_excluded f m)) calm).0
+pub eligible_there : (f : Forest) (m : List ℕ) → is_eligible f m ≡ true → is_there f m ≡ true
+eligible_there f m eligible = by (node_of f m) (and_parts (is_live f m) (not (is_excluded f m)) eligible).0
   where
     by : (o : Option Node) → option_map_or (λ (node : Node). not node.terminating) o false ≡ true → is_some o ≡ true
     by None e = absurd (true≢false (sym e))
@@ -106,7 +106,7 @@ calm_there f m calm = by (node_of f m) (and_parts (is_live f m) (not (is_exclude
 pub reports_key : (s : State) (names : List (List ℕ)) (k : Key) → is_among k (reports_of (forest_of s) names) ≡ true → is_key s k ≡ true
 reports_key s names k mem =
     let found = reports_known (forest_of s) names k mem in
-    ap (is_key s) found.1 ∙ or_left (is_there (forest_of s) found.0) (has_named s.objects SubnamespaceAnchor found.0) (calm_there (forest_of s) found.0 found.2)
+    ap (is_key s) found.1 ∙ or_left (is_there (forest_of s) found.0) (has_named s.objects SubnamespaceAnchor found.0) (eligible_there (forest_of s) found.0 found.2)
 
 pub report_key : (s : State) (n : List ℕ) (k : Key) → is_among k (report_keys (forest_of s) n) ≡ true → is_key s k ≡ true
 report_key s n k mem = reports_key s (n ∷ []) k (ap (is_among k) (append-nil (report_keys (forest_of s) n)) ∙ mem)

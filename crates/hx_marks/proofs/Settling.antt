@@ -27,7 +27,7 @@ use Rattle.hx_model.specs.Forest.{chain_of, children_of, is_excluded, is_in, is_
 use Rattle.hx_model.specs.Limits.{is_copy}
 use Rattle.hx_model.specs.Modes.{mode_of}
 use Rattle.hx_model.specs.Propagation.{copy_of, id_in, sources_above, top_source}
-use Rattle.hx_model.specs.Moves.{is_calm}
+use Rattle.hx_model.specs.Moves.{is_eligible}
 use Rattle.hx_model.specs.Reports.{bare_report, conditions_of, is_telling, report_write, with_report}
 use Rattle.hx_model.specs.Settled.{HasNoCopy, HasCopyOf, HasUsages, IsKeptIn, IsSettled, TellsExactly}
 use Rattle.hx_model.specs.State.{State, object_at, namespace_id, with_version, has_home}
@@ -45,7 +45,7 @@ use Rattle.hx_model.proofs.Planting.{there-objects}
 use Rattle.hx_model.proofs.Storing.{All-found}
 use Rattle.hx_marks.proofs.Frames.{unanchored_child, unanchored_status, staying_removal}
 use Rattle.hx_marks.proofs.Replacing.{leaving_is, live_is, leaving_found, valid_served}
-use Rattle.hx_marks.proofs.Reporting.{calm_there, silent_wants}
+use Rattle.hx_marks.proofs.Reporting.{eligible_there, silent_wants}
 use Rattle.hx_marks.proofs.Wanting.{wants_copied}
 
 pub same_object-Decides : (a b : Object) → Decides (same_object a b) (a ≡ b)
@@ -203,8 +203,8 @@ settled_exactly s valid none = record {
   reports = λ n x at included.
       let children = children_of (forest_of s) n in
       let conditions = conditions_of s n in
-      let calm : is_calm (forest_of s) n ≡ true = λ i. (live_is s valid n x at ∙ ap not (staying n x at)) i && not (included i) in
-      tells_from (object_at s.objects (hierarchy_id n)) children conditions n (sym (ap (λ b. report_write b (object_at s.objects (hierarchy_id n)) children conditions n) calm) ∙ none (key.Report n));
+      let eligible : is_eligible (forest_of s) n ≡ true = λ i. (live_is s valid n x at ∙ ap not (staying n x at)) i && not (included i) in
+      tells_from (object_at s.objects (hierarchy_id n)) children conditions n (sym (ap (λ b. report_write b (object_at s.objects (hierarchy_id n)) children conditions n) eligible) ∙ none (key.Report n));
   usages = λ n m x at.
       let stands = placed_stands (with_sums (sums_of s n (Some x)) x) (Some x) (sym (used_wanted s n m x at (home_live s valid staying n (quota_id n m) refl x at)) ∙ none (key.Used n m)) in
       let same : x ≡ stands.0 = let e = stands.1 in cc in
@@ -245,7 +245,7 @@ nothing_wanted s valid settled (key.Tree n) = by (is_open (forest_of s) n) (obje
         let labels = (settled.places n x at is).labels in
         tree_wanted s n x at is ∙ stands_placed (labelled (chain_of (forest_of s) n) x) x (λ i. record x { labels = labels i; version = 0 })
     by false (Some x) is at = λ i. tree_write (is i) (chain_of (forest_of s) n) (at i)
-nothing_wanted s valid settled (key.Report n) = by (is_calm (forest_of s) n) refl
+nothing_wanted s valid settled (key.Report n) = by (is_eligible (forest_of s) n) refl
   where
     children : List (List ℕ)
     children = children_of (forest_of s) n
@@ -256,11 +256,11 @@ nothing_wanted s valid settled (key.Report n) = by (is_calm (forest_of s) n) ref
     found : Option Object
     found = object_at s.objects (hierarchy_id n)
 
-    there : (o : Option Object) → object_at s.objects (namespace_id n) ≡ o → is_calm (forest_of s) n ≡ true → TellsExactly found children conditions
-    there None absent calm = absurd (true≢false (sym (calm_there (forest_of s) n calm) ∙ there-objects s.config.excluded s.objects n (valid_served s valid) ∙ ap is_some absent))
-    there (Some x) at calm = settled.reports n x at (not-true (is_excluded (forest_of s) n) (and_parts (is_live (forest_of s) n) _ calm).1)
+    there : (o : Option Object) → object_at s.objects (namespace_id n) ≡ o → is_eligible (forest_of s) n ≡ true → TellsExactly found children conditions
+    there None absent eligible = absurd (true≢false (sym (eligible_there (forest_of s) n eligible) ∙ there-objects s.config.excluded s.objects n (valid_served s valid) ∙ ap is_some absent))
+    there (Some x) at eligible = settled.reports n x at (not-true (is_excluded (forest_of s) n) (and_parts (is_live (forest_of s) n) _ eligible).1)
 
-    by : (calm : Bool) → is_calm (forest_of s) n ≡ calm → wanted_report s n ≡ None
+    by : (eligible : Bool) → is_eligible (forest_of s) n ≡ eligible → wanted_report s n ≡ None
     by false is = silent_wants s n is
     by true is = ap (λ b. report_write b found children conditions n) is ∙ from_tells found children conditions n (there (object_at s.objects (namespace_id n)) refl is)
 nothing_wanted s valid settled (key.Child n m) = by (object_at s.objects (anchor_id n m)) refl

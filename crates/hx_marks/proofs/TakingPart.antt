@@ -1,7 +1,7 @@
 -- Who takes part below a namespace, and at the top of a move.
---     open_under       below a namespace one takes part exactly if all up to it are calm, and it takes part
+--     open_under       below a namespace one takes part exactly if all up to it are eligible, and it takes part
 --     open_below_live, open_below_none     so below one that takes part, and below one that doesn't
---     open_beside      one whose parent takes part does so exactly if it is calm
+--     open_beside      one whose parent takes part does so exactly if it is eligible
 --     opens_after      a namespace takes part once it has another parent
 use Rattle.std.specs.Prelude.{is_none}
 use Rattle.std.proofs.Common.{◌≡◌, ℕ, Bool, true, false, cond, not, ◌&&◌, ◌||◌, Option, Some, None, List, [], ◌∷◌, length, filter, refl, sym, ap, ◌∙◌, inl, inr, true≢false, if◌then◌else◌}
@@ -12,7 +12,7 @@ use Rattle.std.proofs.lemmas.Bool.{cases_Bool, or_left}
 use Rattle.hx_model.specs.Cases.{same_name}
 use Rattle.hx_model.specs.First.{so, first}
 use Rattle.hx_model.specs.Forest.{Forest, is_in, names_of, is_there, is_live, is_excluded, parent_of, chain_of, in_chain, comes_back, own_halt_of, halt_of, tail_of, subtree_of, with_parent}
-use Rattle.hx_model.specs.Moves.{up_to, is_calm, is_open_above}
+use Rattle.hx_model.specs.Moves.{up_to, is_eligible, is_open_above}
 use Rattle.hx_model.specs.TreeLabels.{is_open}
 use Rattle.hx_model.specs.Walks.{walk_to}
 use Rattle.hx_model.specs.declared.node.Halt.TheVariants.{InCycle, ParentMissing, IllegalParent}
@@ -65,22 +65,22 @@ cycle_shut f n m back has = elim (cases_Bool (is_there f m)) [
 
 -- ---- below a namespace
 
--- one that isn't in a cycle takes part exactly if it is calm, and its parent takes part
-open_top : (f : Forest) (n : List ℕ) → comes_back f n ≡ false → is_there f n ≡ true → is_open f n ≡ (is_calm f n && is_open_above f (parent_of f n))
+-- one that isn't in a cycle takes part exactly if it is eligible, and its parent takes part
+open_top : (f : Forest) (n : List ℕ) → comes_back f n ≡ false → is_there f n ≡ true → is_open f n ≡ (is_eligible f n && is_open_above f (parent_of f n))
 open_top f n apart there =
     sym (same_parent_open f n n)
     ∙ moved_open_below f n (parent_of f n) apart there n (in_itself f n there)
-    ∙ ap (λ xs. list_all (is_calm f) xs && (is_calm f n && is_open_above f (parent_of f n))) (up_none f n there)
+    ∙ ap (λ xs. list_all (is_eligible f) xs && (is_eligible f n && is_open_above f (parent_of f n))) (up_none f n there)
 
-pub open_under : (f : Forest) (n m : List ℕ) → in_chain f m n ≡ true → is_open f m ≡ (list_all (is_calm f) (up_to n (chain_of f m)) && is_open f n)
+pub open_under : (f : Forest) (n m : List ℕ) → in_chain f m n ≡ true → is_open f m ≡ (list_all (is_eligible f) (up_to n (chain_of f m)) && is_open f n)
 open_under f n m has = elim (cases_Bool (comes_back f n)) [
   | inl back ↦
       cycle_shut f n m back has
-      ∙ sym (ap (λ b. list_all (is_calm f) (up_to n (chain_of f m)) && b) (cycle_shut f n n back (in_itself f n there)) ∙ and_false (list_all (is_calm f) (up_to n (chain_of f m))))
+      ∙ sym (ap (λ b. list_all (is_eligible f) (up_to n (chain_of f m)) && b) (cycle_shut f n n back (in_itself f n there)) ∙ and_false (list_all (is_eligible f) (up_to n (chain_of f m))))
   | inr apart ↦
       sym (same_parent_open f n m)
       ∙ moved_open_below f n (parent_of f n) apart there m has
-      ∙ ap (λ b. list_all (is_calm f) (up_to n (chain_of f m)) && b) (sym (open_top f n apart there))
+      ∙ ap (λ b. list_all (is_eligible f) (up_to n (chain_of f m)) && b) (sym (open_top f n apart there))
 ]
   where
     there : is_there f n ≡ true
@@ -98,19 +98,19 @@ filter_none : (xs : List (List ℕ)) (t : List ℕ → Bool) → ((x : List ℕ)
 filter_none [] t out = refl
 filter_none (x ∷ xs) t out = ap (λ b. cond b (x ∷ filter t xs) (filter t xs)) (out x) ∙ filter_none xs t out
 
--- below a parent that takes part, and where there is none, one does so exactly if it is calm
-open_child : (f : Forest) (m : List ℕ) → is_open_above f (parent_of f m) ≡ true → is_open f m ≡ is_calm f m
+-- below a parent that takes part, and where there is none, one does so exactly if it is eligible
+open_child : (f : Forest) (m : List ℕ) → is_open_above f (parent_of f m) ≡ true → is_open f m ≡ is_eligible f m
 open_child f m above = elim (cases_Bool (is_there f m)) [
   | inr gone ↦
       ap (λ b. b && (not (is_excluded f m) && is_none (halt_of f m))) (not_live f m gone)
       ∙ sym (ap (λ b. b && not (is_excluded f m)) (not_live f m gone))
   | inl there ↦ elim (cases_Bool (comes_back f m)) [
-    | inr apart ↦ open_top f m apart there ∙ ap (λ b. is_calm f m && b) above ∙ and_true (is_calm f m)
+    | inr apart ↦ open_top f m apart there ∙ ap (λ b. is_eligible f m && b) above ∙ and_true (is_eligible f m)
     | inl back ↦ ring (parent_of f m) refl back above
   ]
 ]
   where
-    ring : (o : Option (List ℕ)) → parent_of f m ≡ o → comes_back f m ≡ true → is_open_above f (parent_of f m) ≡ true → is_open f m ≡ is_calm f m
+    ring : (o : Option (List ℕ)) → parent_of f m ≡ o → comes_back f m ≡ true → is_open_above f (parent_of f m) ≡ true → is_open f m ≡ is_eligible f m
     ring None is back above = absurd (true≢false (sym back ∙ ap (λ o. option_map_or (λ p. in_chain f p m) o false) is))
     ring (Some p) is back above =
         let has : in_chain f p m ≡ true = sym (ap (λ o. option_map_or (λ q. in_chain f q m) o false) is) ∙ back in
@@ -122,20 +122,20 @@ same_name_exact None (Some m) e = absurd (true≢false (sym e))
 same_name_exact (Some n) None e = absurd (true≢false (sym e))
 same_name_exact (Some n) (Some m) e = ap Some (is_same n m e)
 
-pub open_beside : (f : Forest) (m : List ℕ) (parent known : Option (List ℕ)) → parent ≡ parent_of f m → same_name parent known ≡ true → is_open_above f known ≡ true → is_calm f m ≡ is_open f m
+pub open_beside : (f : Forest) (m : List ℕ) (parent known : Option (List ℕ)) → parent ≡ parent_of f m → same_name parent known ≡ true → is_open_above f known ≡ true → is_eligible f m ≡ is_open f m
 open_beside f m parent known is same takes = sym (open_child f m (ap (is_open_above f) (sym is ∙ same_name_exact parent known same) ∙ takes))
 
 -- below one that takes part: all that do whenever it does
 pub open_below_live : (f : Forest) (n : List ℕ) → is_open f n ≡ true → open_below f n ≡ live_below f n
 open_below_live f n takes =
-    filter_inside (is_open f) (λ m. list_all (is_calm f) (up_to n (chain_of f m))) (λ m. in_chain f m n) (names_of f)
-    (λ m has. open_under f n m has ∙ ap (λ b. list_all (is_calm f) (up_to n (chain_of f m)) && b) takes ∙ and_true (list_all (is_calm f) (up_to n (chain_of f m))))
+    filter_inside (is_open f) (λ m. list_all (is_eligible f) (up_to n (chain_of f m))) (λ m. in_chain f m n) (names_of f)
+    (λ m has. open_under f n m has ∙ ap (λ b. list_all (is_eligible f) (up_to n (chain_of f m)) && b) takes ∙ and_true (list_all (is_eligible f) (up_to n (chain_of f m))))
 
 -- and below one that doesn't: nobody
 pub open_below_none : (f : Forest) (n : List ℕ) → is_open f n ≡ false → open_below f n ≡ []
 open_below_none f n shut =
     filter_inside (is_open f) (λ m. false) (λ m. in_chain f m n) (names_of f)
-    (λ m has. open_under f n m has ∙ ap (λ b. list_all (is_calm f) (up_to n (chain_of f m)) && b) shut ∙ and_false (list_all (is_calm f) (up_to n (chain_of f m))))
+    (λ m has. open_under f n m has ∙ ap (λ b. list_all (is_eligible f) (up_to n (chain_of f m)) && b) shut ∙ and_false (list_all (is_eligible f) (up_to n (chain_of f m))))
     ∙ filter_none (subtree_of f n) (λ m. false) (λ _. refl)
 
 -- ---- a move
@@ -158,9 +158,9 @@ pub opens_after : (f : Forest) (n : List ℕ) (parent : Option (List ℕ)) → i
 opens_after f n parent there = elim (cases_Bool (comes_back_by f n parent)) [
   | inl back ↦
       cycle_shut (with_parent n parent f) n n (closes_cycle f n parent there back) (in_itself (with_parent n parent f) n (moved_there f n parent n ∙ there))
-      ∙ sym (ap (λ b. is_calm f n && (is_open_above f parent && not b)) back ∙ ap (λ b. is_calm f n && b) (and_false (is_open_above f parent)) ∙ and_false (is_calm f n))
+      ∙ sym (ap (λ b. is_eligible f n && (is_open_above f parent && not b)) back ∙ ap (λ b. is_eligible f n && b) (and_false (is_open_above f parent)) ∙ and_false (is_eligible f n))
   | inr apart ↦
       moved_open_below f n parent apart there n (in_itself f n there)
-      ∙ ap (λ xs. list_all (is_calm f) xs && (is_calm f n && is_open_above f parent)) (up_none f n there)
-      ∙ sym (ap (λ b. is_calm f n && (is_open_above f parent && not b)) apart ∙ ap (λ b. is_calm f n && b) (and_true (is_open_above f parent)))
+      ∙ ap (λ xs. list_all (is_eligible f) xs && (is_eligible f n && is_open_above f parent)) (up_none f n there)
+      ∙ sym (ap (λ b. is_eligible f n && (is_open_above f parent && not b)) apart ∙ ap (λ b. is_eligible f n && b) (and_true (is_open_above f parent)))
 ]

@@ -29,7 +29,7 @@ use Rattle.hx_model.specs.First.{so}
 use Rattle.hx_model.specs.Forest.{tail_of, is_in, is_live, chain_of, children_of}
 use Rattle.hx_model.specs.Keys.{same_key, is_among}
 use Rattle.hx_model.specs.Limits.{is_copy}
-use Rattle.hx_model.specs.Moves.{is_calm, mode_at, copied_kinds}
+use Rattle.hx_model.specs.Moves.{is_eligible, mode_at, copied_kinds}
 use Rattle.hx_model.specs.Propagation.{goes_to, is_source, stays_home, is_propagated, id_in, as_list, source_at, sources_along, top_of}
 use Rattle.hx_model.specs.Reports.{conditions_of, report_write}
 use Rattle.hx_model.specs.State.{State, Objects, object_at, namespace_id}
@@ -285,7 +285,7 @@ removal_known false least n wants = absurd (wants refl)
 abbrev pub IsKnown : State → Key → Type 0
 IsKnown s (key.Anchor n name) = (is_live (forest_of s) n ≡ true) × (is_among (key.Anchor n name) (status_keys s.objects n) ≡ true)
 IsKnown s (key.Used n name) = (is_live (forest_of s) n ≡ true) × (is_among (key.Used n name) (usage_keys s.objects n) ≡ true)
-IsKnown s (key.Report n) = is_calm (forest_of s) n ≡ true
+IsKnown s (key.Report n) = is_eligible (forest_of s) n ≡ true
 IsKnown s (key.Purge n) = is_leaving (forest_of s) n ≡ true
 IsKnown s k = (m : List ℕ) × (is_open (forest_of s) m ≡ true) × (is_among k (all_of s.objects (chain_of (forest_of s) m) m) ≡ true)
 
@@ -300,7 +300,7 @@ all_known s (key.Tree m) wants = (m, acting (is_open (forest_of s) m) (object_at
     acting true found wants = refl
     acting false None wants = absurd (wants refl)
     acting false (Some x) wants = absurd (wants refl)
-all_known s (key.Report m) wants = report_known (is_calm (forest_of s) m) (object_at s.objects (hierarchy_id m)) (children_of (forest_of s) m) (conditions_of s m) m wants
+all_known s (key.Report m) wants = report_known (is_eligible (forest_of s) m) (object_at s.objects (hierarchy_id m)) (children_of (forest_of s) m) (conditions_of s m) m wants
 all_known s (key.Child m name) wants =
     let known = child_known (is_open (forest_of s) m) (object_at s.objects (anchor_id m name)) (is_in name s.config.excluded) (is_some (object_at s.objects (namespace_id name))) m name wants in
     (m, known.0, all_children s.objects (chain_of (forest_of s) m) m (key.Child m name) (child_among s.objects m name known.1 known.2))

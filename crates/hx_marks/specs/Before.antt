@@ -13,7 +13,7 @@ use Rattle.hx_object.specs.declared.object.Id.{Id}
 use Rattle.hx_object.specs.declared.object.Object.{Object}
 use Rattle.hx_model.specs.Cases.{same_name}
 use Rattle.hx_model.specs.Forest.{Forest, in_chain, parent_of}
-use Rattle.hx_model.specs.Moves.{is_calm, is_open_above}
+use Rattle.hx_model.specs.Moves.{is_eligible, is_open_above}
 use Rattle.hx_model.specs.State.{State, object_at, namespace_id}
 use Rattle.hx_model.specs.Tree.{hierarchy, hierarchy_id, forest_of, parent_with}
 use Rattle.hx_model.specs.TreeLabels.{is_open}
@@ -37,7 +37,7 @@ comes_back_by f n parent = option_map_or (λ p. in_chain f p n) parent false
 
 -- it takes part once it has that parent
 abbrev pub opens_under : Forest → List ℕ → Option (List ℕ) → Bool
-opens_under f n parent = is_calm f n && (is_open_above f parent && not (comes_back_by f n parent))
+opens_under f n parent = is_eligible f n && (is_open_above f parent && not (comes_back_by f n parent))
 
 abbrev pub move_marks_to : State → List ℕ → Option (List ℕ) → List Key
 move_marks_to s n parent =

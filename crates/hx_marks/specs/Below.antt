@@ -8,7 +8,7 @@
 use Rattle.std.specs.Prelude.{ℕ, Bool, true, false, not, List, ◌∷◌, ◌++◌, filter, flat_map}
 use Rattle.std.specs.List.{list_all}
 use Rattle.hx_model.specs.Forest.{Forest, is_in, chain_of, children_of, subtree_of}
-use Rattle.hx_model.specs.Moves.{is_calm, up_to}
+use Rattle.hx_model.specs.Moves.{is_eligible, up_to}
 use Rattle.hx_model.specs.TreeLabels.{is_open}
 
 -- the namespaces of a subtree that take part
@@ -17,7 +17,7 @@ open_below f n = filter (is_open f) (subtree_of f n)
 
 -- those that take part whenever n does: all up to n are there, not on their way out, and included
 abbrev pub live_below : Forest → List ℕ → List (List ℕ)
-live_below f n = filter (λ m. list_all (is_calm f) (up_to n (chain_of f m))) (subtree_of f n)
+live_below f n = filter (λ m. list_all (is_eligible f) (up_to n (chain_of f m))) (subtree_of f n)
 
 -- what lies below those that name it as their parent, whether it is there or not
 abbrev pub below_children : Forest → List ℕ → List (List ℕ)

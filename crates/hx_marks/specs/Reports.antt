@@ -14,7 +14,7 @@ use Rattle.hx_object.specs.declared.object.Object.{Object}
 use Rattle.hx_model.specs.Answers.{owns_named}
 use Rattle.hx_model.specs.Cases.{same_name}
 use Rattle.hx_model.specs.Forest.{Forest, chain_of, children_of, comes_back, in_chain, parent_of}
-use Rattle.hx_model.specs.Moves.{chain_from, is_calm}
+use Rattle.hx_model.specs.Moves.{chain_from, is_eligible}
 use Rattle.hx_model.specs.Propagation.{as_list}
 use Rattle.hx_model.specs.State.{State}
 use Rattle.hx_model.specs.Tree.{forest_of}
@@ -26,7 +26,7 @@ use Rattle.hx_marks.specs.Below.{below_children, differ, live_below, open_below}
 
 -- the key of the report of a namespace that is there, included and not on its way out
 abbrev pub report_keys : Forest → List ℕ → List Key
-report_keys f n = if is_calm f n then key.Report n ∷ [] else []
+report_keys f n = if is_eligible f n then key.Report n ∷ [] else []
 
 abbrev pub reports_of : Forest → List (List ℕ) → List Key
 reports_of f names = flat_map (report_keys f) names

@@ -3,7 +3,7 @@ ghost use Rattle.std.specs.Prelude.{◌≡◌, ◌++◌, true, IfOk, OnOk, filte
 ghost use Rattle.std.specs.List.{list_all, IsDistinct};
 ghost use Rattle.std.specs.Str.{bytes_eq};
 ghost use Rattle.hx_model.specs.Forest.{chain_of, subtree_of};
-ghost use Rattle.hx_model.specs.Moves.{up_to, chain_from, is_calm, is_open_above};
+ghost use Rattle.hx_model.specs.Moves.{up_to, chain_from, is_eligible, is_open_above};
 ghost use Rattle.hx_model.specs.State.{State};
 ghost use Rattle.hx_model.specs.Tree.{forest_of};
 ghost use Rattle.hx_model.specs.TreeLabels.{is_open};
@@ -59,10 +59,10 @@ fn is_open_beside(forest: &Forest, above: Option<&Text>, last: Option<&Text>, me
 {
     let parent = forest.parent(member);
     if is_same_name(parent, above) {
-        return forest.is_calm(member);
+        return forest.is_eligible(member);
     }
     if is_same_name(parent, last) {
-        return forest.is_calm(member);
+        return forest.is_eligible(member);
     }
     forest.is_open(member)
 }
@@ -81,20 +81,20 @@ pub(crate) fn live_below(forest: &Forest, name: &Text) -> Result<Vec<Text>, NoMe
 
 /// Whether a namespace takes part whenever the one above it does: all from it up to that one are there, not on their way out, and included.
 fn is_live_under(forest: &Forest, name: &Text, member: &Text) -> bool
-    ensures { result ≡ list_all (is_calm forest.now.nodes) (up_to name.now (chain_of forest.now.nodes member.now)) }
+    ensures { result ≡ list_all (is_eligible forest.now.nodes) (up_to name.now (chain_of forest.now.nodes member.now)) }
 {
-    are_calm_up_to(forest, name, forest.ancestors(member))
+    are_eligible_up_to(forest, name, forest.ancestors(member))
 }
 
-/// Whether all before a namespace are calm.
-fn are_calm_up_to(forest: &Forest, name: &Text, members: Ancestors) -> bool
-    ensures { result ≡ list_all (is_calm forest.now.nodes) (up_to name.now members.entry) }
+/// Whether all before a namespace are eligible.
+fn are_eligible_up_to(forest: &Forest, name: &Text, members: Ancestors) -> bool
+    ensures { result ≡ list_all (is_eligible forest.now.nodes) (up_to name.now members.entry) }
 {
     for member in members {
         if name.as_str() == member.as_str() {
             return true;
         }
-        if !forest.is_calm(member) {
+        if !forest.is_eligible(member) {
             return false;
         }
     }

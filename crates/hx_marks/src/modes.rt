@@ -12,7 +12,7 @@ use crate::wants::key_for;
 use hx_forest::Forest;
 use hx_model::{COPIED_KINDS, Key, is_copy, mode_in};
 use hx_object::{Kind, Mode, NoMemory, Object, Shared, Text};
-use hx_rules::is_sent;
+use hx_reconcile::is_sent;
 use std::alloc::Global;
 
 /// Marks what the kinds' objects touch whose modes change with the HNCConfiguration.

@@ -175,7 +175,9 @@ fn is_in(name: &Text, names: &[Text]) -> bool
 pub(crate) fn opens_under(forest: &Forest, name: &Text, parent: Option<&Text>) -> bool
     ensures { result ≡ opens_under forest.now.nodes name.now (option_copied parent.entry) }
 {
-    forest.is_calm(name) && is_open_above(forest, parent) && !comes_back_by(forest, name, parent)
+    forest.is_eligible(name)
+        && is_open_above(forest, parent)
+        && !comes_back_by(forest, name, parent)
 }
 
 /// Whether the chain of a parent has the namespace.

@@ -11,7 +11,7 @@ use crate::lookups::{is_ignored, mode_at};
 use hx_forest::Forest;
 use hx_model::Key;
 use hx_object::{Id, Mode, NoMemory, Object, Text};
-use hx_rules::is_sent;
+use hx_reconcile::is_sent;
 use std::alloc::Global;
 
 /// Marks the place of an object, and those below it where it is sent, before or after the write. Where its kind is ignored, none.

@@ -171,7 +171,7 @@ fn reports_of(forest: &Forest, names: &[Text], keys: &mut Vec<Key>) -> Result<()
 pub(crate) fn report_key(forest: &Forest, name: &Text, keys: &mut Vec<Key>) -> Result<(), NoMemory>
     ensures { OnOk result (keys.new.items ≡ keys.old.items ++ report_keys forest.now.nodes name.now) }
 {
-    if forest.is_calm(name) {
+    if forest.is_eligible(name) {
         push_report(name, keys)?;
     }
     Ok(())

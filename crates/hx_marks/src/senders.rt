@@ -15,7 +15,7 @@ use crate::wants::all_under;
 use hx_forest::Ancestors;
 use hx_model::{COPIED_KINDS, Key, is_same_name};
 use hx_object::{Kind, Mode, NoMemory, Shared, Text};
-use hx_rules::is_sent;
+use hx_reconcile::is_sent;
 use hx_store::Store;
 
 /// Marks all that some namespaces may want which take part, by their chains.

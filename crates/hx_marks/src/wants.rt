@@ -12,7 +12,7 @@ use crate::usage::usage_keys;
 use hx_forest::Forest;
 use hx_model::{COPIED_KINDS, Key, is_copy};
 use hx_object::{Kind, Mode, NoMemory, Object, Shared, Text};
-use hx_rules::is_sent;
+use hx_reconcile::is_sent;
 use hx_store::Store;
 
 /// The keys of a namespace that may want a write.

@@ -23,7 +23,7 @@ use Rattle.hx_object.specs.declared.object.Need.{Need}
 use Rattle.hx_object.specs.declared.object.Object.{Object}
 use Rattle.hx_object.specs.declared.object.Payload.TheVariants.{Namespace as NamespaceOf, Hierarchy, Anchor, Plain}
 use Rattle.hx_model.specs.declared.ask.Ask.TheVariants.{Create, Replace, Delete}
-use Rattle.hx_model.specs.declared.ask.Answer.TheVariants.{One, Gone, Refused as Refusing}
+use Rattle.hx_model.specs.declared.ask.Answer.TheVariants.{One, Deleted, Refused as Refusing}
 use Rattle.hx_model.specs.declared.config.RunConfig.{RunConfig}
 use Rattle.hx_model.specs.declared.key.Finish.TheVariants.{Conflict, Written}
 use Rattle.hx_model.specs.declared.key.Key.TheVariants as key
@@ -132,7 +132,7 @@ pair = state (stored a 1 ∷ role_in a 2 ∷ []) 2
 -- nothing comes into it any more, and what lies in it goes first
 abbrev removed : History
 removed =
-    Request (Delete (namespace_id a) false) (Gone 3)
+    Request (Delete (namespace_id a) false) (Deleted 3)
     ∷ Request (Create (record (role_in a 0) { id = id_in Role (codes "s") a }) false) (Refusing (Broken N4))
     ∷ Request (Replace (record (role_in a 0) { labels = (codes "team", codes "red") ∷ [] }) None false) (Refusing (Broken N4))
     ∷ Took 1 (key.Purge a) false
@@ -165,7 +165,7 @@ unfolding is_copy is_tree_key is_reconciled_key is_counted counts size_of digits
 removed_leaves = refl
 
 -- one that is on its way out already takes no version
-pub removed_again : answer_to (state (leaving (stored a 3) ∷ role_in a 2 ∷ []) 3) (Delete (namespace_id a) false) ≡ (Gone 3, state (leaving (stored a 3) ∷ role_in a 2 ∷ []) 3)
+pub removed_again : answer_to (state (leaving (stored a 3) ∷ role_in a 2 ∷ []) 3) (Delete (namespace_id a) false) ≡ (Deleted 3, state (leaving (stored a 3) ∷ role_in a 2 ∷ []) 3)
 unfolding is_copy is_tree_key is_reconciled_key is_counted counts size_of
 removed_again = refl
 
@@ -179,7 +179,7 @@ tree = state (stored acme 1 ∷ stored team 2 ∷ hierarchy team (Some acme) fal
 abbrev late : History
 late =
     Took 1 (key.Copy team Role (codes "r")) false
-    ∷ Request (Delete (namespace_id team) false) (Gone 5)
+    ∷ Request (Delete (namespace_id team) false) (Deleted 5)
     ∷ Took 2 (key.Purge team) false
     ∷ Finished 2 (Written 6)
     ∷ Took 2 (key.Purge team) false
@@ -248,17 +248,17 @@ flagged = state (stored a 1 ∷ owned b a 2 ∷ owned c b 3 ∷ hierarchy a None
 pub flagged_in_order : ascends flagged.objects ≡ true
 flagged_in_order = refl
 
-pub all_go : answer_to flagged (Delete (namespace_id a) false) ≡ (Gone 5, state (leaving (stored a 5) ∷ leaving (owned b a 5) ∷ leaving (owned c b 5) ∷ hierarchy a None true 4 ∷ []) 5)
+pub all_go : answer_to flagged (Delete (namespace_id a) false) ≡ (Deleted 5, state (leaving (stored a 5) ∷ leaving (owned b a 5) ∷ leaving (owned c b 5) ∷ hierarchy a None true 4 ∷ []) 5)
 unfolding is_copy is_tree_key is_reconciled_key is_counted counts size_of
 all_go = refl
 
-pub flag_above : answer_to flagged (Delete (namespace_id b) false) ≡ (Gone 5, state (stored a 1 ∷ leaving (owned b a 5) ∷ leaving (owned c b 5) ∷ hierarchy a None true 4 ∷ []) 5)
+pub flag_above : answer_to flagged (Delete (namespace_id b) false) ≡ (Deleted 5, state (stored a 1 ∷ leaving (owned b a 5) ∷ leaving (owned c b 5) ∷ hierarchy a None true 4 ∷ []) 5)
 unfolding is_copy is_tree_key is_reconciled_key is_counted counts size_of
 flag_above = refl
 
 -- what is on its way out already keeps its version
 pub some_went_before : answer_to (state (stored a 1 ∷ leaving (owned b a 2) ∷ owned c b 3 ∷ hierarchy a None true 4 ∷ []) 4) (Delete (namespace_id a) false)
-    ≡ (Gone 5, state (leaving (stored a 5) ∷ leaving (owned b a 2) ∷ leaving (owned c b 5) ∷ hierarchy a None true 4 ∷ []) 5)
+    ≡ (Deleted 5, state (leaving (stored a 5) ∷ leaving (owned b a 2) ∷ leaving (owned c b 5) ∷ hierarchy a None true 4 ∷ []) 5)
 unfolding is_copy is_tree_key is_reconciled_key is_counted counts size_of
 some_went_before = refl
 
@@ -277,13 +277,13 @@ family_in_order = refl
 
 -- the anchor goes at once, and what it asked for is on its way out
 pub anchor_goes : answer_to (family true false) (Delete (anchor_id acme b) false)
-    ≡ (Gone 7, record (family true false) { objects = stored acme 1 ∷ leaving (owned b acme 7) ∷ leaving (owned c b 7) ∷ hierarchy b None true 4 ∷ anchor b c (Some Ok) 6 ∷ []; last = 7 })
+    ≡ (Deleted 7, record (family true false) { objects = stored acme 1 ∷ leaving (owned b acme 7) ∷ leaving (owned c b 7) ∷ hierarchy b None true 4 ∷ anchor b c (Some Ok) 6 ∷ []; last = 7 })
 unfolding is_copy is_tree_key is_reconciled_key is_counted counts size_of
 anchor_goes = refl
 
 -- where rules are passed over, it goes alone, whether the flag is there or not
 pub anchor_goes_alone : answer_to (family false true) (Delete (anchor_id acme b) true)
-    ≡ (Gone 7, record (family false true) { objects = stored acme 1 ∷ owned b acme 2 ∷ owned c b 3 ∷ hierarchy b None false 4 ∷ anchor b c (Some Ok) 6 ∷ []; last = 7 })
+    ≡ (Deleted 7, record (family false true) { objects = stored acme 1 ∷ owned b acme 2 ∷ owned c b 3 ∷ hierarchy b None false 4 ∷ anchor b c (Some Ok) 6 ∷ []; last = 7 })
 unfolding is_copy is_tree_key is_reconciled_key is_counted counts size_of
 anchor_goes_alone = refl
 
@@ -291,7 +291,7 @@ pub flag_is_not_asked : writes_of (family true true) (Delete (anchor_id acme b) 
 flag_is_not_asked = refl
 
 -- an anchor whose name is another's namespace goes alone
-pub conflict_goes_alone : answer_to (state (stored acme 1 ∷ stored team 2 ∷ anchor acme team (Some stands.Conflict) 3 ∷ []) 3) (Delete (anchor_id acme team) false) ≡ (Gone 4, state (stored acme 1 ∷ stored team 2 ∷ []) 4)
+pub conflict_goes_alone : answer_to (state (stored acme 1 ∷ stored team 2 ∷ anchor acme team (Some stands.Conflict) 3 ∷ []) 3) (Delete (anchor_id acme team) false) ≡ (Deleted 4, state (stored acme 1 ∷ stored team 2 ∷ []) 4)
 unfolding is_copy is_tree_key is_reconciled_key is_counted counts size_of
 conflict_goes_alone = refl
 
@@ -333,7 +333,7 @@ unfolding is_copy
 parting_is_not_changed = refl
 
 -- what lies in it may be removed
-pub parting_gives : answer_to parting (Delete (role_in a 0).id false) ≡ (Gone 4, state (leaving (stored a 1) ∷ stored b 2 ∷ []) 4)
+pub parting_gives : answer_to parting (Delete (role_in a 0).id false) ≡ (Deleted 4, state (leaving (stored a 1) ∷ stored b 2 ∷ []) 4)
 unfolding is_copy is_tree_key is_reconciled_key is_counted counts size_of
 parting_gives = refl
 

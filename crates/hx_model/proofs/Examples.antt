@@ -15,14 +15,14 @@ use Rattle.hx_object.specs.declared.object.Condition.TheVariants.{ParentMissing,
 use Rattle.hx_object.specs.declared.object.AnchorStatus.TheVariants.{Ok}
 use Rattle.hx_select.specs.Selectors.{everything}
 use Rattle.hx_model.specs.declared.ask.Ask.TheVariants.{Get, List as ListOf, Create, Replace, Delete}
-use Rattle.hx_model.specs.declared.ask.Answer.TheVariants.{One, Many, Gone, Refused as Refusing}
+use Rattle.hx_model.specs.declared.ask.Answer.TheVariants.{One, Many, Deleted, Refused as Refusing}
 use Rattle.hx_model.specs.declared.refusal.Refusal.TheVariants.{BadQuery, NotKind, Broken, NoPath, NotFound, NoMethod, Exists, OtherVersion, TooLong, Missing, WrongType, NotServed}
 use Rattle.hx_model.specs.declared.rule.Rule.TheVariants.{N4, L1, L2, L3, L4}
 use Rattle.hx_model.specs.declared.key.Write.TheVariants.{Put, Cut}
 use Rattle.hx_model.specs.State.{State, Objects, put, cut, ascends, objects_from, with_version, opening_state, state_after, namespace_id}
 use Rattle.hx_model.specs.Texts.{key_text, new_namespace}
 use Rattle.hx_model.specs.Json.{list_text}
-use Rattle.hx_model.specs.Replies.{status_text, gone_text, message_about, version_message, said_of}
+use Rattle.hx_model.specs.Replies.{status_text, deleted_text, message_about, version_message, said_of}
 use Rattle.hx_model.specs.Limits.{is_copy, counts, names_in, objects_in, bytes_in}
 use Rattle.hx_model.specs.Answers.{with_status, same_object, answer_to, refusal_of}
 use Rattle.hx_model.specs.Machine.{World, History, Refused, Request, LostRequest, KeeperFault, opening_world, IsLegal, IsHistory, replay, loses_to_fault}
@@ -90,9 +90,9 @@ pub text_of_no_roles : list_text Role [] 12 ≡ codes "{\"apiVersion\":\"rbac.au
 unfolding list_text digits serde_json_on_literals
 text_of_no_roles = refl
 
-pub text_of_gone : gone_text 3 ≡ codes "{\"apiVersion\":\"v1\",\"kind\":\"Status\",\"metadata\":{\"resourceVersion\":\"3\"},\"status\":\"Success\"}"
-unfolding gone_text digits serde_json_on_literals
-text_of_gone = refl
+pub text_of_deleted : deleted_text 3 ≡ codes "{\"apiVersion\":\"v1\",\"kind\":\"Status\",\"metadata\":{\"resourceVersion\":\"3\"},\"status\":\"Success\"}"
+unfolding deleted_text digits serde_json_on_literals
+text_of_deleted = refl
 
 -- ---- refusals
 
@@ -239,7 +239,7 @@ config_requests =
     ∷ Request (Create (config acme (codes "c") 0) false) (One (config acme (codes "c") 2) true)
     ∷ Request (ListOf ConfigMap (Some acme) everything) (Many ConfigMap (config acme (codes "c") 2 ∷ []) 2)
     ∷ Request (ListOf ConfigMap (Some team) everything) (Many ConfigMap [] 2)
-    ∷ Request (Delete (config_id acme (codes "c")) false) (Gone 3)
+    ∷ Request (Delete (config_id acme (codes "c")) false) (Deleted 3)
     ∷ Request (Get (config_id acme (codes "c"))) (Refusing (NotFound ConfigMap (codes "c")))
     ∷ Request (Delete (config_id acme (codes "c")) false) (Refusing (NotFound ConfigMap (codes "c")))
     ∷ Request (ListOf ConfigMap None everything) (Many ConfigMap [] 3)

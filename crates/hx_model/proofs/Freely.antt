@@ -25,7 +25,7 @@ use Rattle.hx_model.specs.Forest.{chain_of, children_of, is_live}
 use Rattle.hx_model.specs.Hands.{writes_for}
 use Rattle.hx_model.specs.Limits.{is_copy, is_anchor}
 use Rattle.hx_model.specs.Modes.{mode_of}
-use Rattle.hx_model.specs.Moves.{is_calm}
+use Rattle.hx_model.specs.Moves.{is_eligible}
 use Rattle.hx_model.specs.Overruns.{raised_by, RaiseNothing, KeysRaiseNothing, DeletionsRaiseNothing}
 use Rattle.hx_model.specs.Propagation.{is_source, is_propagated, goes_to, copy_of, id_in, sources_above, top_of}
 use Rattle.hx_model.specs.Quotas.{charge_before}
@@ -162,7 +162,7 @@ found_kind objects id other x found = sym (ap (λ (q : Id). is_plain q.kind) (fo
 wanted_free : (s : State) (k : Key) → WantsFree (wanted_write s k)
 wanted_free s (key.Copy n kind name) = copy_free (is_open (forest_of s) n) (object_at s.objects (namespace_id n)) (mode_of s kind) (sources_above s n kind name) n (object_at s.objects (id_in kind name n))
 wanted_free s (key.Tree n) = tree_free (is_open (forest_of s) n) (chain_of (forest_of s) n) (object_at s.objects (namespace_id n)) (found_kind s.objects (namespace_id n) refl)
-wanted_free s (key.Report n) = report_free (is_calm (forest_of s) n) (object_at s.objects (hierarchy_id n)) (children_of (forest_of s) n) (conditions_of s n) n (found_kind s.objects (hierarchy_id n) refl)
+wanted_free s (key.Report n) = report_free (is_eligible (forest_of s) n) (object_at s.objects (hierarchy_id n)) (children_of (forest_of s) n) (conditions_of s n) n (found_kind s.objects (hierarchy_id n) refl)
 wanted_free s (key.Child n name) = if_so _ (Put (subnamespace n name)) (free_elsewhere (subnamespace n name) refl)
 wanted_free s (key.Anchor n name) = anchor_free (is_live (forest_of s) n) (anchor_status s n name) (object_at s.objects (anchor_id n name)) (found_kind s.objects (anchor_id n name) refl)
 wanted_free s (key.Used n name) = used_free (is_live (forest_of s) n) (sums_of s n (object_at s.objects (quota_id n name))) (object_at s.objects (quota_id n name)) (found_kind s.objects (quota_id n name) refl)

@@ -16,7 +16,7 @@ use Rattle.hx_model.specs.declared.node.Halt.{Halt}
 use Rattle.hx_model.specs.declared.node.Halt.TheVariants.{InCycle, ParentMissing, IllegalParent, Ancestor}
 use Rattle.hx_model.specs.First.{so, first}
 use Rattle.hx_model.specs.Forest.{Forest, is_in, node_of, is_there, is_live, is_excluded, parent_of, chain_of, in_chain, own_halt_of, halt_of, has_halted_ancestor, tail_of, with_parent}
-use Rattle.hx_model.specs.Moves.{is_calm, is_open_above, moved_chain_of, is_moved_open}
+use Rattle.hx_model.specs.Moves.{is_eligible, is_open_above, moved_chain_of, is_moved_open}
 use Rattle.hx_model.specs.TreeLabels.{is_open}
 use Rattle.hx_model.specs.Walks.{walk_to}
 use Rattle.hx_model.proofs.Climbing.{through, chain_above, above_chain, chain_trans, is_same, same_itself}
@@ -111,15 +111,15 @@ by_parent : (f : Forest) (a : List ℕ) (next : Option (List ℕ)) → parent_of
     → is_good f a ≡ has_none (option_map_or (λ p. in_chain f p a) next false) (option_map_or (λ p. not (is_live f p)) next false) (option_map_or (λ p. is_excluded f p) next false)
 by_parent f a next is = ap (λ (o : Option (List ℕ)). has_none (option_map_or (λ p. in_chain f p a) o false) (option_map_or (λ p. not (is_live f p)) o false) (option_map_or (λ p. is_excluded f p) o false)) is
 
-calm_parent : (comes live shut : Bool) → comes ≡ false → has_none comes (not live) shut ≡ (live && not shut)
-calm_parent true live shut e = absurd (true≢false e)
-calm_parent false true true e = refl
-calm_parent false true false e = refl
-calm_parent false false shut e = refl
+eligible_parent : (comes live shut : Bool) → comes ≡ false → has_none comes (not live) shut ≡ (live && not shut)
+eligible_parent true live shut e = absurd (true≢false e)
+eligible_parent false true true e = refl
+eligible_parent false true false e = refl
+eligible_parent false false shut e = refl
 
--- under a parent that doesn't come back to it, it has none exactly if the parent is calm
-good_under : (f : Forest) (a p : List ℕ) → parent_of f a ≡ Some p → in_chain f p a ≡ false → is_good f a ≡ is_calm f p
-good_under f a p is out = by_parent f a (Some p) is ∙ calm_parent (in_chain f p a) (is_live f p) (is_excluded f p) out
+-- under a parent that doesn't come back to it, it has none exactly if the parent is eligible
+good_under : (f : Forest) (a p : List ℕ) → parent_of f a ≡ Some p → in_chain f p a ≡ false → is_good f a ≡ is_eligible f p
+good_under f a p is out = by_parent f a (Some p) is ∙ eligible_parent (in_chain f p a) (is_live f p) (is_excluded f p) out
 
 -- a namespace isn't halted exactly if no member of its chain has a reason by itself
 pub halts_by_members : (f : Forest) (m : List ℕ) → is_there f m ≡ true → is_none (halt_of f m) ≡ list_all (λ a. is_none (own_halt_of f a)) (chain_of f m)
@@ -166,8 +166,8 @@ moved_excluded f n parent a = ap (λ o. option_map_or (λ (node : Node). node.ex
     either true (Some node) = refl
     either false o = refl
 
-pub moved_calm : (f : Forest) (n : List ℕ) (parent : Option (List ℕ)) (a : List ℕ) → is_calm (with_parent n parent f) a ≡ is_calm f a
-moved_calm f n parent a i = moved_live f n parent a i && not (moved_excluded f n parent a i)
+pub moved_eligible : (f : Forest) (n : List ℕ) (parent : Option (List ℕ)) (a : List ℕ) → is_eligible (with_parent n parent f) a ≡ is_eligible f a
+moved_eligible f n parent a i = moved_live f n parent a i && not (moved_excluded f n parent a i)
 
 -- ---- chains that don't have n
 
@@ -226,7 +226,7 @@ module _ (f : Forest) (n : List ℕ) (parent : Option (List ℕ)) (apart : IsApa
       → (is_good (with_parent n parent f) n && list_all (is_good (with_parent n parent f)) (chain_from f next)) ≡ is_open_above f next
   top None is far = ap (λ b. b && true) (by_parent (with_parent n parent f) n None (moved_parent f n parent there ∙ is))
   top (Some p) is far =
-      (λ i. (good_under (with_parent n parent f) n p (moved_parent f n parent there ∙ is) (ap (is_in n) (moved_chain_same f n parent p far) ∙ far) ∙ moved_calm f n parent p) i && goods_same f n parent p far i)
+      (λ i. (good_under (with_parent n parent f) n p (moved_parent f n parent there ∙ is) (ap (is_in n) (moved_chain_same f n parent p far) ∙ far) ∙ moved_eligible f n parent p) i && goods_same f n parent p far i)
       ∙ and_assoc (is_live f p) (not (is_excluded f p)) (list_all (is_good f) (chain_of f p))
       ∙ elim (cases_Bool (is_there f p)) [
         | inl here ↦ ap (λ b. is_live f p && (not (is_excluded f p) && b)) (sym (halts_by_members f p here))
@@ -235,23 +235,23 @@ module _ (f : Forest) (n : List ℕ) (parent : Option (List ℕ)) (apart : IsApa
             ∙ sym (ap (λ b. b && (not (is_excluded f p) && is_none (halt_of f p))) (not_live f p gone))
       ]
 
-  -- on the way up to n each is without a reason exactly if the next one is calm
+  -- on the way up to n each is without a reason exactly if the next one is eligible
   way : (m : List ℕ) (k : ℕ) → Steps f n m k
-      → (is_calm f m && list_all (is_good (with_parent n parent f)) (up_to n (chain_of f m))) ≡ (list_all (is_calm f) (up_to n (chain_of f m)) && is_calm f n)
+      → (is_eligible f m && list_all (is_good (with_parent n parent f)) (up_to n (chain_of f m))) ≡ (list_all (is_eligible f) (up_to n (chain_of f m)) && is_eligible f n)
   way m k (arrived is here) =
-      subst (λ (x : List ℕ). (is_calm f x && list_all (is_good (with_parent n parent f)) (up_to n (chain_of f x))) ≡ (list_all (is_calm f) (up_to n (chain_of f x)) && is_calm f n)) (sym is)
-      (ap (λ xs. is_calm f n && list_all (is_good (with_parent n parent f)) xs) (up_none f n there) ∙ and_true (is_calm f n) ∙ sym (ap (λ xs. list_all (is_calm f) xs && is_calm f n) (up_none f n there)))
+      subst (λ (x : List ℕ). (is_eligible f x && list_all (is_good (with_parent n parent f)) (up_to n (chain_of f x))) ≡ (list_all (is_eligible f) (up_to n (chain_of f x)) && is_eligible f n)) (sym is)
+      (ap (λ xs. is_eligible f n && list_all (is_good (with_parent n parent f)) xs) (up_none f n there) ∙ and_true (is_eligible f n) ∙ sym (ap (λ xs. list_all (is_eligible f) xs && is_eligible f n) (up_none f n there)))
   way m k (step {q = q} {k = i} here off is more) =
       let back = no_return f n parent m q i apart (step here off is more) more in
       let path = up_step f n m q here off is (not_met f n parent apart m q i here off is more (moved_chain_steps f n parent apart q i more)) in
-      ap (λ xs. is_calm f m && list_all (is_good (with_parent n parent f)) xs) path
-      ∙ ap (λ b. is_calm f m && (b && list_all (is_good (with_parent n parent f)) (up_to n (chain_of f q))))
-      (good_under (with_parent n parent f) m q (other_parent f n parent m (swap_same m n off) ∙ is) back ∙ moved_calm f n parent q)
-      ∙ ap (λ b. is_calm f m && b) (way q i more)
-      ∙ sym (and_assoc (is_calm f m) (list_all (is_calm f) (up_to n (chain_of f q))) (is_calm f n))
-      ∙ sym (ap (λ xs. list_all (is_calm f) xs && is_calm f n) path)
+      ap (λ xs. is_eligible f m && list_all (is_good (with_parent n parent f)) xs) path
+      ∙ ap (λ b. is_eligible f m && (b && list_all (is_good (with_parent n parent f)) (up_to n (chain_of f q))))
+      (good_under (with_parent n parent f) m q (other_parent f n parent m (swap_same m n off) ∙ is) back ∙ moved_eligible f n parent q)
+      ∙ ap (λ b. is_eligible f m && b) (way q i more)
+      ∙ sym (and_assoc (is_eligible f m) (list_all (is_eligible f) (up_to n (chain_of f q))) (is_eligible f n))
+      ∙ sym (ap (λ xs. list_all (is_eligible f) xs && is_eligible f n) path)
 
-  -- all up to n are calm, and the new parent takes part
+  -- all up to n are eligible, and the new parent takes part
   pub moved_open_below : (m : List ℕ) → in_chain f m n ≡ true → is_open (with_parent n parent f) m ≡ is_moved_open f n parent m
   moved_open_below m has =
       let steps = steps_of f n m has in
@@ -263,9 +263,9 @@ module _ (f : Forest) (n : List ℕ) (parent : Option (List ℕ)) (apart : IsApa
       ∙ ap (λ b. list_all (is_good (with_parent n parent f)) (up_to n (chain_of f m)) && b) (top parent refl apart) in
       (λ i. moved_live f n parent m i && (not (moved_excluded f n parent m i) && halts i))
       ∙ sym (and_assoc (is_live f m) (not (is_excluded f m)) (list_all (is_good (with_parent n parent f)) (up_to n (chain_of f m)) && is_open_above f parent))
-      ∙ sym (and_assoc (is_calm f m) (list_all (is_good (with_parent n parent f)) (up_to n (chain_of f m))) (is_open_above f parent))
+      ∙ sym (and_assoc (is_eligible f m) (list_all (is_good (with_parent n parent f)) (up_to n (chain_of f m))) (is_open_above f parent))
       ∙ ap (λ b. b && is_open_above f parent) (way m steps.0 steps.1)
-      ∙ and_assoc (list_all (is_calm f) (up_to n (chain_of f m))) (is_calm f n) (is_open_above f parent)
+      ∙ and_assoc (list_all (is_eligible f) (up_to n (chain_of f m))) (is_eligible f n) (is_open_above f parent)
     where
       member : {k : ℕ} → Steps f n m k → is_there f m ≡ true
       member (arrived is here) = here

@@ -11,7 +11,7 @@ use Rattle.hx_object.specs.declared.object.Payload.TheVariants.{Config, Hierarch
 use Rattle.serde_json.proofs.OnLiterals.{serde_json_on_literals}
 use Rattle.hx_object.specs.Sizes.{size_of, config_size, is_tree_key, is_reconciled_key, is_counted}
 use Rattle.hx_model.specs.declared.ask.Ask.TheVariants.{Create, Replace, Delete}
-use Rattle.hx_model.specs.declared.ask.Answer.TheVariants.{Gone, Refused}
+use Rattle.hx_model.specs.declared.ask.Answer.TheVariants.{Deleted, Refused}
 use Rattle.hx_model.specs.declared.refusal.Refusal.{Refusal}
 use Rattle.hx_model.specs.declared.refusal.Refusal.TheVariants.{Broken}
 use Rattle.hx_model.specs.declared.rule.Rule.TheVariants.{X1, H7, C1, O1, C2, C3, C4, C6, O3}
@@ -123,7 +123,7 @@ pub put_same_entries : answer_to with_config (Replace (configured (pods ∷ []) 
 unfolding is_copy
 put_same_entries = refl
 
-pub config_is_removed : answer_to with_config (Delete config_id false) ≡ (Gone 4, state (stored acme 1 ∷ stored kube 2 ∷ []) 4)
+pub config_is_removed : answer_to with_config (Delete config_id false) ≡ (Deleted 4, state (stored acme 1 ∷ stored kube 2 ∷ []) 4)
 unfolding is_copy counts size_of config_size serde_json_on_literals
 config_is_removed = refl
 

@@ -25,7 +25,7 @@ use Rattle.hx_model.specs.Keys.{has_named, is_name, is_key}
 use Rattle.hx_model.specs.Limits.{is_copy}
 use Rattle.hx_model.specs.Machine.{wants}
 use Rattle.hx_model.specs.Modes.{mode_of}
-use Rattle.hx_model.specs.Moves.{is_calm}
+use Rattle.hx_model.specs.Moves.{is_eligible}
 use Rattle.hx_model.specs.Propagation.{is_source, source_at, id_in, as_list, sources_along, sources_above, top_of}
 use Rattle.hx_model.specs.Reports.{report_write, conditions_of}
 use Rattle.hx_model.specs.Serving.{IsServed}
@@ -167,8 +167,8 @@ pub wanted_is_key : (s : State) → IsValid s → (k : Key) → wants s k ≡ tr
 wanted_is_key s valid (key.Copy n kind name) h = copy_key s kind name n valid (is_open (forest_of s) n) (object_at s.objects (namespace_id n)) refl h
 wanted_is_key s valid (key.Tree n) h = named_by s n (found_there s n valid (tree_found (is_open (forest_of s) n) (chain_of (forest_of s) n) (object_at s.objects (namespace_id n)) h))
 wanted_is_key s valid (key.Report n) h =
-    let calm : is_calm (forest_of s) n ≡ true = report_takes (is_calm (forest_of s) n) (object_at s.objects (hierarchy_id n)) (children_of (forest_of s) n) (conditions_of s n) n h in
-    named_by s n (live_there (forest_of s) n (and_parts (is_live (forest_of s) n) _ calm).0)
+    let eligible : is_eligible (forest_of s) n ≡ true = report_takes (is_eligible (forest_of s) n) (object_at s.objects (hierarchy_id n)) (children_of (forest_of s) n) (conditions_of s n) n h in
+    named_by s n (live_there (forest_of s) n (and_parts (is_live (forest_of s) n) _ eligible).0)
 wanted_is_key s valid (key.Child n name) h = child_anchored (is_open (forest_of s) n) (is_some (object_at s.objects (anchor_id n name))) _ _ n name h
 wanted_is_key s valid (key.Anchor n name) h = anchor_found (is_live (forest_of s) n) (object_at s.objects (anchor_id n name)) h
   where

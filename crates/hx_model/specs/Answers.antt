@@ -23,7 +23,7 @@ use Rattle.hx_select.specs.declared.selector.Selector.{Selector}
 use Rattle.hx_model.specs.declared.ask.Ask.{Ask}
 use Rattle.hx_model.specs.declared.ask.Ask.TheVariants.{Get, List as ListOf, Create, Replace, Delete}
 use Rattle.hx_model.specs.declared.ask.Answer.{Answer}
-use Rattle.hx_model.specs.declared.ask.Answer.TheVariants.{One, Many, Gone, Refused}
+use Rattle.hx_model.specs.declared.ask.Answer.TheVariants.{One, Many, Deleted, Refused}
 use Rattle.hx_model.specs.declared.refusal.Refusal.{Refusal}
 use Rattle.hx_model.specs.declared.refusal.Refusal.TheVariants.{NotFound, Exists, OtherVersion, Broken}
 use Rattle.hx_model.specs.declared.rule.Rule.TheVariants.{L1, L2, L3, L4}
@@ -208,7 +208,7 @@ success s t (Get id) = answer_found (object_at s.objects id) false id
 success s t (ListOf kind ns selector) = Many kind (selected kind ns selector s.objects) s.last
 success s t (Create x skip) = answer_found (object_at t.objects x.id) true x.id
 success s t (Replace x expected skip) = answer_found (object_at t.objects x.id) false x.id
-success s t (Delete id skip) = Gone t.last
+success s t (Delete id skip) = Deleted t.last
 
 abbrev pub answer_by : State → Ask → Option Refusal → Answer × State
 answer_by s ask (Some refusal) = (Refused refusal, s)

@@ -1,6 +1,6 @@
 -- What lies below a namespace that gets another parent, and which sources are overwritten there.
 --     up_to n names        the names before n
---     is_calm f n          there and not on its way out, and not excluded
+--     is_eligible f n          there and not on its way out, and not excluded
 --     is_open_above f parent   the parent takes part, where there is one
 --     moved_chain_of f n parent m   the chain of a namespace below n then
 --     is_moved_open f n parent m    it takes part then
@@ -34,8 +34,8 @@ chain_from f None = []
 chain_from f (Some p) = chain_of f p
 
 -- there and not on its way out, and not excluded
-abbrev pub is_calm : Forest → List ℕ → Bool
-is_calm f n = is_live f n && not (is_excluded f n)
+abbrev pub is_eligible : Forest → List ℕ → Bool
+is_eligible f n = is_live f n && not (is_excluded f n)
 
 -- the parent takes part, where there is one
 abbrev pub is_open_above : Forest → Option (List ℕ) → Bool
@@ -45,9 +45,9 @@ is_open_above f parent = option_map_or (is_open f) parent true
 abbrev pub moved_chain_of : Forest → List ℕ → Option (List ℕ) → List ℕ → List (List ℕ)
 moved_chain_of f n parent m = up_to n (chain_of f m) ++ n ∷ chain_from f parent
 
--- all up to n are calm, and the new parent takes part
+-- all up to n are eligible, and the new parent takes part
 abbrev pub is_moved_open : Forest → List ℕ → Option (List ℕ) → List ℕ → Bool
-is_moved_open f n parent m = list_all (is_calm f) (up_to n (chain_of f m)) && (is_calm f n && is_open_above f parent)
+is_moved_open f n parent m = list_all (is_eligible f) (up_to n (chain_of f m)) && (is_eligible f n && is_open_above f parent)
 
 -- ---- sources
 

@@ -188,11 +188,11 @@ status_text refusal = compact_text (status_data refusal)
 -- ---- removals
 
 -- the body of a removal, with the version of its write
-abbrev pub gone_data : ℕ → Data
-gone_data version =
+abbrev pub deleted_data : ℕ → Data
+deleted_data version =
     object (member (codes "apiVersion") (string (codes "v1")) (member (codes "kind") (string (codes "Status"))
     (member (codes "metadata") (object (member (codes "resourceVersion") (string (decimal version)) no_members)) (member (codes "status") (string (codes "Success")) no_members))))
 
 -- its text
-unfoldable pub gone_text : ℕ → List ℕ
-gone_text version = compact_text (gone_data version)
+unfoldable pub deleted_text : ℕ → List ℕ
+deleted_text version = compact_text (deleted_data version)

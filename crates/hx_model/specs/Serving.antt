@@ -27,7 +27,7 @@ use Rattle.hx_object.specs.declared.object.Payload.TheVariants.{Namespace as Nam
 use Rattle.hx_model.specs.declared.ask.Ask.{Ask}
 use Rattle.hx_model.specs.declared.ask.Ask.TheVariants.{Get, List as ListOf, Create, Replace, Delete}
 use Rattle.hx_model.specs.declared.ask.Answer.{Answer}
-use Rattle.hx_model.specs.declared.ask.Answer.TheVariants.{One, Many, Gone, Refused}
+use Rattle.hx_model.specs.declared.ask.Answer.TheVariants.{One, Many, Deleted, Refused}
 
 -- the modes that bodies may name so far
 abbrev pub is_given_mode : Mode → Bool
@@ -99,5 +99,5 @@ IsServedAsk (Delete id skip) = Unit {0}
 abbrev pub IsLegalAnswer : Answer → Type 0
 IsLegalAnswer (One x fresh) = IsLegal x
 IsLegalAnswer (Many kind objects version) = AllByRecursion IsLegal objects
-IsLegalAnswer (Gone version) = Unit {0}
+IsLegalAnswer (Deleted version) = Unit {0}
 IsLegalAnswer (Refused refusal) = Unit {0}

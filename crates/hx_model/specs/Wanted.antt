@@ -28,7 +28,7 @@ use Rattle.hx_model.specs.First.{so}
 use Rattle.hx_model.specs.Forest.{chain_of, children_of, is_in, is_live}
 use Rattle.hx_model.specs.Limits.{is_copy}
 use Rattle.hx_model.specs.Modes.{mode_of}
-use Rattle.hx_model.specs.Moves.{is_calm}
+use Rattle.hx_model.specs.Moves.{is_eligible}
 use Rattle.hx_model.specs.Propagation.{copy_of, id_in, sources_above, top_of}
 use Rattle.hx_model.specs.Quotas.{used}
 use Rattle.hx_model.specs.Reports.{conditions_of, report_write}
@@ -132,7 +132,7 @@ wanted_anchor s n m = anchor_write (is_live (forest_of s) n) (anchor_status s n 
 
 -- where the namespace is there, included and not on its way out
 abbrev pub wanted_report : State → List ℕ → Option Write
-wanted_report s n = report_write (is_calm (forest_of s) n) (object_at s.objects (hierarchy_id n)) (children_of (forest_of s) n) (conditions_of s n) n
+wanted_report s n = report_write (is_eligible (forest_of s) n) (object_at s.objects (hierarchy_id n)) (children_of (forest_of s) n) (conditions_of s n) n
 
 -- ---- usage
 

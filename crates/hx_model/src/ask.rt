@@ -48,7 +48,7 @@ pub enum Answer {
         version: u64,
     },
     /// The object was removed by the write of this version.
-    Gone {
+    Deleted {
         version: u64,
     },
     Refused(Refusal),
@@ -66,7 +66,7 @@ impl Drop for Answer {
                 objects: _,
                 version: _,
             } => {}
-            Answer::Gone { version: _ } => {}
+            Answer::Deleted { version: _ } => {}
             Answer::Refused(_) => {}
         }
     }

@@ -22,7 +22,7 @@ use Rattle.hx_model.specs.declared.key.Key.{Key}
 use Rattle.hx_model.specs.declared.key.Key.TheVariants as key
 use Rattle.hx_model.proofs.Climbing.{same_itself}
 use Rattle.hx_model.proofs.SameKeys.{key_laws, same_key_is, same_key_itself}
-use Rattle.hx_queue.specs.Spread.{Reach, equal_ids, is_place_of, is_spread, keys_in, names_in, place_keys, waiting_in, with_id}
+use Rattle.hx_queue.specs.Spread.{Scope, equal_ids, is_place_of, is_spread, keys_in, names_in, place_keys, waiting_in, with_id}
 use Rattle.hx_queue.proofs.Sets.{distinct_filter, head_absent}
 
 -- ---- what waits
@@ -40,9 +40,9 @@ among_waiting k line spread =
 
 -- ---- what was marked as a whole
 
-pub among_spread : (k : Key) (reach : Option Reach) (ids : List Id) → is_among k (keys_in reach ids) ≡ list_any (λ (id : Id). is_among k (place_keys (names_in reach) id)) ids
-among_spread k reach [] = refl
-among_spread k reach (id ∷ ids) = list_any-append (same_key k) (place_keys (names_in reach) id) (keys_in reach ids) ∙ ap (λ b. is_among k (place_keys (names_in reach) id) || b) (among_spread k reach ids)
+pub among_spread : (k : Key) (scope : Option Scope) (ids : List Id) → is_among k (keys_in scope ids) ≡ list_any (λ (id : Id). is_among k (place_keys (names_in scope) id)) ids
+among_spread k scope [] = refl
+among_spread k scope (id ∷ ids) = list_any-append (same_key k) (place_keys (names_in scope) id) (keys_in scope ids) ∙ ap (λ b. is_among k (place_keys (names_in scope) id) || b) (among_spread k scope ids)
 
 no_or : (a b : Bool) → a ≡ false → b ≡ false → (a || b) ≡ false
 no_or a b e f = (λ i. e i || f i)
@@ -71,14 +71,14 @@ pub places_apart : (id : Id) (k : Key) (names : List (List ℕ)) → is_place_of
 places_apart id k [] apart = refl
 places_apart id k (m ∷ names) apart = no_or (same_key k (key.Copy m id.kind id.name)) (is_among k (place_keys names id)) (other_place id k m apart) (places_apart id k names apart)
 
-pub spread_absent : (k : Key) (reach : Option Reach) (ids : List Id) → is_spread ids k ≡ false → is_among k (keys_in reach ids) ≡ false
-spread_absent k reach ids apart = among_spread k reach ids ∙ by ids apart
+pub spread_absent : (k : Key) (scope : Option Scope) (ids : List Id) → is_spread ids k ≡ false → is_among k (keys_in scope ids) ≡ false
+spread_absent k scope ids apart = among_spread k scope ids ∙ by ids apart
   where
-    by : (ids : List Id) → is_spread ids k ≡ false → list_any (λ (id : Id). is_among k (place_keys (names_in reach) id)) ids ≡ false
+    by : (ids : List Id) → is_spread ids k ≡ false → list_any (λ (id : Id). is_among k (place_keys (names_in scope) id)) ids ≡ false
     by [] e = refl
     by (id ∷ ids) e =
-        no_or (is_among k (place_keys (names_in reach) id)) (list_any (λ (id : Id). is_among k (place_keys (names_in reach) id)) ids)
-        (places_apart id k (names_in reach) (left_no (is_place_of id k) (is_spread ids k) e)) (by ids (right_no (is_place_of id k) (is_spread ids k) e))
+        no_or (is_among k (place_keys (names_in scope) id)) (list_any (λ (id : Id). is_among k (place_keys (names_in scope) id)) ids)
+        (places_apart id k (names_in scope) (left_no (is_place_of id k) (is_spread ids k) e)) (by ids (right_no (is_place_of id k) (is_spread ids k) e))
 
 -- what isn't marked as a whole isn't where one was taken out
 pub spread_less : (k : Key) (ids : List Id) → is_spread ids k ≡ false → is_spread (drop 1 ids) k ≡ false
@@ -115,11 +115,11 @@ any_with id f ids = by (list_any (equal_ids id) ids) refl
     by true e = absorbed (list_any f ids) (f id) (any_of id f ids e)
     by false e = list_any-append f ids (id ∷ []) ∙ ap (λ b. list_any f ids || b) (or-false (f id))
 
-pub among_more : (k : Key) (id : Id) (reach : Option Reach) (ids : List Id) → is_among k (keys_in reach (with_id id ids)) ≡ (is_among k (keys_in reach ids) || is_among k (place_keys (names_in reach) id))
-among_more k id reach ids =
-    among_spread k reach (with_id id ids)
-    ∙ any_with id (λ (id : Id). is_among k (place_keys (names_in reach) id)) ids
-    ∙ ap (λ b. b || is_among k (place_keys (names_in reach) id)) (sym (among_spread k reach ids))
+pub among_more : (k : Key) (id : Id) (scope : Option Scope) (ids : List Id) → is_among k (keys_in scope (with_id id ids)) ≡ (is_among k (keys_in scope ids) || is_among k (place_keys (names_in scope) id))
+among_more k id scope ids =
+    among_spread k scope (with_id id ids)
+    ∙ any_with id (λ (id : Id). is_among k (place_keys (names_in scope) id)) ids
+    ∙ ap (λ b. b || is_among k (place_keys (names_in scope) id)) (sym (among_spread k scope ids))
 
 pub spread_more : (k : Key) (id : Id) (ids : List Id) → is_place_of id k ≡ false → is_spread ids k ≡ false → is_spread (with_id id ids) k ≡ false
 spread_more k id ids own others = any_with id (λ (id : Id). is_place_of id k) ids ∙ no_or (is_spread ids k) (is_place_of id k) others own

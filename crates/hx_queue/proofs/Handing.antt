@@ -8,7 +8,7 @@ use Rattle.std.proofs.lemmas.List.Quantifiers.{position-Some}
 use Rattle.hx_model.specs.Hands.{Hand, hand_of, without_hand}
 use Rattle.hx_model.specs.Keys.{same_key}
 use Rattle.hx_model.specs.declared.key.Key.{Key}
-use Rattle.hx_rules.specs.Briefs.{hand_by}
+use Rattle.hx_reconcile.specs.Briefs.{hand_by}
 use Rattle.hx_queue.specs.Tied.{hand_in, hands_of}
 use Rattle.hx_queue.specs.declared.workers.Handed.{Handed}
 use Rattle.hx_queue.proofs.Finding.{first_of, others_of, all_at_found, inside, none_kept, rest_is}

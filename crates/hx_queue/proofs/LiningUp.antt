@@ -19,19 +19,19 @@ use Rattle.hx_queue.proofs.Whole.{whole_of}
 -- ---- steps
 
 pub lines_none : (q : QueueView) (s : SpreadView) → LinesUp q q s s
-lines_none q s = record { waiting = refl; held = refl; reach = refl; apart = λ k e. e; room = omega arith }
+lines_none q s = record { waiting = refl; held = refl; scope = refl; apart = λ k e. e; room = omega arith }
 
 pub lines_more : (q r u : QueueView) (s t v : SpreadView) → LinesUp q r s t → LinesUp r u t v → LinesUp q u s v
 lines_more q r u s t v first rest = record {
   waiting = rest.waiting ∙ first.waiting;
   held = rest.held ∙ first.held;
-  reach = rest.reach ∙ first.reach;
+  scope = rest.scope ∙ first.scope;
   apart = λ k e. rest.apart k (first.apart k e);
   room = omega (arith, first.room, rest.room);
 }
 
-pub lines_one : {A E : Type 0} (result : Result A E) (q r : QueueView) (s t : SpreadView) → all_waiting r t ≡ all_waiting q s → r.held ≡ q.held → OnOk result (t.ids ≡ drop 1 s.ids) → OnErr result (t.ids ≡ s.ids) → t.reach ≡ s.reach → s.room ≤ t.room → LinesUp q r s t
-lines_one {A} {E} result q r s t waiting held ok err reach room = record { waiting = waiting; held = held; reach = reach; apart = by result ok err; room = room }
+pub lines_one : {A E : Type 0} (result : Result A E) (q r : QueueView) (s t : SpreadView) → all_waiting r t ≡ all_waiting q s → r.held ≡ q.held → OnOk result (t.ids ≡ drop 1 s.ids) → OnErr result (t.ids ≡ s.ids) → t.scope ≡ s.scope → s.room ≤ t.room → LinesUp q r s t
+lines_one {A} {E} result q r s t waiting held ok err scope room = record { waiting = waiting; held = held; scope = scope; apart = by result ok err; room = room }
   where
     by : (o : Result A E) → OnOk o (t.ids ≡ drop 1 s.ids) → OnErr o (t.ids ≡ s.ids) → (k : Key) → is_spread s.ids k ≡ false → is_spread t.ids k ≡ false
     by (Ok x) ok err = λ k e. ap (λ ids. is_spread ids k) ok ∙ spread_less k s.ids e
@@ -68,7 +68,7 @@ module _ (hands : List Hand) (q r : QueueView) (s t : SpreadView) (kept : IsKept
   -- it is the first of all that wait
   pub next_first : (o : Option Key) → (r.waiting ≡ [] → t.ids ≡ []) → o ≡ slice_get r.waiting 0 → o ≡ slice_get (all_waiting q s) 0
   next_first o none e =
-      e ∙ sym (first_in r.waiting (keys_in t.reach t.ids) (λ nothing i. slice_get (waiting_in (nothing i) (keys_in t.reach (none nothing i))) 0)) ∙ ap (λ keys. slice_get keys 0) l.waiting
+      e ∙ sym (first_in r.waiting (keys_in t.scope t.ids) (λ nothing i. slice_get (waiting_in (nothing i) (keys_in t.scope (none nothing i))) 0)) ∙ ap (λ keys. slice_get keys 0) l.waiting
 
   pub next_free : (o : Option Key) → IsQueueApart r → o ≡ slice_get r.waiting 0 → IfSome o (λ k. is_in_hands k hands ≡ false)
   next_free None apart e = tt

@@ -24,7 +24,7 @@ use Rattle.hx_model.specs.declared.key.Key.TheVariants as key
 use Rattle.hx_model.proofs.SameKeys.{same_key_is, same_key_itself}
 use Rattle.hx_queue.specs.Kept.{Held, Marks, QueueView, again_in, is_held}
 use Rattle.hx_queue.specs.Line.{with_key}
-use Rattle.hx_queue.specs.Spread.{HasPlace, IsOf, IsSpread, Reach, equal_ids, is_place_of, is_spread, keys_in, most_spread, names_in, place_keys, waiting_in, with_id}
+use Rattle.hx_queue.specs.Spread.{HasPlace, IsOf, IsSpread, Scope, equal_ids, is_place_of, is_spread, keys_in, most_spread, names_in, place_keys, waiting_in, with_id}
 use Rattle.hx_queue.specs.Spreading.{AreLinedUp}
 use Rattle.hx_queue.proofs.Beside.{distinct_append, equal_ids_is, place_itself}
 use Rattle.hx_queue.proofs.Waiting.{distinct_apart, lined_all, lined_some, lined_more}
@@ -58,16 +58,16 @@ among_places id (m ∷ names) k h = by (same_key k (key.Copy m id.kind id.name))
     by true e rest = ap (is_place_of id) (same_key_is k (key.Copy m id.kind id.name) e) ∙ place_itself id m
     by false e rest = rest (sym (ap (λ b. b || is_among k (place_keys names id)) e) ∙ h)
 
-pub among_keys : (reach : Option Reach) (ids : List Id) (k : Key) → is_among k (keys_in reach ids) ≡ true → is_spread ids k ≡ true
-among_keys reach [] k h = absurd (true≢false (sym h))
-among_keys reach (id ∷ ids) k h = by (is_among k (place_keys (names_in reach) id)) refl (among_keys reach ids k)
+pub among_keys : (scope : Option Scope) (ids : List Id) (k : Key) → is_among k (keys_in scope ids) ≡ true → is_spread ids k ≡ true
+among_keys scope [] k h = absurd (true≢false (sym h))
+among_keys scope (id ∷ ids) k h = by (is_among k (place_keys (names_in scope) id)) refl (among_keys scope ids k)
   where
-    split : (is_among k (place_keys (names_in reach) id) || is_among k (keys_in reach ids)) ≡ true
-    split = sym (list_any-append (same_key k) (place_keys (names_in reach) id) (keys_in reach ids)) ∙ h
+    split : (is_among k (place_keys (names_in scope) id) || is_among k (keys_in scope ids)) ≡ true
+    split = sym (list_any-append (same_key k) (place_keys (names_in scope) id) (keys_in scope ids)) ∙ h
 
-    by : (b : Bool) → is_among k (place_keys (names_in reach) id) ≡ b → (is_among k (keys_in reach ids) ≡ true → is_spread ids k ≡ true) → is_spread (id ∷ ids) k ≡ true
-    by true e rest = ap (λ b. b || is_spread ids k) (among_places id (names_in reach) k e)
-    by false e rest = ap (λ b. is_place_of id k || b) (rest (sym (ap (λ b. b || is_among k (keys_in reach ids)) e) ∙ split)) ∙ or_true (is_place_of id k)
+    by : (b : Bool) → is_among k (place_keys (names_in scope) id) ≡ b → (is_among k (keys_in scope ids) ≡ true → is_spread ids k ≡ true) → is_spread (id ∷ ids) k ≡ true
+    by true e rest = ap (λ b. b || is_spread ids k) (among_places id (names_in scope) k e)
+    by false e rest = ap (λ b. is_place_of id k || b) (rest (sym (ap (λ b. b || is_among k (keys_in scope ids)) e) ∙ split)) ∙ or_true (is_place_of id k)
       where
         or_true : (b : Bool) → (b || true) ≡ true
         or_true true = refl
@@ -114,27 +114,27 @@ places_distinct id (m ∷ names) d =
     IsDistinct-cons same_key (key.Copy m id.kind id.name) (place_keys names id) (places_apart id m names (IsDistinct-head bytes_eq m names d)) (places_distinct id names (IsDistinct-tail bytes_eq m names d))
 
 -- two objects of the namespace at the top with one key are one
-one_object : (reach : Option Reach) (id : Id) (ids : List Id) (k : Key) → AllByRecursion (IsOf reach) (id ∷ ids) → is_place_of id k ≡ true → is_spread ids k ≡ true → list_any (equal_ids id) ids ≡ true
+one_object : (scope : Option Scope) (id : Id) (ids : List Id) (k : Key) → AllByRecursion (IsOf scope) (id ∷ ids) → is_place_of id k ≡ true → is_spread ids k ≡ true → list_any (equal_ids id) ids ≡ true
 one_object None id ids k at h g = absurd at.0
-one_object (Some reach) id ids (key.Copy m kind name) at h g =
+one_object (Some scope) id ids (key.Copy m kind name) at h g =
     let parts = place_is id m kind name h in
-    let is : record { kind = kind; ns = reach.root; name = name } ≡ id = λ i. record { kind = parts.0 i; ns = at.0 i; name = sym parts.1 i } in
-    ap (λ x. list_any (equal_ids x) ids) (sym is) ∙ found_in reach.root m name kind ids at.1 ∙ g
-one_object (Some reach) id ids _ at h g = absurd (true≢false (sym h))
+    let is : record { kind = kind; ns = scope.root; name = name } ≡ id = λ i. record { kind = parts.0 i; ns = at.0 i; name = sym parts.1 i } in
+    ap (λ x. list_any (equal_ids x) ids) (sym is) ∙ found_in scope.root m name kind ids at.1 ∙ g
+one_object (Some scope) id ids _ at h g = absurd (true≢false (sym h))
 
-pub keys_distinct : (reach : Option Reach) (ids : List Id) → IsDistinct bytes_eq (names_in reach) → IsDistinct equal_ids ids → AllByRecursion (IsOf reach) ids → IsDistinct same_key (keys_in reach ids)
+pub keys_distinct : (scope : Option Scope) (ids : List Id) → IsDistinct bytes_eq (names_in scope) → IsDistinct equal_ids ids → AllByRecursion (IsOf scope) ids → IsDistinct same_key (keys_in scope ids)
 unfolding IsDistinct
-keys_distinct reach [] n d at = tt
-keys_distinct reach (id ∷ ids) n d at =
-    distinct_append (place_keys (names_in reach) id) (keys_in reach ids) (places_distinct id (names_in reach) n) (keys_distinct reach ids n (IsDistinct-tail equal_ids id ids d) at.1)
-    (λ k again. false_from_ne_true _ (λ there. true≢false (sym (one_object reach id ids k at (among_places id (names_in reach) k there) (among_keys reach ids k again)) ∙ none ids (IsDistinct-head equal_ids id ids d))))
+keys_distinct scope [] n d at = tt
+keys_distinct scope (id ∷ ids) n d at =
+    distinct_append (place_keys (names_in scope) id) (keys_in scope ids) (places_distinct id (names_in scope) n) (keys_distinct scope ids n (IsDistinct-tail equal_ids id ids d) at.1)
+    (λ k again. false_from_ne_true _ (λ there. true≢false (sym (one_object scope id ids k at (among_places id (names_in scope) k there) (among_keys scope ids k again)) ∙ none ids (IsDistinct-head equal_ids id ids d))))
   where
     none : (zs : List Id) → AllByRecursion (λ y. equal_ids id y ≡ false) zs → list_any (equal_ids id) zs ≡ false
     none [] a = refl
     none (z ∷ zs) a = ap (λ b. b || list_any (equal_ids id) zs) a.0 ∙ none zs a.1
 
-pub spread_distinct : (reach : Option Reach) (ids : List Id) → IsSpread reach ids → IsDistinct same_key (keys_in reach ids)
-spread_distinct reach ids s = keys_distinct reach ids s.places s.objects s.at
+pub spread_distinct : (scope : Option Scope) (ids : List Id) → IsSpread scope ids → IsDistinct same_key (keys_in scope ids)
+spread_distinct scope ids s = keys_distinct scope ids s.places s.objects s.at
 
 -- ---- one key comes in line
 
@@ -185,27 +185,27 @@ first_free (x ∷ ids) id k true at h place = absurd (true≢false (sym (ap (λ 
 first_free (x ∷ ids) id k false at h place = refl
 
 -- all of them
-pub first_up : (reach : Option Reach) (ids : List Id) (id : Id) (line now : List Key) → IsSpread reach ids → slice_get ids 0 ≡ Some id → now ≡ waiting_in line (place_keys (names_in reach) id)
-    → waiting_in now (keys_in reach (drop 1 ids)) ≡ waiting_in line (keys_in reach ids)
-first_up reach [] id line now s at is = absurd (true≢false (sym (ap is_some at)))
-first_up reach (x ∷ ids) id line now s at is =
-    ap (λ l. waiting_in l (keys_in reach ids)) (is ∙ ap (λ (y : Id). waiting_in line (place_keys (names_in reach) y)) (sym (some_is at)))
-    ∙ lined_all line (place_keys (names_in reach) x) (keys_in reach ids) (spread_distinct reach (x ∷ ids) s)
+pub first_up : (scope : Option Scope) (ids : List Id) (id : Id) (line now : List Key) → IsSpread scope ids → slice_get ids 0 ≡ Some id → now ≡ waiting_in line (place_keys (names_in scope) id)
+    → waiting_in now (keys_in scope (drop 1 ids)) ≡ waiting_in line (keys_in scope ids)
+first_up scope [] id line now s at is = absurd (true≢false (sym (ap is_some at)))
+first_up scope (x ∷ ids) id line now s at is =
+    ap (λ l. waiting_in l (keys_in scope ids)) (is ∙ ap (λ (y : Id). waiting_in line (place_keys (names_in scope) y)) (sym (some_is at)))
+    ∙ lined_all line (place_keys (names_in scope) x) (keys_in scope ids) (spread_distinct scope (x ∷ ids) s)
   where
     some_is : Some x ≡ Some id → x ≡ id
     some_is e = ap (λ o. unwrap_or o x) e
 
 -- some of them
-pub some_up : (reach : Option Reach) (ids : List Id) (id : Id) (line now : List Key) → IsSpread reach ids → slice_get ids 0 ≡ Some id → AreLinedUp (place_keys (names_in reach) id) line now
-    → waiting_in now (keys_in reach ids) ≡ waiting_in line (keys_in reach ids)
-some_up reach [] id line now s at up = absurd (true≢false (sym (ap is_some at)))
-some_up reach (x ∷ ids) id line now s at up =
-    let own = place_keys (names_in reach) x in
-    let parts : take up.many own ++ (drop up.many own ++ keys_in reach ids) ≡ own ++ keys_in reach ids
-    = sym (append_assoc (take up.many own) (drop up.many own) (keys_in reach ids)) ∙ ap (λ l. l ++ keys_in reach ids) (take-append-drop up.many own) in
-    ap (λ l. waiting_in l (own ++ keys_in reach ids)) (up.lined ∙ ap (λ (y : Id). waiting_in line (take up.many (place_keys (names_in reach) y))) (sym (some_is at)))
+pub some_up : (scope : Option Scope) (ids : List Id) (id : Id) (line now : List Key) → IsSpread scope ids → slice_get ids 0 ≡ Some id → AreLinedUp (place_keys (names_in scope) id) line now
+    → waiting_in now (keys_in scope ids) ≡ waiting_in line (keys_in scope ids)
+some_up scope [] id line now s at up = absurd (true≢false (sym (ap is_some at)))
+some_up scope (x ∷ ids) id line now s at up =
+    let own = place_keys (names_in scope) x in
+    let parts : take up.many own ++ (drop up.many own ++ keys_in scope ids) ≡ own ++ keys_in scope ids
+    = sym (append_assoc (take up.many own) (drop up.many own) (keys_in scope ids)) ∙ ap (λ l. l ++ keys_in scope ids) (take-append-drop up.many own) in
+    ap (λ l. waiting_in l (own ++ keys_in scope ids)) (up.lined ∙ ap (λ (y : Id). waiting_in line (take up.many (place_keys (names_in scope) y))) (sym (some_is at)))
     ∙ subst (λ l. waiting_in (waiting_in line (take up.many own)) l ≡ waiting_in line l) parts
-    (lined_some line (take up.many own) (drop up.many own ++ keys_in reach ids) (subst (IsDistinct same_key) (sym parts) (spread_distinct reach (x ∷ ids) s)))
+    (lined_some line (take up.many own) (drop up.many own ++ keys_in scope ids) (subst (IsDistinct same_key) (sym parts) (spread_distinct scope (x ∷ ids) s)))
   where
     some_is : Some x ≡ Some id → x ≡ id
     some_is e = ap (λ o. unwrap_or o x) e
@@ -215,30 +215,30 @@ first_removed [] = refl
 first_removed (x ∷ ids) = refl
 
 -- what is kept without the first object
-pub without_first : (reach : Option Reach) (ids : List Id) → IsSpread reach ids → IsSpread reach (drop 1 ids)
-without_first reach [] s = s
-without_first reach (x ∷ ids) s = record {
+pub without_first : (scope : Option Scope) (ids : List Id) → IsSpread scope ids → IsSpread scope (drop 1 ids)
+without_first scope [] s = s
+without_first scope (x ∷ ids) s = record {
   places = s.places;
   objects = IsDistinct-tail equal_ids x ids s.objects;
   at = s.at.1;
-  most = let one = suc-mul (length ids) (length (names_in reach)) in omega (arith, one, s.most);
+  most = let one = suc-mul (length ids) (length (names_in scope)) in omega (arith, one, s.most);
 }
 
 -- with one more
-pub with_one : (reach : Option Reach) (ids : List Id) (id : Id) → IsSpread reach ids → IsOf reach id → HasPlace reach ids → IsSpread reach (with_id id ids)
-with_one reach ids id s at fits = by (list_any (equal_ids id) ids) refl
+pub with_one : (scope : Option Scope) (ids : List Id) (id : Id) → IsSpread scope ids → IsOf scope id → HasPlace scope ids → IsSpread scope (with_id id ids)
+with_one scope ids id s at fits = by (list_any (equal_ids id) ids) refl
   where
-    of_all : (xs : List Id) → AllByRecursion (IsOf reach) xs → AllByRecursion (IsOf reach) (xs ++ id ∷ [])
+    of_all : (xs : List Id) → AllByRecursion (IsOf scope) xs → AllByRecursion (IsOf scope) (xs ++ id ∷ [])
     of_all [] h = (at, tt)
     of_all (x ∷ xs) h = (h.0, of_all xs h.1)
 
-    by : (b : Bool) → list_any (equal_ids id) ids ≡ b → IsSpread reach (with_id id ids)
-    by true e = subst (IsSpread reach) (sym (ap (λ b. cond b ids (ids ++ id ∷ [])) e)) s
-    by false e = subst (IsSpread reach) (sym (ap (λ b. cond b ids (ids ++ id ∷ [])) e)) record {
+    by : (b : Bool) → list_any (equal_ids id) ids ≡ b → IsSpread scope (with_id id ids)
+    by true e = subst (IsSpread scope) (sym (ap (λ b. cond b ids (ids ++ id ∷ [])) e)) s
+    by false e = subst (IsSpread scope) (sym (ap (λ b. cond b ids (ids ++ id ∷ [])) e)) record {
       places = s.places;
       objects = IsDistinct-push id_laws ids id s.objects e;
       at = of_all ids s.at;
-      most = subst (λ n. n * length (names_in reach) ≤ most_spread) (sym (length-append ids (id ∷ []))) fits;
+      most = subst (λ n. n * length (names_in scope) ≤ most_spread) (sym (length-append ids (id ∷ []))) fits;
     }
 
 -- where nothing is marked as a whole
@@ -246,9 +246,9 @@ pub nothing : IsSpread None []
 unfolding IsDistinct
 nothing = record { places = tt; objects = tt; at = tt; most = omega arith }
 
-pub is_of : (reach : Option Reach) (id : Id) → IsSomeAnd reach (λ (r : Reach). r.root ≡ id.ns) → IsOf reach id
+pub is_of : (scope : Option Scope) (id : Id) → IsSomeAnd scope (λ (r : Scope). r.root ≡ id.ns) → IsOf scope id
 is_of None id h = h
-is_of (Some reach) id h = h
+is_of (Some scope) id h = h
 
 pub nowhere : (ids : List Id) (k : Key) → AllByRecursion (IsOf None) ids → is_spread ids k ≡ false
 nowhere [] k h = refl
@@ -268,8 +268,8 @@ no_copy (id ∷ ids) (key.Purge m) h = no_copy ids (key.Purge m) h
 -- ---- how many there are
 
 -- where there is no reach all keys stand in line
-pub all_in_line : (line : List Key) (reach : Option Reach) (ids : List Id) → reach ≡ None → length line ≡ length (waiting_in line (keys_in reach ids))
-all_in_line line reach ids none = sym (ap length (ap (λ l. waiting_in line l) (ap (λ r. keys_in r ids) none ∙ empty ids) ∙ append-nil line))
+pub all_in_line : (line : List Key) (scope : Option Scope) (ids : List Id) → scope ≡ None → length line ≡ length (waiting_in line (keys_in scope ids))
+all_in_line line scope ids none = sym (ap length (ap (λ l. waiting_in line l) (ap (λ r. keys_in r ids) none ∙ empty ids) ∙ append-nil line))
   where
     empty : (xs : List Id) → keys_in None xs ≡ []
     empty [] = refl

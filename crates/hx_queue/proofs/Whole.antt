@@ -16,7 +16,7 @@ use Rattle.hx_model.specs.Keys.{same_key, is_among}
 use Rattle.hx_model.specs.declared.key.Key.{Key}
 use Rattle.hx_model.proofs.SameKeys.{same_key_is}
 use Rattle.hx_queue.specs.Kept.{Held, QueueView, Holds, Releases, AreApart as IsQueueApart, held_without, is_held, marked_again}
-use Rattle.hx_queue.specs.Spread.{HasPlace, Reach, SpreadView, is_place_of, is_spread, keys_in, names_in, place_keys, with_id}
+use Rattle.hx_queue.specs.Spread.{HasPlace, Scope, SpreadView, is_place_of, is_spread, keys_in, names_in, place_keys, with_id}
 use Rattle.hx_queue.specs.Tied.{IsKept, IsTied, MarksEach, any_held, hand_in, hands_of, with_spread}
 use Rattle.hx_queue.specs.Workers.{AreApart, IsMarkedBy, IsTakenBy, IsLetGo, MaySpread, WorkersView}
 use Rattle.hx_queue.specs.declared.workers.Handed.{Handed}
@@ -53,10 +53,10 @@ seen_by_all_marks keys hands old new s kept m =
     let line = seen_by_marks keys hands old new kept.tied m in
     record {
       hands = refl;
-      waiting = λ k. among_waiting k new.waiting (keys_in s.reach s.ids)
-          ∙ ap (λ b. b || is_among k (keys_in s.reach s.ids)) (line.waiting k)
-          ∙ beside (is_among k old.waiting) (is_among k keys && not (is_in_hands k hands)) (is_among k (keys_in s.reach s.ids))
-          ∙ ap (λ b. b || (is_among k keys && not (is_in_hands k hands))) (sym (among_waiting k old.waiting (keys_in s.reach s.ids)));
+      waiting = λ k. among_waiting k new.waiting (keys_in s.scope s.ids)
+          ∙ ap (λ b. b || is_among k (keys_in s.scope s.ids)) (line.waiting k)
+          ∙ beside (is_among k old.waiting) (is_among k keys && not (is_in_hands k hands)) (is_among k (keys_in s.scope s.ids))
+          ∙ ap (λ b. b || (is_among k keys && not (is_in_hands k hands))) (sym (among_waiting k old.waiting (keys_in s.scope s.ids)));
       again = line.again;
     }
 
@@ -94,11 +94,11 @@ seen_by_taken hand k hands old new s is apart h =
     let line = seen_by_take hand k hands old new is h in
     record {
       hands = refl;
-      waiting = λ j. among_waiting j new.waiting (keys_in s.reach s.ids)
-          ∙ ap (λ b. b || is_among j (keys_in s.reach s.ids)) (line.waiting j)
-          ∙ but_one (is_among j old.waiting) (is_among j (keys_in s.reach s.ids)) (same_key j hand.key)
-          (λ same. spread_absent j s.reach s.ids (ap (is_spread s.ids) (same_key_is j hand.key same ∙ is) ∙ apart))
-          ∙ ap (λ b. b && not (same_key j hand.key)) (sym (among_waiting j old.waiting (keys_in s.reach s.ids)));
+      waiting = λ j. among_waiting j new.waiting (keys_in s.scope s.ids)
+          ∙ ap (λ b. b || is_among j (keys_in s.scope s.ids)) (line.waiting j)
+          ∙ but_one (is_among j old.waiting) (is_among j (keys_in s.scope s.ids)) (same_key j hand.key)
+          (λ same. spread_absent j s.scope s.ids (ap (is_spread s.ids) (same_key_is j hand.key same ∙ is) ∙ apart))
+          ∙ ap (λ b. b && not (same_key j hand.key)) (sym (among_waiting j old.waiting (keys_in s.scope s.ids)));
       again = line.again;
     }
 
@@ -128,10 +128,10 @@ seen_by_let_go w k waits hands old new s r =
     let line = seen_by_release w k waits hands old new r in
     record {
       hands = refl;
-      waiting = λ j. among_waiting j new.waiting (keys_in s.reach s.ids)
-          ∙ ap (λ b. b || is_among j (keys_in s.reach s.ids)) (line.waiting j)
-          ∙ beside (is_among j old.waiting) (same_key j k && (waits || is_among k (marked_again old))) (is_among j (keys_in s.reach s.ids))
-          ∙ ap (λ b. b || (same_key j k && (waits || is_among k (marked_again old)))) (sym (among_waiting j old.waiting (keys_in s.reach s.ids)));
+      waiting = λ j. among_waiting j new.waiting (keys_in s.scope s.ids)
+          ∙ ap (λ b. b || is_among j (keys_in s.scope s.ids)) (line.waiting j)
+          ∙ beside (is_among j old.waiting) (same_key j k && (waits || is_among k (marked_again old))) (is_among j (keys_in s.scope s.ids))
+          ∙ ap (λ b. b || (same_key j k && (waits || is_among k (marked_again old)))) (sym (among_waiting j old.waiting (keys_in s.scope s.ids)));
       again = line.again;
     }
 
@@ -154,16 +154,16 @@ no_place id k (h ∷ hands) free held = by (same_key k h.key) refl held (λ late
     by true e later rest = ap (is_place_of id) (same_key_is k h.key e) ∙ left_no (is_place_of id h.key) (list_any (λ (h : Hand). is_place_of id h.key) hands) free
     by false e later rest = rest later
 
-pub kept_by_spread : (id : Id) (hands : List Hand) (q : QueueView) (s t : SpreadView) → IsKept hands q s → MaySpread id hands s.reach s.ids → t.ids ≡ with_id id s.ids → IsKept hands q t
+pub kept_by_spread : (id : Id) (hands : List Hand) (q : QueueView) (s t : SpreadView) → IsKept hands q s → MaySpread id hands s.scope s.ids → t.ids ≡ with_id id s.ids → IsKept hands q t
 kept_by_spread id hands q s t kept may is = record {
   tied = kept.tied;
   free = λ k held. ap (λ ids. is_spread ids k) is ∙ spread_more k id s.ids (no_place id k hands may.free (held_in_hands k hands q kept.tied ∙ held)) (kept.free k held);
 }
 
 -- what tells that they may be
-pub may_by : (id : Id) (hands : List Handed) (reach : Option Reach) (ids : List Id) (holds : Bool) → HasPlace reach ids → holds ≡ list_any (λ (h : Handed). is_place_of id h.brief.key) hands → not holds ≡ true → MaySpread id (hands_of hands) reach ids
-may_by id hands reach ids true fits is free = absurd (true≢false (sym free))
-may_by id hands reach ids false fits is free = record { free = any_map hand_in (λ (h : Hand). is_place_of id h.key) hands ∙ sym is; fits = fits }
+pub may_by : (id : Id) (hands : List Handed) (scope : Option Scope) (ids : List Id) (holds : Bool) → HasPlace scope ids → holds ≡ list_any (λ (h : Handed). is_place_of id h.brief.key) hands → not holds ≡ true → MaySpread id (hands_of hands) scope ids
+may_by id hands scope ids true fits is free = absurd (true≢false (sym free))
+may_by id hands scope ids false fits is free = record { free = any_map hand_in (λ (h : Hand). is_place_of id h.key) hands ∙ sym is; fits = fits }
 
 -- a, s: a key waited in line, or as a whole; p: it is one of the object's; h: it is held
 waits_more : (a s p h : Bool) → (h ≡ true → p ≡ false) → (a || (s || p)) ≡ ((a || s) || (p && not h))
@@ -179,28 +179,28 @@ again_same false true true none = absurd (true≢false (none refl))
 again_same false true false none = refl
 again_same false false h none = refl
 
-pub seen_by_spread : (id : Id) (hands : List Hand) (q : QueueView) (s t : SpreadView) → MaySpread id hands s.reach s.ids → t.reach ≡ s.reach → t.ids ≡ with_id id s.ids → IsMarkedBy (place_keys (names_in s.reach) id) (whole_of hands q s) (whole_of hands q t)
-seen_by_spread id hands q s t may reach is = record {
+pub seen_by_spread : (id : Id) (hands : List Hand) (q : QueueView) (s t : SpreadView) → MaySpread id hands s.scope s.ids → t.scope ≡ s.scope → t.ids ≡ with_id id s.ids → IsMarkedBy (place_keys (names_in s.scope) id) (whole_of hands q s) (whole_of hands q t)
+seen_by_spread id hands q s t may scope is = record {
   hands = refl;
-  waiting = λ k. among_waiting k q.waiting (keys_in t.reach t.ids)
-      ∙ (λ i. is_among k q.waiting || is_among k (keys_in (reach i) (is i)))
-      ∙ ap (λ b. is_among k q.waiting || b) (among_more k id s.reach s.ids)
-      ∙ waits_more (is_among k q.waiting) (is_among k (keys_in s.reach s.ids)) (is_among k (place_keys (names_in s.reach) id)) (is_in_hands k hands) (none k)
-      ∙ ap (λ b. b || (is_among k (place_keys (names_in s.reach) id) && not (is_in_hands k hands))) (sym (among_waiting k q.waiting (keys_in s.reach s.ids)));
-  again = λ k. again_same (is_among k (marked_again q)) (is_among k (place_keys (names_in s.reach) id)) (is_in_hands k hands) (none k);
+  waiting = λ k. among_waiting k q.waiting (keys_in t.scope t.ids)
+      ∙ (λ i. is_among k q.waiting || is_among k (keys_in (scope i) (is i)))
+      ∙ ap (λ b. is_among k q.waiting || b) (among_more k id s.scope s.ids)
+      ∙ waits_more (is_among k q.waiting) (is_among k (keys_in s.scope s.ids)) (is_among k (place_keys (names_in s.scope) id)) (is_in_hands k hands) (none k)
+      ∙ ap (λ b. b || (is_among k (place_keys (names_in s.scope) id) && not (is_in_hands k hands))) (sym (among_waiting k q.waiting (keys_in s.scope s.ids)));
+  again = λ k. again_same (is_among k (marked_again q)) (is_among k (place_keys (names_in s.scope) id)) (is_in_hands k hands) (none k);
 }
   where
-    none : (k : Key) → is_in_hands k hands ≡ true → is_among k (place_keys (names_in s.reach) id) ≡ false
-    none k held = places_apart id k (names_in s.reach) (no_place id k hands may.free held)
+    none : (k : Key) → is_in_hands k hands ≡ true → is_among k (place_keys (names_in s.scope) id) ≡ false
+    none k held = places_apart id k (names_in s.scope) (no_place id k hands may.free held)
 
 -- ---- what is apart
 
-pub whole_apart : (hands : List Hand) (q : QueueView) (s : SpreadView) → IsKept hands q s → IsQueueApart q → IsDistinct same_key (keys_in s.reach s.ids) → AreApart (whole_of hands q s)
+pub whole_apart : (hands : List Hand) (q : QueueView) (s : SpreadView) → IsKept hands q s → IsQueueApart q → IsDistinct same_key (keys_in s.scope s.ids) → AreApart (whole_of hands q s)
 whole_apart hands q s kept apart distinct =
     all_apart hands (with_spread q s)
     (record { same = kept.tied.same; workers = kept.tied.workers; keys = kept.tied.keys })
     (record {
-      waiting = distinct_waiting q.waiting (keys_in s.reach s.ids) apart.waiting distinct;
+      waiting = distinct_waiting q.waiting (keys_in s.scope s.ids) apart.waiting distinct;
       held = apart.held;
-      apart = λ k held. among_waiting k q.waiting (keys_in s.reach s.ids) ∙ (λ i. apart.apart k held i || spread_absent k s.reach s.ids (kept.free k held) i);
+      apart = λ k held. among_waiting k q.waiting (keys_in s.scope s.ids) ∙ (λ i. apart.apart k held i || spread_absent k s.scope s.ids (kept.free k held) i);
     })

@@ -1,5 +1,5 @@
 -- Keys that were marked as a whole: those of some objects' kinds and names, in all namespaces of a reach.
---     Reach, SpreadView     a namespace, and those of its subtree that its keys are marked in;  the objects whose keys were marked there
+--     Scope, SpreadView     a namespace, and those of its subtree that its keys are marked in;  the objects whose keys were marked there
 --     place_keys, keys_in   the keys of an object's kind and name in some namespaces;  those of some objects in a reach
 --     root_of, outdated     the namespace at the top, while a reach is current;  a reach that isn't any more
 --     waiting_in            the keys in line, and those behind them that were marked as a whole
@@ -19,14 +19,14 @@ use Rattle.hx_model.specs.declared.key.Key.{Key}
 use Rattle.hx_model.specs.declared.key.Key.TheVariants as key
 
 -- a namespace, and those of its subtree that its keys are marked in; it is current while these are those that take part there
-pub record Reach : Type 0 where
+pub record Scope : Type 0 where
   pub root : List ℕ
   pub names : List (List ℕ)
   pub current : Bool
 
 -- the objects whose keys were marked in all of the reach, the one whose keys come in line first at the front, and the room for more
 pub record SpreadView : Type 0 where
-  pub reach : Option Reach
+  pub scope : Option Scope
   pub ids : List Id
   pub room : ℕ
 
@@ -37,22 +37,22 @@ abbrev pub place_keys : List (List ℕ) → Id → List Key
 place_keys names id = map (λ (m : List ℕ). key.Copy m id.kind id.name) names
 
 -- the namespaces of a reach
-abbrev pub names_in : Option Reach → List (List ℕ)
+abbrev pub names_in : Option Scope → List (List ℕ)
 names_in None = []
-names_in (Some reach) = reach.names
+names_in (Some scope) = scope.names
 
 -- the namespace at the top of a reach, while it is current
-abbrev pub root_of : Option Reach → Option (List ℕ)
+abbrev pub root_of : Option Scope → Option (List ℕ)
 root_of None = None
-root_of (Some reach) = if reach.current then Some reach.root else None
+root_of (Some scope) = if scope.current then Some scope.root else None
 
 -- a reach that isn't current any more
-abbrev pub outdated : Option Reach → Option Reach
-outdated reach = option_map (λ (r : Reach). record r { current = false }) reach
+abbrev pub outdated : Option Scope → Option Scope
+outdated scope = option_map (λ (r : Scope). record r { current = false }) scope
 
 -- the keys of some objects, in all of a reach
-abbrev pub keys_in : Option Reach → List Id → List Key
-keys_in reach ids = flat_map (place_keys (names_in reach)) ids
+abbrev pub keys_in : Option Scope → List Id → List Key
+keys_in scope ids = flat_map (place_keys (names_in scope)) ids
 
 -- the keys in line, and behind them the others that were marked as a whole
 abbrev pub waiting_in : List Key → List Key → List Key
@@ -74,33 +74,33 @@ abbrev pub most_spread : ℕ
 most_spread = 4_294_967_296
 
 -- one more object's keys may be marked as a whole
-abbrev pub HasPlace : Option Reach → List Id → Type 0
-HasPlace reach ids = (length ids + 1) * length (names_in reach) ≤ most_spread
+abbrev pub HasPlace : Option Scope → List Id → Type 0
+HasPlace scope ids = (length ids + 1) * length (names_in scope) ≤ most_spread
 
 -- the test of two identities that code has: they are equal
 unfoldable pub equal_ids : Id → Id → Bool
 equal_ids = (id_eq.ghosts).eq
 
 -- an object is of the namespace that a reach has at its top
-abbrev pub IsOf : Option Reach → Id → Type 0
+abbrev pub IsOf : Option Scope → Id → Type 0
 IsOf None id = ⊥
-IsOf (Some reach) id = reach.root ≡ id.ns
+IsOf (Some scope) id = scope.root ≡ id.ns
 
 -- some objects with one behind them, unless it is there
 abbrev pub with_id : Id → List Id → List Id
 with_id id ids = if list_any (equal_ids id) ids then ids else ids ++ id ∷ []
 
 -- no namespace and no object is there twice; the objects are of the namespace at the top; and the keys aren't too many
-pub record IsSpread (reach : Option Reach) (ids : List Id) : Type 0 where
-  pub places : IsDistinct bytes_eq (names_in reach)
+pub record IsSpread (scope : Option Scope) (ids : List Id) : Type 0 where
+  pub places : IsDistinct bytes_eq (names_in scope)
   pub objects : IsDistinct equal_ids ids
-  pub at : AllByRecursion (IsOf reach) ids
-  pub most : length ids * length (names_in reach) ≤ most_spread
+  pub at : AllByRecursion (IsOf scope) ids
+  pub most : length ids * length (names_in scope) ≤ most_spread
 
 -- ---- as pairs
 
-abbrev pub reach_code : Coded Reach
-reach_code = code_by (List ℕ × (List (List ℕ) × Bool)) (coded× (coded_list coded_ℕ) (coded× (coded_list (coded_list coded_ℕ)) coded_bool)) (λ r. (r.root, (r.names, r.current))) (λ p. record { root = p.0; names = p.1.0; current = p.1.1 }) (λ _. refl)
+abbrev pub scope_code : Coded Scope
+scope_code = code_by (List ℕ × (List (List ℕ) × Bool)) (coded× (coded_list coded_ℕ) (coded× (coded_list (coded_list coded_ℕ)) coded_bool)) (λ r. (r.root, (r.names, r.current))) (λ p. record { root = p.0; names = p.1.0; current = p.1.1 }) (λ _. refl)
 
 abbrev pub spread_code : Coded SpreadView
-spread_code = code_by (Option Reach × (List Id × ℕ)) (coded× (coded_option reach_code) (coded× (coded_list id.the_row.coded) coded_ℕ)) (λ s. (s.reach, (s.ids, s.room))) (λ p. record { reach = p.0; ids = p.1.0; room = p.1.1 }) (λ _. refl)
+spread_code = code_by (Option Scope × (List Id × ℕ)) (coded× (coded_option scope_code) (coded× (coded_list id.the_row.coded) coded_ℕ)) (λ s. (s.scope, (s.ids, s.room))) (λ p. record { scope = p.0; ids = p.1.0; room = p.1.1 }) (λ _. refl)

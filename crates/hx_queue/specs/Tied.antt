@@ -12,7 +12,7 @@ use Rattle.hx_object.specs.declared.object.Id.{Id}
 use Rattle.hx_model.specs.Hands.{Hand}
 use Rattle.hx_model.specs.Keys.{same_key, is_among}
 use Rattle.hx_model.specs.declared.key.Key.{Key}
-use Rattle.hx_rules.specs.Briefs.{hand_by}
+use Rattle.hx_reconcile.specs.Briefs.{hand_by}
 use Rattle.hx_queue.specs.Kept.{Held, QueueView, is_held, marked_again}
 use Rattle.hx_queue.specs.Spread.{SpreadView, is_spread, keys_in, waiting_in}
 use Rattle.hx_queue.specs.Workers.{WorkersKept}
@@ -32,7 +32,7 @@ room_of places room = if places == 0 then 0 else room
 
 -- what waits, in line or as a whole
 abbrev pub all_waiting : QueueView → SpreadView → List Key
-all_waiting q s = waiting_in q.waiting (keys_in s.reach s.ids)
+all_waiting q s = waiting_in q.waiting (keys_in s.scope s.ids)
 
 abbrev pub with_spread : QueueView → SpreadView → QueueView
 with_spread q s = record q { waiting = all_waiting q s }
@@ -40,7 +40,7 @@ with_spread q s = record q { waiting = all_waiting q s }
 abbrev pub kept_of : List Handed → ℕ → QueueView → SpreadView → WorkersKept
 kept_of hands places q s = record {
   seen = record { hands = hands_of hands; waiting = all_waiting q s; again = marked_again q };
-  reach = s.reach;
+  scope = s.scope;
   spread = s.ids;
   spare = room_of places q.spare;
   places = s.room;
@@ -75,7 +75,7 @@ pub record IsKept (hands : List Hand) (q : QueueView) (s : SpreadView) : Type 0 
 pub record LinesUp (q r : QueueView) (s t : SpreadView) : Type 0 where
   pub waiting : all_waiting r t ≡ all_waiting q s
   pub held : r.held ≡ q.held
-  pub reach : t.reach ≡ s.reach
+  pub scope : t.scope ≡ s.scope
   pub apart : (k : Key) → is_spread s.ids k ≡ false → is_spread t.ids k ≡ false
   pub room : s.room ≤ t.room
 

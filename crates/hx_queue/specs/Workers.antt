@@ -18,7 +18,7 @@ use Rattle.hx_model.specs.contracts.key.Write as write
 use Rattle.hx_model.specs.declared.key.Guard.{Guard}
 use Rattle.hx_model.specs.declared.key.Key.{Key}
 use Rattle.hx_model.specs.declared.key.Write.{Write}
-use Rattle.hx_queue.specs.Spread.{HasPlace, Reach, is_place_of, reach_code}
+use Rattle.hx_queue.specs.Spread.{HasPlace, Scope, is_place_of, scope_code}
 
 -- `again` are the keys that are held and were marked since
 pub record WorkersView : Type 0 where
@@ -33,7 +33,7 @@ no_work = record { hands = []; waiting = []; again = [] }
 -- what is seen, where and of which objects keys were marked as a whole, and the room for keys that are marked or held later and for objects
 pub record WorkersKept : Type 0 where
   pub seen : WorkersView
-  pub reach : Option Reach
+  pub scope : Option Scope
   pub spread : List Id
   pub spare : ℕ
   pub places : ℕ
@@ -59,9 +59,9 @@ pub record IsLetGo (worker : ℕ) (k : Key) (waits : Bool) (old new : WorkersVie
   pub again : (other : Key) → is_among other new.again ≡ (is_among other old.again && not (same_key other k))
 
 -- no key of an object's kind and name is held, and there aren't too many with it
-pub record MaySpread (id : Id) (hands : List Hand) (reach : Option Reach) (ids : List Id) : Type 0 where
+pub record MaySpread (id : Id) (hands : List Hand) (scope : Option Scope) (ids : List Id) : Type 0 where
   pub free : list_any (λ (h : Hand). is_place_of id h.key) hands ≡ false
-  pub fits : HasPlace reach ids
+  pub fits : HasPlace scope ids
 
 -- ---- what they keep
 
@@ -85,5 +85,5 @@ workers_code = code_by (List Hand × (List Key × List Key)) (coded× (coded_lis
     (λ v. (v.hands, (v.waiting, v.again))) (λ p. record { hands = p.0; waiting = p.1.0; again = p.1.1 }) (λ _. refl)
 
 abbrev pub workers_kept_code : Coded WorkersKept
-workers_kept_code = code_by (WorkersView × (Option Reach × (List Id × (ℕ × ℕ)))) (coded× workers_code (coded× (coded_option reach_code) (coded× (coded_list id_type.the_row.coded) (coded× coded_ℕ coded_ℕ))))
-    (λ w. (w.seen, (w.reach, (w.spread, (w.spare, w.places))))) (λ p. record { seen = p.0; reach = p.1.0; spread = p.1.1.0; spare = p.1.1.1.0; places = p.1.1.1.1 }) (λ _. refl)
+workers_kept_code = code_by (WorkersView × (Option Scope × (List Id × (ℕ × ℕ)))) (coded× workers_code (coded× (coded_option scope_code) (coded× (coded_list id_type.the_row.coded) (coded× coded_ℕ coded_ℕ))))
+    (λ w. (w.seen, (w.scope, (w.spread, (w.spare, w.places))))) (λ p. record { seen = p.0; scope = p.1.0; spread = p.1.1.0; spare = p.1.1.1.0; places = p.1.1.1.1 }) (λ _. refl)

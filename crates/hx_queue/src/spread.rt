@@ -6,7 +6,7 @@ ghost use Rattle.hx_model.specs.Keys.{is_among, same_key};
 ghost use Rattle.hx_model.specs.declared.key.Key.{Key as key_of};
 ghost use Rattle.hx_queue.specs.Kept.{is_held};
 ghost use Rattle.hx_model.specs.declared.key.Key.TheVariants as key_by;
-ghost use Rattle.hx_queue.specs.Spreading.{AreLinedUp, reach_of};
+ghost use Rattle.hx_queue.specs.Spreading.{AreLinedUp, scope_of};
 ghost use Rattle.hx_queue.specs.Spread.{HasPlace, is_place_of, is_spread, keys_in, most_spread, names_in, outdated, place_keys, root_of, waiting_in, with_id};
 
 use crate::copy_of::CopyOf;
@@ -23,12 +23,12 @@ const MOST: usize = 4_294_967_296;
 
 /// Keys that were marked as a whole and don't stand in line yet.
 pub(crate) struct Spread {
-    reach: Option<Reach>,
+    scope: Option<Scope>,
     ids: IndexSet<Id, RandomState>,
 }
 
 /// A namespace, and those of its subtree that its keys are marked in.
-struct Reach {
+struct Scope {
     root: Text,
     names: Vec<Text>,
     /// Whether these are the namespaces that take part in the subtree now.
@@ -37,13 +37,13 @@ struct Reach {
 
 impl Drop for Spread {
     fn drop(self) {
-        let Spread { reach: _, ids: _ } = self;
+        let Spread { scope: _, ids: _ } = self;
     }
 }
 
-impl Drop for Reach {
+impl Drop for Scope {
     fn drop(self) {
-        let Reach {
+        let Scope {
             root: _,
             names: _,
             current: _,
@@ -54,37 +54,37 @@ impl Drop for Reach {
 impl Model for Spread {
     ghost use Rattle.indexmap.specs.IndexSet.{spare};
     ghost use Rattle.hx_queue.specs.Spread.{SpreadView, spread_code, IsSpread};
-    ghost use Rattle.hx_queue.specs.Spreading.{reach_of};
+    ghost use Rattle.hx_queue.specs.Spreading.{scope_of};
 
     ghost Value = { SpreadView };
 
     ghost coded = { spread_code };
 
-    ghost view = { λ s. record { reach = reach_of s.reach; ids = s.ids.keys; room = spare s.ids } };
+    ghost view = { λ s. record { scope = scope_of s.scope; ids = s.ids.keys; room = spare s.ids } };
 
-    ghost invariant = { λ s. IsSpread (reach_of s.reach) s.ids.keys };
+    ghost invariant = { λ s. IsSpread (scope_of s.scope) s.ids.keys };
 }
 
 impl Spread {
     /// Nothing is marked as a whole. It takes no memory.
     pub(crate) fn new(alloc: Global, keys: RandomState) -> Spread
-        ensures reach { result.reach ≡ None }
+        ensures scope { result.scope ≡ None }
         ensures ids { result.ids ≡ [] }
     {
         Spread {
-            reach: None,
+            scope: None,
             ids: IndexSet::with_hasher(alloc, keys),
         }
     }
 
     /// The namespace at the top of the reach, while that is current.
     pub(crate) fn root(&self) -> Option<&Text>
-        ensures { option_copied result ≡ root_of self.now.reach }
+        ensures { option_copied result ≡ root_of self.now.scope }
     {
-        match &self.reach {
-            Some(reach) => {
-                if reach.current {
-                    Some(&reach.root)
+        match &self.scope {
+            Some(scope) => {
+                if scope.current {
+                    Some(&scope.root)
                 } else {
                     None
                 }
@@ -103,17 +103,17 @@ impl Spread {
 
     /// Whether one more object's keys may be marked as a whole.
     pub(crate) fn fits(&self) -> bool
-        ensures { result ≡ true → HasPlace self.now.reach self.now.ids }
+        ensures { result ≡ true → HasPlace self.now.scope self.now.ids }
     {
-        match &self.reach {
-            Some(reach) => has_place(self.ids.len(), reach.names.len()),
+        match &self.scope {
+            Some(scope) => has_place(self.ids.len(), scope.names.len()),
             None => true,
         }
     }
 
     /// Makes room for one more object. Where no memory is left, the room stays.
     pub(crate) fn reserve(&mut self) -> Result<(), NoMemory>
-        ensures reach { self.new.reach ≡ self.old.reach }
+        ensures scope { self.new.scope ≡ self.old.scope }
         ensures ids { self.new.ids ≡ self.old.ids }
         ensures room { OnOk result (1 ≤ self.new.room) }
         ensures kept { self.old.room ≤ self.new.room }
@@ -125,11 +125,11 @@ impl Spread {
     pub(crate) fn set(&mut self, root: Text, names: Vec<Text>)
         requires empty { self.old.ids ≡ [] }
         requires distinct { IsDistinct bytes_eq names.items }
-        ensures reach { self.new.reach ≡ Some (record { root = root; names = names.items; current = true }) }
+        ensures scope { self.new.scope ≡ Some (record { root = root; names = names.items; current = true }) }
         ensures ids { self.new.ids ≡ [] }
         ensures room { self.new.room ≡ self.old.room }
     {
-        self.reach = Some(Reach {
+        self.scope = Some(Scope {
             root,
             names,
             current: true,
@@ -139,11 +139,11 @@ impl Spread {
     /// Marks the keys of an object's kind and name in all of the reach. It takes no memory.
     #[tactic(auto, unfolding(crate::specs::Spread::equal_ids))]
     pub(crate) fn add(&mut self, id: Id)
-        requires at { IsSomeAnd self.old.reach (λ r. r.root ≡ id.ns) }
+        requires at { IsSomeAnd self.old.scope (λ r. r.root ≡ id.ns) }
         requires room { 0 < self.old.room }
-        requires fits { HasPlace self.old.reach self.old.ids }
+        requires fits { HasPlace self.old.scope self.old.ids }
         ensures ids { self.new.ids ≡ with_id id self.old.ids }
-        ensures reach { self.new.reach ≡ self.old.reach }
+        ensures scope { self.new.scope ≡ self.old.scope }
         ensures room { self.old.room ≤ self.new.room + 1 }
     {
         let _added = self.ids.insert(id);
@@ -159,12 +159,12 @@ impl Spread {
         let Key::Copy { ns: _, kind, name } = key else {
             return Ok(false);
         };
-        let Some(reach) = &self.reach else {
+        let Some(scope) = &self.scope else {
             return Ok(false);
         };
         let id = Id {
             kind: *kind,
-            ns: reach.root.clone()?,
+            ns: scope.root.clone()?,
             name: name.clone()?,
         };
         Ok(self.ids.contains(&id))
@@ -173,48 +173,48 @@ impl Spread {
     /// The keys of the first object go in line.
     pub(crate) fn line_up(&mut self, queue: &mut Queue) -> Result<(), NoMemory>
         requires { (k : key_of) → is_held queue.old k ≡ true → is_spread self.old.ids k ≡ false }
-        ensures waiting { waiting_in queue.new.waiting (keys_in self.new.reach self.new.ids) ≡ waiting_in queue.old.waiting (keys_in self.old.reach self.old.ids) }
+        ensures waiting { waiting_in queue.new.waiting (keys_in self.new.scope self.new.ids) ≡ waiting_in queue.old.waiting (keys_in self.old.scope self.old.ids) }
         ensures held { queue.new.held ≡ queue.old.held }
         ensures ids { OnOk result (self.new.ids ≡ drop 1 self.old.ids) }
         ensures kept { OnErr result (self.new.ids ≡ self.old.ids) }
-        ensures reach { self.new.reach ≡ self.old.reach }
+        ensures scope { self.new.scope ≡ self.old.scope }
         ensures room { self.old.room ≤ self.new.room }
     {
         let Some(id) = self.ids.first() else {
             return Ok(());
         };
-        mark_in(queue, &self.reach, id)?;
+        mark_in(queue, &self.scope, id)?;
         let _first = self.ids.shift_remove_index(0);
         Ok(())
     }
 
     /// The tree changes: the reach isn't current any more. What is marked as a whole stays.
     pub(crate) fn outdate(&mut self)
-        ensures reach { self.new.reach ≡ outdated self.old.reach }
+        ensures scope { self.new.scope ≡ outdated self.old.scope }
         ensures ids { self.new.ids ≡ self.old.ids }
         ensures room { self.new.room ≡ self.old.room }
     {
-        if let Some(reach) = &mut self.reach {
-            reach.current = false;
+        if let Some(scope) = &mut self.scope {
+            scope.current = false;
         }
     }
 
     /// How many keys wait, in line and marked as a whole. It takes no memory.
     pub(crate) fn count(&self, queue: &Queue) -> usize
-        ensures { result ≡ length (waiting_in queue.now.waiting (keys_in self.now.reach self.now.ids)) }
+        ensures { result ≡ length (waiting_in queue.now.waiting (keys_in self.now.scope self.now.ids)) }
     {
         queue.law_most();
         if self.ids.is_empty() {
             return queue.waiting();
         }
-        let Some(reach) = &self.reach else {
+        let Some(scope) = &self.scope else {
             return queue.waiting();
         };
-        queue.waiting() + absent_in(&reach.names, self.ids.as_slice(), queue)
+        queue.waiting() + absent_in(&scope.names, self.ids.as_slice(), queue)
     }
     /// A theorem: no key that was marked as a whole is there twice.
     pub(crate) fn law_distinct(&self)
-        ensures { IsDistinct same_key (keys_in self.now.reach self.now.ids) }
+        ensures { IsDistinct same_key (keys_in self.now.scope self.now.ids) }
     {
         let _ids = self.ids.len();
     }
@@ -243,17 +243,17 @@ fn key_in(ns: &Text, id: &Id) -> Result<Key, NoMemory>
 }
 
 // Marks the keys of an object's kind and name, in the namespaces of a reach. Where no memory is left, only the first ones are marked.
-fn mark_in(queue: &mut Queue, reach: &Option<Reach>, id: &Id) -> Result<(), NoMemory>
-    requires distinct { IsDistinct bytes_eq (names_in (reach_of reach.now)) }
+fn mark_in(queue: &mut Queue, scope: &Option<Scope>, id: &Id) -> Result<(), NoMemory>
+    requires distinct { IsDistinct bytes_eq (names_in (scope_of scope.now)) }
     requires free { (k : key_of) → is_place_of id.now k ≡ true → is_held queue.old k ≡ false }
     ensures held { queue.new.held ≡ queue.old.held }
-    ensures some { AreLinedUp (place_keys (names_in (reach_of reach.now)) id.now) queue.old.waiting queue.new.waiting }
-    ensures all { OnOk result (queue.new.waiting ≡ waiting_in queue.old.waiting (place_keys (names_in (reach_of reach.now)) id.now)) }
+    ensures some { AreLinedUp (place_keys (names_in (scope_of scope.now)) id.now) queue.old.waiting queue.new.waiting }
+    ensures all { OnOk result (queue.new.waiting ≡ waiting_in queue.old.waiting (place_keys (names_in (scope_of scope.now)) id.now)) }
 {
-    match reach {
-        Some(reach) => {
-            queue.reserve(reach.names.len())?;
-            mark_places(queue, &reach.names, id)
+    match scope {
+        Some(scope) => {
+            queue.reserve(scope.names.len())?;
+            mark_places(queue, &scope.names, id)
         }
         None => Ok(()),
     }

@@ -5,7 +5,7 @@ ghost use Rattle.std.specs.Str.{bytes_eq};
 ghost use Rattle.std.specs.Vec.{vec_capacity};
 ghost use Rattle.hx_model.specs.Hands.{Hand, hand_of, is_held, without_hand};
 ghost use Rattle.hx_model.specs.Keys.{is_among};
-ghost use Rattle.hx_rules.specs.Briefs.{hand_by};
+ghost use Rattle.hx_reconcile.specs.Briefs.{hand_by};
 ghost use Rattle.hx_queue.specs.Spread.{is_place_of, is_spread, names_in, outdated, place_keys, root_of};
 ghost use Rattle.hx_queue.specs.Tied.{IsFree, LinesUp, MarksEach, hands_of};
 ghost use Rattle.hx_queue.specs.Workers.{AreApart, IsMarkedBy, IsTakenBy, IsLetGo, MaySpread, no_work};
@@ -14,7 +14,7 @@ use crate::queue::Queue;
 use crate::spread::Spread;
 use hx_model::Key;
 use hx_object::{Id, NoMemory, Text};
-use hx_rules::SharedBrief;
+use hx_reconcile::SharedBrief;
 use std::alloc::Global;
 use std::hash::RandomState;
 use std::marker::Model;
@@ -65,7 +65,7 @@ impl Workers {
     /// Nobody holds anything, and no key waits. It takes no memory.
     pub fn new(alloc: Global, keys: RandomState) -> Workers
         ensures seen { result.seen ≡ no_work }
-        ensures reach { result.reach ≡ None }
+        ensures scope { result.scope ≡ None }
         ensures spread { result.spread ≡ [] }
     {
         Workers {
@@ -96,7 +96,7 @@ impl Workers {
         ensures first { IfOk result (λ o. o ≡ slice_get self.old.seen.waiting 0) }
         ensures free { IfOk result (λ o. IfSome o (λ key. is_held key self.old.seen.hands ≡ false)) }
         ensures seen { self.new.seen ≡ self.old.seen }
-        ensures reach { self.new.reach ≡ self.old.reach }
+        ensures scope { self.new.scope ≡ self.old.scope }
     {
         line_up_first(&mut self.queue, &mut self.spread)?;
         self.queue.law_apart();
@@ -121,7 +121,7 @@ impl Workers {
     pub fn reserve(&mut self, more: usize) -> Result<(), NoMemory>
         ensures seen { self.new.seen ≡ self.old.seen }
         ensures room { OnOk result (more ≤ self.new.spare) }
-        ensures reach { self.new.reach ≡ self.old.reach }
+        ensures scope { self.new.scope ≡ self.old.scope }
         ensures spread { self.new.spread ≡ self.old.spread }
         ensures places { self.new.places ≡ self.old.places }
     {
@@ -132,7 +132,7 @@ impl Workers {
     /// Brings the keys in line that were marked as a whole with this one.
     pub fn line_up(&mut self, key: &Key) -> Result<(), NoMemory>
         ensures seen { self.new.seen ≡ self.old.seen }
-        ensures reach { self.new.reach ≡ self.old.reach }
+        ensures scope { self.new.scope ≡ self.old.scope }
         ensures apart { OnOk result (is_spread self.new.spread key.now ≡ false) }
     {
         line_up_with(&mut self.queue, &mut self.spread, key)
@@ -146,7 +146,7 @@ impl Workers {
         requires free { is_held key self.old.seen.hands ≡ false }
         requires apart { is_spread self.old.spread key ≡ false }
         ensures taken { IsTakenBy (hand_by worker brief) self.old.seen self.new.seen }
-        ensures reach { self.new.reach ≡ self.old.reach }
+        ensures scope { self.new.scope ≡ self.old.scope }
         ensures spread { self.new.spread ≡ self.old.spread }
     {
         self.queue.hold(worker, key);
@@ -158,7 +158,7 @@ impl Workers {
         requires { length keys.items ≤ self.old.spare }
         ensures marked { IsMarkedBy keys.items self.old.seen self.new.seen }
         ensures room { self.old.spare ≤ self.new.spare + length keys.items }
-        ensures reach { self.new.reach ≡ self.old.reach }
+        ensures scope { self.new.scope ≡ self.old.scope }
         ensures spread { self.new.spread ≡ self.old.spread }
         ensures places { self.new.places ≡ self.old.places }
     {
@@ -170,7 +170,7 @@ impl Workers {
         ensures none { IfNone result ((hand_of worker self.old.seen.hands ≡ None) × (self.new.seen ≡ self.old.seen)) }
         ensures some { IfSome result (λ brief. (hand_of worker self.old.seen.hands ≡ Some (hand_by worker brief)) × IsLetGo worker brief.key waits self.old.seen self.new.seen) }
         ensures room { self.old.spare ≤ self.new.spare }
-        ensures reach { self.new.reach ≡ self.old.reach }
+        ensures scope { self.new.scope ≡ self.old.scope }
         ensures spread { self.new.spread ≡ self.old.spread }
     {
         match give_up(&mut self.hands, worker) {
@@ -184,7 +184,7 @@ impl Workers {
 
     /// The namespace in whose subtree keys are marked as a whole, while the reach is current.
     pub fn root(&self) -> Option<&Text>
-        ensures { option_copied result ≡ root_of self.now.reach }
+        ensures { option_copied result ≡ root_of self.now.scope }
     {
         self.spread.root()
     }
@@ -198,10 +198,10 @@ impl Workers {
     }
 
     /// Sets where keys are marked as a whole, while none are: a namespace, and those of its subtree that its keys are marked in. It takes no memory.
-    pub fn set_reach(&mut self, root: Text, names: Vec<Text>)
+    pub fn set_scope(&mut self, root: Text, names: Vec<Text>)
         requires empty { self.old.spread ≡ [] }
         requires distinct { IsDistinct bytes_eq names.items }
-        ensures reach { self.new.reach ≡ Some (record { root = root; names = names.items; current = true }) }
+        ensures scope { self.new.scope ≡ Some (record { root = root; names = names.items; current = true }) }
         ensures seen { self.new.seen ≡ self.old.seen }
         ensures spread { self.new.spread ≡ [] }
         ensures spare { self.new.spare ≡ self.old.spare }
@@ -213,7 +213,7 @@ impl Workers {
     /// Makes room for one object whose keys are marked as a whole. Where no memory is left, the room stays.
     pub fn reserve_spread(&mut self) -> Result<(), NoMemory>
         ensures seen { self.new.seen ≡ self.old.seen }
-        ensures reach { self.new.reach ≡ self.old.reach }
+        ensures scope { self.new.scope ≡ self.old.scope }
         ensures spread { self.new.spread ≡ self.old.spread }
         ensures spare { self.new.spare ≡ self.old.spare }
         ensures places { OnOk result (1 ≤ self.new.places) }
@@ -224,18 +224,18 @@ impl Workers {
 
     /// Whether the keys of an object's kind and name may be marked as a whole: none of them is held, and there aren't too many already.
     pub fn may_spread(&self, id: &Id) -> bool
-        ensures { result ≡ true → MaySpread id.now self.now.seen.hands self.now.reach self.now.spread }
+        ensures { result ≡ true → MaySpread id.now self.now.seen.hands self.now.scope self.now.spread }
     {
         self.spread.fits() && !holds_place(self.hands.as_slice(), id)
     }
 
     /// Marks the keys of an object's kind and name in all of the reach. It takes no memory.
     pub fn mark_spread(&mut self, id: Id)
-        requires at { IsSomeAnd self.old.reach (λ r. r.root ≡ id.ns) }
+        requires at { IsSomeAnd self.old.scope (λ r. r.root ≡ id.ns) }
         requires room { 1 ≤ self.old.places }
-        requires may { MaySpread id self.old.seen.hands self.old.reach self.old.spread }
-        ensures marked { IsMarkedBy (place_keys (names_in self.old.reach) id) self.old.seen self.new.seen }
-        ensures reach { self.new.reach ≡ self.old.reach }
+        requires may { MaySpread id self.old.seen.hands self.old.scope self.old.spread }
+        ensures marked { IsMarkedBy (place_keys (names_in self.old.scope) id) self.old.seen self.new.seen }
+        ensures scope { self.new.scope ≡ self.old.scope }
         ensures spare { self.new.spare ≡ self.old.spare }
     {
         self.spread.add(id);
@@ -244,7 +244,7 @@ impl Workers {
     /// The tree has changed: the reach isn't current any more. What was marked as a whole stays. It takes no memory.
     pub fn outdate(&mut self)
         ensures seen { self.new.seen ≡ self.old.seen }
-        ensures reach { self.new.reach ≡ outdated self.old.reach }
+        ensures scope { self.new.scope ≡ outdated self.old.scope }
         ensures spread { self.new.spread ≡ self.old.spread }
         ensures spare { self.new.spare ≡ self.old.spare }
         ensures places { self.new.places ≡ self.old.places }

@@ -3,7 +3,7 @@ ghost use Rattle.std.specs.Prelude.{◌≡◌, ◌++◌, List, ℕ, OnOk, codes,
 ghost use Rattle.hx_object.specs.Kinds.{plural_of};
 ghost use Rattle.hx_model.specs.Machine.{Took, Finished, Dropped, Checked, LostTake};
 ghost use Rattle.hx_model.specs.declared.key.Key.{Key as NamedBy};
-ghost use Rattle.hx_rules.specs.declared.brief.Brief.{Brief};
+ghost use Rattle.hx_reconcile.specs.declared.brief.Brief.{Brief};
 ghost use Rattle.hx_core.specs.Turns.{take_entry, take_key_entry, IsOfKey};
 ghost use Rattle.hx_script.specs.Inside.{pieced_line, texts_of};
 ghost use Rattle.hx_script.specs.Running.{SaysText};
@@ -14,7 +14,7 @@ use hx_core::{Settle, Take, Turned};
 use hx_model::{Finish, Key};
 use hx_object::{Kind, NoMemory, Text};
 use hx_ports::Sink;
-use hx_rules::SharedBrief;
+use hx_reconcile::SharedBrief;
 use itoa::Buffer;
 
 // ---- takes

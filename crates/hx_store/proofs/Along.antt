@@ -1,4 +1,4 @@
--- Places that are walked: what a push, a write and a removal do to the look-ups.
+-- ObjectTable that are walked: what a push, a write and a removal do to the look-ups.
 use Rattle.std.proofs.Common.{◌≡◌, ℕ, zero, suc, Bool, true, false, cond, not, Option, Some, None, List, [], ◌∷◌, ◌++◌, ◌<◌, ◌≤◌, length, get_or, drop, drop-cons, ◌+◌, arith, refl, sym, ap, subst, ◌∙◌, true≢false}
 use Rattle.std.specs.Prelude.{is_some, IsSome, position, slice_set}
 use Rattle.std.specs.List.{IsDistinct, filter, position_or_len}
@@ -16,7 +16,7 @@ use Rattle.std.proofs.lemmas.Map.Keys.{IsDistinct-push}
 use Rattle.std.proofs.lemmas.Map.Made.{IsDistinct-keys_filter, is_some-lookup}
 use Rattle.std.proofs.lemmas.Slice.Eq.{bytes_eq-Decides}
 use Rattle.hx_object.specs.declared.object.Object.{Object}
-use Rattle.hx_store.specs.Places.{Place, added, filled, made, swept}
+use Rattle.hx_store.specs.ObjectTable.{Place, added, filled, made, swept}
 use Rattle.hx_store.proofs.Edits.{one_name, set_edits}
 use Rattle.hx_store.proofs.Finding.{or_none}
 use Rattle.hx_store.proofs.Least.{Entry, place_among}
@@ -125,7 +125,7 @@ module _ (name : List ℕ) (es new : List Entry) (is : new ≡ filter (λ e. not
   pub filter_distinct : IsDistinct bytes_eq (keys_of es) → IsDistinct bytes_eq (keys_of new)
   filter_distinct distinct = subst (λ fs. IsDistinct bytes_eq (keys_of fs)) (sym is) (IsDistinct-keys_filter bytes_eq (λ e. not (bytes_eq name e.0)) es distinct)
 
--- ---- places that go to a shelf one by one
+-- ---- places that go to a table of names one by one
 
 -- what was there, or lies in the entries that are left
 abbrev pub either_place : Place → List Entry → List ℕ → Place
@@ -152,7 +152,7 @@ next_place es i x old new is within edits q all =
 pub all_added : (es : List Entry) (i : ℕ) (new : Place) (q : List ℕ) → length es ≤ i → either_place new (drop i es) q ≡ place_among es q → new ≡ place_among es q
 all_added es i new q past all = sym (or_none new) ∙ ap (λ fs. either_place new fs q) (sym (drop_all i es past)) ∙ all
 
--- ---- a rack of one place
+-- ---- a list of names of one place
 
-pub one_rack : (es : List Entry) (e : Entry) → es ≡ e ∷ [] → IsDistinct bytes_eq (keys_of es)
-one_rack es e is = subst (λ fs. IsDistinct bytes_eq (keys_of fs)) (sym is) (one_name e.0)
+pub one_name_list : (es : List Entry) (e : Entry) → es ≡ e ∷ [] → IsDistinct bytes_eq (keys_of es)
+one_name_list es e is = subst (λ fs. IsDistinct bytes_eq (keys_of fs)) (sym is) (one_name e.0)

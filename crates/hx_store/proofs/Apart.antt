@@ -12,9 +12,9 @@ use Rattle.hx_object.specs.declared.kind.Kind.{Kind}
 use Rattle.hx_object.specs.declared.object.Id.{Id}
 use Rattle.hx_object.specs.declared.object.Object.{Object}
 use Rattle.hx_model.specs.State.{same_id, object_at}
-use Rattle.hx_store.specs.Places.{entries_of, AreShelves, AreDistinct, found, place_in, place_of, of_place, objects_in, objects_of}
-use Rattle.hx_store.specs.declared.board.Board.{Board}
-use Rattle.hx_store.specs.declared.shelves.Shelves.{Shelves}
+use Rattle.hx_store.specs.ObjectTable.{entries_of, IsKindTable, AreDistinct, found, place_in, place_of, of_place, objects_in, objects_of}
+use Rattle.hx_store.specs.declared.name_map.NameMap.{NameMap}
+use Rattle.hx_store.specs.declared.namespaces.KindTable.{KindTable}
 use Rattle.hx_store.proofs.Finding.{none_among, each, level, id_of, apart_in, apart_of, own_in}
 
 -- no identity is that of a later object
@@ -53,31 +53,31 @@ module _ {V : Type 0} (f : V → List Object) where
           level f x.id (key x.id) es (IsDistinct-tail bytes_eq e.0 (keys_of es) distinct) (others x.id).1
           ∙ ap (option_and_then (λ v. object_at (f v) x.id)) (none_among e.0 (key x.id) es ((bytes_eq-Decides (key x.id) e.0).1 same) (IsDistinct-head bytes_eq e.0 (keys_of es) distinct))
 
-module _ (kind : Kind) (ns : List ℕ) (board : Board) (distinct : AreDistinct board) (own : (m : List ℕ) (x : Object) → found (place_in board m) ≡ Some x → x.id ≡ id_of kind ns m) where
-  named : (m : List ℕ) (v : Option Object) → place_in board m ≡ Some v → AllByRecursion (λ x. x.id.name ≡ m) (of_place v)
+module _ (kind : Kind) (ns : List ℕ) (name_map : NameMap) (distinct : AreDistinct name_map) (own : (m : List ℕ) (x : Object) → found (place_in name_map m) ≡ Some x → x.id ≡ id_of kind ns m) where
+  named : (m : List ℕ) (v : Option Object) → place_in name_map m ≡ Some v → AllByRecursion (λ x. x.id.name ≡ m) (of_place v)
   named m None e = tt
   named m (Some x) e = (ap (λ (i : Id). i.name) (own m x (ap found e)), tt)
 
-  pub lies_in : AllByRecursion (λ x. x.id.ns ≡ ns) (objects_in board)
-  lies_in = all_flat of_place (λ x. x.id.ns ≡ ns) (entries_of board) (each (λ m v. AllByRecursion (λ x. x.id.ns ≡ ns) (of_place v)) (entries_of board) distinct lies)
+  pub lies_in : AllByRecursion (λ x. x.id.ns ≡ ns) (objects_in name_map)
+  lies_in = all_flat of_place (λ x. x.id.ns ≡ ns) (entries_of name_map) (each (λ m v. AllByRecursion (λ x. x.id.ns ≡ ns) (of_place v)) (entries_of name_map) distinct lies)
     where
-      lies : (m : List ℕ) (v : Option Object) → place_in board m ≡ Some v → AllByRecursion (λ x. x.id.ns ≡ ns) (of_place v)
+      lies : (m : List ℕ) (v : Option Object) → place_in name_map m ≡ Some v → AllByRecursion (λ x. x.id.ns ≡ ns) (of_place v)
       lies m None e = tt
       lies m (Some x) e = (ap (λ (i : Id). i.ns) (own m x (ap found e)), tt)
 
-  pub board_apart : AreApart (objects_in board)
-  board_apart = flat_apart of_place (λ i. i.name) (entries_of board) distinct
-      (each (λ m v. AreApart (of_place v)) (entries_of board) distinct (λ m v e. one v))
-      (each (λ m v. AllByRecursion (λ x. x.id.name ≡ m) (of_place v)) (entries_of board) distinct named)
-      (λ q. each (λ m v. bytes_eq q.name m ≡ false → object_at (of_place v) q ≡ None) (entries_of board) distinct (apart_in kind ns board distinct own q))
+  pub name_map_apart : AreApart (objects_in name_map)
+  name_map_apart = flat_apart of_place (λ i. i.name) (entries_of name_map) distinct
+      (each (λ m v. AreApart (of_place v)) (entries_of name_map) distinct (λ m v e. one v))
+      (each (λ m v. AllByRecursion (λ x. x.id.name ≡ m) (of_place v)) (entries_of name_map) distinct named)
+      (λ q. each (λ m v. bytes_eq q.name m ≡ false → object_at (of_place v) q ≡ None) (entries_of name_map) distinct (apart_in kind ns name_map distinct own q))
     where
       one : (v : Option Object) → AreApart (of_place v)
       one None = tt
       one (Some x) = (refl, tt)
 
-module _ (kind : Kind) (shelves : Shelves) (distinct : AreShelves shelves) (own : (n m : List ℕ) (x : Object) → found (place_of shelves n m) ≡ Some x → x.id ≡ id_of kind n m) where
-  pub shelves_apart : AreApart (objects_of shelves)
-  shelves_apart = flat_apart objects_in (λ i. i.ns) shelves.shelves.entries distinct.0
-      (each (λ n board. AreApart (objects_in board)) shelves.shelves.entries distinct.0 (λ n board e. board_apart kind n board (distinct.1 n board e).0.0 (own_in kind shelves distinct own n board e)))
-      (each (λ n board. AllByRecursion (λ x. x.id.ns ≡ n) (objects_in board)) shelves.shelves.entries distinct.0 (λ n board e. lies_in kind n board (distinct.1 n board e).0.0 (own_in kind shelves distinct own n board e)))
-      (λ q. each (λ n board. bytes_eq q.ns n ≡ false → object_at (objects_in board) q ≡ None) shelves.shelves.entries distinct.0 (apart_of kind shelves distinct own q))
+module _ (kind : Kind) (kind_table : KindTable) (distinct : IsKindTable kind_table) (own : (n m : List ℕ) (x : Object) → found (place_of kind_table n m) ≡ Some x → x.id ≡ id_of kind n m) where
+  pub kind_table_apart : AreApart (objects_of kind_table)
+  kind_table_apart = flat_apart objects_in (λ i. i.ns) kind_table.namespaces.entries distinct.0
+      (each (λ n name_map. AreApart (objects_in name_map)) kind_table.namespaces.entries distinct.0 (λ n name_map e. name_map_apart kind n name_map (distinct.1 n name_map e).0.0 (own_in kind kind_table distinct own n name_map e)))
+      (each (λ n name_map. AllByRecursion (λ x. x.id.ns ≡ n) (objects_in name_map)) kind_table.namespaces.entries distinct.0 (λ n name_map e. lies_in kind n name_map (distinct.1 n name_map e).0.0 (own_in kind kind_table distinct own n name_map e)))
+      (λ q. each (λ n name_map. bytes_eq q.ns n ≡ false → object_at (objects_in name_map) q ≡ None) kind_table.namespaces.entries distinct.0 (apart_of kind kind_table distinct own q))

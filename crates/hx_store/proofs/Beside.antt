@@ -7,10 +7,10 @@ use Rattle.std.specs.List.{list_any}
 use Rattle.std.specs.Str.{bytes_eq}
 use Rattle.std.proofs.lemmas.Slice.Eq.{bytes_eq-Decides}
 use Rattle.hx_object.specs.declared.kind.Kind.{Kind}
-use Rattle.hx_store.specs.Places.{IsSound, HasNoOther, found, is_of_another, objects_at, place_at}
+use Rattle.hx_store.specs.ObjectTable.{IsSound, HasNoOther, found, is_of_another, objects_at, place_at}
 use Rattle.hx_store.specs.Sources.{HasNoneBeside, indexed_in}
 use Rattle.hx_store.specs.ByName.{IsIndex, entry_place}
-use Rattle.hx_store.specs.declared.places.Places.{Places}
+use Rattle.hx_store.specs.declared.object_table.ObjectTable.{ObjectTable}
 use Rattle.hx_store.specs.declared.by_name.ByName.{ByName}
 use Rattle.hx_store.proofs.Edits.{none_from}
 use Rattle.hx_store.proofs.Finding.{found_at, id_of}
@@ -32,7 +32,7 @@ none_another name (e ∷ es) none q apart = by (none_another name es parts.1 q a
     by rest false other = rest
 
 -- what the index has no place for lies in no other namespace
-pub none_beside : (places : Places) (by_name : ByName) → IsSound places → IsIndex by_name places → (kind : Kind) (name ns : List ℕ) → HasNoOther (entry_place by_name kind name) ns → HasNoneBeside (objects_at places) kind name ns
+pub none_beside : (places : ObjectTable) (by_name : ByName) → IsSound places → IsIndex by_name places → (kind : Kind) (name ns : List ℕ) → HasNoOther (entry_place by_name kind name) ns → HasNoneBeside (objects_at places) kind name ns
 none_beside places by_name sound index kind name ns none m apart = ap indexed_in (found_at places sound (id_of kind m name)) ∙ by (is_some (indexed_in (found (place_at places (id_of kind m name))))) refl
   where
     by : (b : Bool) → is_some (indexed_in (found (place_at places (id_of kind m name)))) ≡ b → indexed_in (found (place_at places (id_of kind m name))) ≡ None

@@ -8,9 +8,9 @@ use Rattle.hx_object.specs.Kinds.{number_of}
 use Rattle.hx_object.specs.declared.kind.Kind.{Kind}
 use Rattle.hx_object.specs.declared.kind.Kind.TheVariants.{Namespace, HncConfiguration, HierarchyConfiguration, SubnamespaceAnchor, HierarchicalResourceQuota, Role, RoleBinding, ConfigMap, Secret, NetworkPolicy, LimitRange, Pod, Service, PersistentVolumeClaim}
 use Rattle.hx_object.specs.declared.object.Id.{Id}
-use Rattle.hx_store.specs.Places.{Place, EditsShelves, EditsPlaces, AreShelves, ArePlaces, place_of, place_at}
-use Rattle.hx_store.specs.declared.shelves.Shelves.{Shelves}
-use Rattle.hx_store.specs.declared.places.Places.{Places}
+use Rattle.hx_store.specs.ObjectTable.{Place, EditsKindTable, EditsObjectTable, IsKindTable, IsObjectTable, place_of, place_at}
+use Rattle.hx_store.specs.declared.namespaces.KindTable.{KindTable}
+use Rattle.hx_store.specs.declared.object_table.ObjectTable.{ObjectTable}
 
 -- numbers begin with one
 pub number_of-least : (k : Kind) → 1 ≤ number_of k
@@ -42,18 +42,18 @@ module _ {X : Type 0} where
   slice_get-set_other (x ∷ xs) (suc i) zero v apart = refl
   slice_get-set_other (x ∷ xs) (suc i) (suc j) v apart = slice_get-set_other xs i j v (λ e. apart (ap suc e))
 
-module _ (old : Places) (i : ℕ) (d now : Shelves) (id : Id) (long : length old.kinds ≡ 14) (within : i < 14) (at : i ≡ number_of id.kind - 1) where
+module _ (old : ObjectTable) (i : ℕ) (d now : KindTable) (id : Id) (long : length old.kinds ≡ 14) (within : i < 14) (at : i ≡ number_of id.kind - 1) where
   there : slice_get old.kinds i ≡ Some (get_or old.kinds i d)
   there = slice_get-get_or old.kinds i d (omega arith)
 
-  pub set_edits : (g : Place → Place) (ns name : List ℕ) → ns ≡ id.ns → name ≡ id.name → EditsShelves g (get_or old.kinds i d) now ns name → EditsPlaces g old (record { kinds = slice_set old.kinds i now }) id
+  pub set_edits : (g : Place → Place) (ns name : List ℕ) → ns ≡ id.ns → name ≡ id.name → EditsKindTable g (get_or old.kinds i d) now ns name → EditsObjectTable g old (record { kinds = slice_set old.kinds i now }) id
   set_edits g ns name same_ns same_name edits q = by (number_of id.kind == number_of q.kind) refl
     where
-      new : Places
+      new : ObjectTable
       new = record { kinds = slice_set old.kinds i now }
 
-      edited : EditsShelves g (get_or old.kinds i d) now id.ns id.name
-      edited = subst (λ n. EditsShelves g (get_or old.kinds i d) now n id.name) same_ns (subst (λ m. EditsShelves g (get_or old.kinds i d) now ns m) same_name edits)
+      edited : EditsKindTable g (get_or old.kinds i d) now id.ns id.name
+      edited = subst (λ n. EditsKindTable g (get_or old.kinds i d) now n id.name) same_ns (subst (λ m. EditsKindTable g (get_or old.kinds i d) now ns m) same_name edits)
 
       by : (b : Bool) → (number_of id.kind == number_of q.kind) ≡ b → place_at (record { kinds = slice_set old.kinds i now }) q ≡ cond (b && bytes_eq id.ns q.ns && bytes_eq id.name q.name) (g (place_at old q)) (place_at old q)
       by true e =
@@ -66,12 +66,12 @@ module _ (old : Places) (i : ℕ) (d now : Shelves) (id : Id) (long : length old
           let apart : i ≢ number_of q.kind - 1 = λ same. true≢false (sym (eq-eqb (number_of id.kind) (number_of q.kind) (omega (arith, number_of-least id.kind, number_of-least q.kind))) ∙ e) in
           ap (option_and_then (λ s. place_of s q.ns q.name)) (slice_get-set_other old.kinds i (number_of q.kind - 1) now apart)
 
-  pub set_places : (AreShelves (get_or old.kinds i d) → AreShelves now) → ArePlaces old → ArePlaces (record { kinds = slice_set old.kinds i now })
+  pub set_places : (IsKindTable (get_or old.kinds i d) → IsKindTable now) → IsObjectTable old → IsObjectTable (record { kinds = slice_set old.kinds i now })
   set_places keeps were = (length-set old.kinds i now ∙ long, λ j s e. by j s e (i == j) refl)
     where
-      by : (j : ℕ) (s : Shelves) → slice_get (slice_set old.kinds i now) j ≡ Some s → (b : Bool) → (i == j) ≡ b → AreShelves s
+      by : (j : ℕ) (s : KindTable) → slice_get (slice_set old.kinds i now) j ≡ Some s → (b : Bool) → (i == j) ≡ b → IsKindTable s
       by j s e true same =
           let is_now : slice_get (slice_set old.kinds i now) j ≡ Some now = subst (λ k. slice_get (slice_set old.kinds i now) k ≡ Some now) (eqb-true i j same) (slice_get-set_same old.kinds i now (omega arith)) in
           let this : now ≡ s = cc in
-          subst AreShelves this (keeps (were.1 i (get_or old.kinds i d) there))
+          subst IsKindTable this (keeps (were.1 i (get_or old.kinds i d) there))
       by j s e false same = were.1 j s (sym (slice_get-set_other old.kinds i j now (λ k. true≢false (sym (eq-eqb i j k) ∙ same))) ∙ e)

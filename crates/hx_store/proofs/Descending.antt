@@ -1,4 +1,4 @@
--- Places whose names descend: the last one has the least name.
+-- ObjectTable whose names descend: the last one has the least name.
 use Rattle.std.proofs.Common.{◌≡◌, ℕ, ◌+◌, ◌-◌, zero, suc, false, Option, Some, None, List, [], ◌∷◌, ◌++◌, reverse, length, take, get_or, refl, sym, ap, subst, ◌∙◌, arith, true≢false}
 use Rattle.std.specs.Prelude.{is_some, IfSome, slice_get}
 use Rattle.std.specs.Ordering.{is_lt}
@@ -13,7 +13,7 @@ use Rattle.indexmap.proofs.MapLemmas.{lookup_permutation, sorted_keys}
 use Rattle.hx_object.specs.Texts.{bytes_cmp}
 use Rattle.hx_object.specs.declared.object.Object.{Object}
 use Rattle.hx_store.specs.Least.{Descends, IsLeast, is_less}
-use Rattle.hx_store.specs.Places.{found}
+use Rattle.hx_store.specs.ObjectTable.{found}
 use Rattle.hx_store.proofs.Least.{Entry, at_each, names_ranked, not_less_itself, place_among}
 
 -- ---- what a sort gives, turned round

@@ -18,10 +18,10 @@ use Rattle.hx_object.specs.declared.object.Object.{Object}
 use Rattle.hx_model.specs.State.{same_id, object_at}
 use Rattle.hx_model.proofs.Objects.{object_at-objects_from}
 use Rattle.hx_store.proofs.ByKind.{number_of-least}
-use Rattle.hx_store.specs.Places.{entries_of, Place, AreShelves, AreDistinct, IsSound, found, place_in, place_of, place_at, board_in, of_place, objects_in, objects_of, all_objects, objects_at}
-use Rattle.hx_store.specs.declared.board.Board.{Board}
-use Rattle.hx_store.specs.declared.shelves.Shelves.{Shelves}
-use Rattle.hx_store.specs.declared.places.Places.{Places}
+use Rattle.hx_store.specs.ObjectTable.{entries_of, Place, IsKindTable, AreDistinct, IsSound, found, place_in, place_of, place_at, name_map_in, of_place, objects_in, objects_of, all_objects, objects_at}
+use Rattle.hx_store.specs.declared.name_map.NameMap.{NameMap}
+use Rattle.hx_store.specs.declared.namespaces.KindTable.{KindTable}
+use Rattle.hx_store.specs.declared.object_table.ObjectTable.{ObjectTable}
 
 -- ---- keys that are texts
 
@@ -80,18 +80,18 @@ pub and_true : (b : Bool) → (b && true) ≡ b
 and_true true = refl
 and_true false = refl
 
-module _ (kind : Kind) (ns : List ℕ) (board : Board) (distinct : AreDistinct board) (own : (m : List ℕ) (x : Object) → found (place_in board m) ≡ Some x → x.id ≡ id_of kind ns m) where
-  pub apart_in : (q : Id) (m : List ℕ) (v : Option Object) → place_in board m ≡ Some v → bytes_eq q.name m ≡ false → object_at (of_place v) q ≡ None
+module _ (kind : Kind) (ns : List ℕ) (name_map : NameMap) (distinct : AreDistinct name_map) (own : (m : List ℕ) (x : Object) → found (place_in name_map m) ≡ Some x → x.id ≡ id_of kind ns m) where
+  pub apart_in : (q : Id) (m : List ℕ) (v : Option Object) → place_in name_map m ≡ Some v → bytes_eq q.name m ≡ false → object_at (of_place v) q ≡ None
   apart_in q m None e other = refl
   apart_in q m (Some x) e other =
       ap (λ i. cond (same_id q i) (Some x) None) (own m x (ap found e))
       ∙ ap (λ b. cond (number_of q.kind == number_of kind && bytes_eq q.ns ns && b) (Some x) None) other
       ∙ ap (λ b. cond {A = Option Object} b (Some x) None) (and_false (number_of q.kind == number_of kind && bytes_eq q.ns ns))
 
-  pub found_in : (q : Id) → object_at (objects_in board) q ≡ cond (number_of q.kind == number_of kind && bytes_eq q.ns ns) (found (place_in board q.name)) None
-  found_in q = level of_place q q.name (entries_of board) distinct (each (λ m v. bytes_eq q.name m ≡ false → object_at (of_place v) q ≡ None) (entries_of board) distinct (apart_in q)) ∙ by (place_in board q.name) refl
+  pub found_in : (q : Id) → object_at (objects_in name_map) q ≡ cond (number_of q.kind == number_of kind && bytes_eq q.ns ns) (found (place_in name_map q.name)) None
+  found_in q = level of_place q q.name (entries_of name_map) distinct (each (λ m v. bytes_eq q.name m ≡ false → object_at (of_place v) q ≡ None) (entries_of name_map) distinct (apart_in q)) ∙ by (place_in name_map q.name) refl
     where
-      by : (p : Place) → place_in board q.name ≡ p → option_and_then (λ v. object_at (of_place v) q) p ≡ cond (number_of q.kind == number_of kind && bytes_eq q.ns ns) (found p) None
+      by : (p : Place) → place_in name_map q.name ≡ p → option_and_then (λ v. object_at (of_place v) q) p ≡ cond (number_of q.kind == number_of kind && bytes_eq q.ns ns) (found p) None
       by None e = none (number_of q.kind == number_of kind && bytes_eq q.ns ns)
         where
           none : (b : Bool) → None ≡ cond {A = Option Object} b None None
@@ -109,29 +109,29 @@ module _ (kind : Kind) (ns : List ℕ) (board : Board) (distinct : AreDistinct b
 
 -- ---- the objects of one kind
 
-module _ (kind : Kind) (shelves : Shelves) (distinct : AreShelves shelves) (own : (n m : List ℕ) (x : Object) → found (place_of shelves n m) ≡ Some x → x.id ≡ id_of kind n m) where
-  pub own_in : (n : List ℕ) (board : Board) → board_in shelves n ≡ Some board → (m : List ℕ) (x : Object) → found (place_in board m) ≡ Some x → x.id ≡ id_of kind n m
-  own_in n board e m x there = own n m x (ap (λ o. found (option_and_then (λ s. place_in s m) o)) e ∙ there)
+module _ (kind : Kind) (kind_table : KindTable) (distinct : IsKindTable kind_table) (own : (n m : List ℕ) (x : Object) → found (place_of kind_table n m) ≡ Some x → x.id ≡ id_of kind n m) where
+  pub own_in : (n : List ℕ) (name_map : NameMap) → name_map_in kind_table n ≡ Some name_map → (m : List ℕ) (x : Object) → found (place_in name_map m) ≡ Some x → x.id ≡ id_of kind n m
+  own_in n name_map e m x there = own n m x (ap (λ o. found (option_and_then (λ s. place_in s m) o)) e ∙ there)
 
-  pub apart_of : (q : Id) (n : List ℕ) (board : Board) → board_in shelves n ≡ Some board → bytes_eq q.ns n ≡ false → object_at (objects_in board) q ≡ None
-  apart_of q n board e other =
-      found_in kind n board (distinct.1 n board e).0.0 (own_in n board e) q
-      ∙ ap (λ b. cond (number_of q.kind == number_of kind && b) (found (place_in board q.name)) None) other
-      ∙ ap (λ b. cond {A = Option Object} b (found (place_in board q.name)) None) (and_false (number_of q.kind == number_of kind))
+  pub apart_of : (q : Id) (n : List ℕ) (name_map : NameMap) → name_map_in kind_table n ≡ Some name_map → bytes_eq q.ns n ≡ false → object_at (objects_in name_map) q ≡ None
+  apart_of q n name_map e other =
+      found_in kind n name_map (distinct.1 n name_map e).0.0 (own_in n name_map e) q
+      ∙ ap (λ b. cond (number_of q.kind == number_of kind && b) (found (place_in name_map q.name)) None) other
+      ∙ ap (λ b. cond {A = Option Object} b (found (place_in name_map q.name)) None) (and_false (number_of q.kind == number_of kind))
 
-  pub found_of : (q : Id) → object_at (objects_of shelves) q ≡ cond (number_of q.kind == number_of kind) (found (place_of shelves q.ns q.name)) None
-  found_of q = level objects_in q q.ns shelves.shelves.entries distinct.0 (each (λ n board. bytes_eq q.ns n ≡ false → object_at (objects_in board) q ≡ None) shelves.shelves.entries distinct.0 (apart_of q)) ∙ by (board_in shelves q.ns) refl
+  pub found_of : (q : Id) → object_at (objects_of kind_table) q ≡ cond (number_of q.kind == number_of kind) (found (place_of kind_table q.ns q.name)) None
+  found_of q = level objects_in q q.ns kind_table.namespaces.entries distinct.0 (each (λ n name_map. bytes_eq q.ns n ≡ false → object_at (objects_in name_map) q ≡ None) kind_table.namespaces.entries distinct.0 (apart_of q)) ∙ by (name_map_in kind_table q.ns) refl
     where
-      by : (o : Option Board) → board_in shelves q.ns ≡ o → option_and_then (λ board. object_at (objects_in board) q) o ≡ cond (number_of q.kind == number_of kind) (found (option_and_then (λ board. place_in board q.name) o)) None
+      by : (o : Option NameMap) → name_map_in kind_table q.ns ≡ o → option_and_then (λ name_map. object_at (objects_in name_map) q) o ≡ cond (number_of q.kind == number_of kind) (found (option_and_then (λ name_map. place_in name_map q.name) o)) None
       by None e = none (number_of q.kind == number_of kind)
         where
           none : (b : Bool) → None ≡ cond {A = Option Object} b None None
           none true = refl
           none false = refl
-      by (Some board) e =
-          found_in kind q.ns board (distinct.1 q.ns board e).0.0 (own_in q.ns board e) q
-          ∙ ap (λ b. cond (number_of q.kind == number_of kind && b) (found (place_in board q.name)) None) (text_itself q.ns)
-          ∙ ap (λ b. cond {A = Option Object} b (found (place_in board q.name)) None) (and_true (number_of q.kind == number_of kind))
+      by (Some name_map) e =
+          found_in kind q.ns name_map (distinct.1 q.ns name_map e).0.0 (own_in q.ns name_map e) q
+          ∙ ap (λ b. cond (number_of q.kind == number_of kind && b) (found (place_in name_map q.name)) None) (text_itself q.ns)
+          ∙ ap (λ b. cond {A = Option Object} b (found (place_in name_map q.name)) None) (and_true (number_of q.kind == number_of kind))
 
 -- ---- the objects of all kinds
 
@@ -154,21 +154,21 @@ kind_of_index (suc (suc (suc (suc (suc (suc (suc (suc (suc (suc (suc (suc (suc z
 kind_of_index (suc (suc (suc (suc (suc (suc (suc (suc (suc (suc (suc (suc (suc (suc i)))))))))))))) h = absurd (omega arith)
 
 module _ (q : Id) where
-  -- each of the shelves has the objects of one kind, by the kinds' numbers
-  abbrev InOrder : List Shelves → ℕ → Type 0
+  -- each of the tables of kinds has the objects of one kind, by the kinds' numbers
+  abbrev InOrder : List KindTable → ℕ → Type 0
   InOrder [] n = Unit {0}
   InOrder (s ∷ rest) n = ((number_of q.kind == n) ≡ true → object_at (objects_of s) q ≡ found (place_of s q.ns q.name)) × ((number_of q.kind == n) ≡ false → object_at (objects_of s) q ≡ None) × InOrder rest (n + 1)
 
   other : (n : ℕ) → number_of q.kind < n → (number_of q.kind == n) ≡ false
   other n less = false_from_ne_true _ (λ t. absurd (omega (arith, eqb-true (number_of q.kind) n t, less)))
 
-  none_past : (ss : List Shelves) (n : ℕ) → InOrder ss n → number_of q.kind < n → object_at (flat_map objects_of ss) q ≡ None
+  none_past : (ss : List KindTable) (n : ℕ) → InOrder ss n → number_of q.kind < n → object_at (flat_map objects_of ss) q ≡ None
   none_past [] n in_order less = refl
   none_past (s ∷ ss) n in_order less =
       find-append (λ x. same_id q x.id) (objects_of s) (flat_map objects_of ss)
       ∙ ap (λ o. option_or o (object_at (flat_map objects_of ss) q)) (in_order.1 (other n less)) ∙ none_past ss (n + 1) in_order.2 (omega arith)
 
-  found_from : (ss : List Shelves) (n j : ℕ) → InOrder ss n → number_of q.kind ≡ n + j → object_at (flat_map objects_of ss) q ≡ found (option_and_then (λ s. place_of s q.ns q.name) (slice_get ss j))
+  found_from : (ss : List KindTable) (n j : ℕ) → InOrder ss n → number_of q.kind ≡ n + j → object_at (flat_map objects_of ss) q ≡ found (option_and_then (λ s. place_of s q.ns q.name) (slice_get ss j))
   found_from [] n j in_order e = refl
   found_from (s ∷ ss) n zero in_order e =
       find-append (λ x. same_id q x.id) (objects_of s) (flat_map objects_of ss)
@@ -181,7 +181,7 @@ module _ (q : Id) where
       apart : number_of q.kind ≡ n + suc j → (number_of q.kind == n) ≡ false
       apart e = false_from_ne_true _ (λ t. absurd (omega (arith, eqb-true (number_of q.kind) n t, e)))
 
-  order_from : (ss : List Shelves) (i : ℕ) → ((j : ℕ) (s : Shelves) → slice_get ss j ≡ Some s → (m : ℕ) → m ≡ i + j + 1 → object_at (objects_of s) q ≡ cond (number_of q.kind == m) (found (place_of s q.ns q.name)) None) → InOrder ss (i + 1)
+  order_from : (ss : List KindTable) (i : ℕ) → ((j : ℕ) (s : KindTable) → slice_get ss j ≡ Some s → (m : ℕ) → m ≡ i + j + 1 → object_at (objects_of s) q ≡ cond (number_of q.kind == m) (found (place_of s q.ns q.name)) None) → InOrder ss (i + 1)
   order_from [] i holds = tt
   order_from (s ∷ ss) i holds =
       let this = holds zero s refl (i + 1) (omega arith) in (
@@ -191,10 +191,10 @@ module _ (q : Id) where
       )
 
 -- what is found among all objects is what is in the place
-found_among : (places : Places) → IsSound places → (q : Id) → object_at (all_objects places) q ≡ found (place_at places q)
+found_among : (places : ObjectTable) → IsSound places → (q : Id) → object_at (all_objects places) q ≡ found (place_at places q)
 found_among places sound q = found_from q places.kinds 1 (number_of q.kind - 1) (order_from q places.kinds 0 of_kind) (omega (arith, number_of-least q.kind))
   where
-    of_kind : (j : ℕ) (s : Shelves) → slice_get places.kinds j ≡ Some s → (m : ℕ) → m ≡ 0 + j + 1 → object_at (objects_of s) q ≡ cond (number_of q.kind == m) (found (place_of s q.ns q.name)) None
+    of_kind : (j : ℕ) (s : KindTable) → slice_get places.kinds j ≡ Some s → (m : ℕ) → m ≡ 0 + j + 1 → object_at (objects_of s) q ≡ cond (number_of q.kind == m) (found (place_of s q.ns q.name)) None
     of_kind j s e m at =
         let within = slice_get_within places.kinds j s e in
         let long = sound.distinct.0 in
@@ -204,5 +204,5 @@ found_among places sound q = found_from q places.kinds 1 (number_of q.kind - 1) 
         found_of k.0 s (sound.distinct.1 j s e) (λ n name x there. sound.own (id_of k.0 n name) x (ap (λ o. found (option_and_then (λ t. place_of t n name) o)) here ∙ there)) q
         ∙ ap (λ i. cond {A = Option Object} (number_of q.kind == i) (found (place_of s q.ns q.name)) None) same
 
-pub found_at : (places : Places) → IsSound places → (q : Id) → object_at (objects_at places) q ≡ found (place_at places q)
+pub found_at : (places : ObjectTable) → IsSound places → (q : Id) → object_at (objects_at places) q ≡ found (place_at places q)
 found_at places sound q = object_at-objects_from (all_objects places) q ∙ found_among places sound q

@@ -19,9 +19,9 @@ use Rattle.hx_object.specs.declared.object.Object.{Object}
 use Rattle.hx_model.specs.State.{Objects, ascends, is_below_all, least_in, lies_in, object_at, same_id}
 use Rattle.hx_model.proofs.Objects.{ascends-objects_from, is_same_id, none_below}
 use Rattle.hx_store.specs.Least.{IsLeast}
-use Rattle.hx_store.specs.Places.{ArePlaces, AreShelves, IsSound, all_objects, found, kind_at, objects_at, place_at, place_of, unchanged}
-use Rattle.hx_store.specs.declared.places.Places.{Places}
-use Rattle.hx_store.specs.declared.shelves.Shelves.{Shelves}
+use Rattle.hx_store.specs.ObjectTable.{IsObjectTable, IsKindTable, IsSound, all_objects, found, kind_at, objects_at, place_at, place_of, unchanged}
+use Rattle.hx_store.specs.declared.object_table.ObjectTable.{ObjectTable}
+use Rattle.hx_store.specs.declared.namespaces.KindTable.{KindTable}
 use Rattle.hx_store.proofs.ByKind.{number_of-least, set_edits, set_places}
 use Rattle.hx_store.proofs.Edits.{either_same}
 use Rattle.hx_store.proofs.Finding.{found_at, id_of, kind_of_index, text_itself}
@@ -86,25 +86,25 @@ not_true true e = absurd (true≢false (sym e))
 not_true false e = refl
 
 -- no kind from the third up to an index has an object in the namespace
-abbrev pub NoneBelow : Places → List ℕ → ℕ → Type 0
-NoneBelow places ns n = (i : ℕ) → 2 ≤ i → i < n → (shelves : Shelves) → slice_get places.kinds i ≡ Some shelves → (name : List ℕ) → found (place_of shelves ns name) ≡ None
+abbrev pub NoneBelow : ObjectTable → List ℕ → ℕ → Type 0
+NoneBelow places ns n = (i : ℕ) → 2 ≤ i → i < n → (kind_table : KindTable) → slice_get places.kinds i ≡ Some kind_table → (name : List ℕ) → found (place_of kind_table ns name) ≡ None
 
-module _ (places : Places) (sound : IsSound places) (ns : List ℕ) where
+module _ (places : ObjectTable) (sound : IsSound places) (ns : List ℕ) where
   abbrev fits : Object → Bool
   fits x = lies_in ns x.id
 
   up : ascends (objects_at places) ≡ true
   up = ascends-objects_from (all_objects places)
 
-  -- an object that lies in the namespace is in the place of its name, on the shelves of its kind
-  its_place : (y : Object) → object_at (objects_at places) y.id ≡ Some y → fits y ≡ true → (s : Shelves) × (slice_get places.kinds (number_of y.id.kind - 1) ≡ Some s) × (found (place_of s ns y.id.name) ≡ Some y) × (2 ≤ number_of y.id.kind - 1)
+  -- an object that lies in the namespace is in the place of its name, on the tables of kinds of its kind
+  its_place : (y : Object) → object_at (objects_at places) y.id ≡ Some y → fits y ≡ true → (s : KindTable) × (slice_get places.kinds (number_of y.id.kind - 1) ≡ Some s) × (found (place_of s ns y.id.name) ≡ Some y) × (2 ≤ number_of y.id.kind - 1)
   its_place y there fit = by (kind_at places y.id.kind) refl (sym (found_at places sound y.id) ∙ there)
     where
       parts : (not (is_in_cluster y.id.kind) ≡ true) × (bytes_eq ns y.id.ns ≡ true)
       parts = and_parts (not (is_in_cluster y.id.kind)) (bytes_eq ns y.id.ns) fit
 
-      by : (o : Option Shelves) → kind_at places y.id.kind ≡ o → found (option_and_then (λ s. place_of s y.id.ns y.id.name) o) ≡ Some y
-          → (s : Shelves) × (slice_get places.kinds (number_of y.id.kind - 1) ≡ Some s) × (found (place_of s ns y.id.name) ≡ Some y) × (2 ≤ number_of y.id.kind - 1)
+      by : (o : Option KindTable) → kind_at places y.id.kind ≡ o → found (option_and_then (λ s. place_of s y.id.ns y.id.name) o) ≡ Some y
+          → (s : KindTable) × (slice_get places.kinds (number_of y.id.kind - 1) ≡ Some s) × (found (place_of s ns y.id.name) ≡ Some y) × (2 ≤ number_of y.id.kind - 1)
       by None e h = absurd (true≢false (ap is_some (sym h)))
       by (Some s) e h = (s, e, ap (λ n. found (place_of s n y.id.name)) ((bytes_eq-Decides ns y.id.ns).0 parts.1) ∙ h, from_third y.id.kind (not_true (is_in_cluster y.id.kind) parts.0))
 
@@ -119,7 +119,7 @@ module _ (places : Places) (sound : IsSound places) (ns : List ℕ) where
           absurd (true≢false (ap is_some (sym its.2 ∙ none (number_of y.id.kind - 1) its.3 (omega (arith, within, long)) its.0 its.1 y.id.name)))
       by y there false _ = refl
 
-  module _ (i : ℕ) (third : 2 ≤ i) (s : Shelves) (at : slice_get places.kinds i ≡ Some s) (none : NoneBelow places ns i) (x : Object) (name : List ℕ) (there : found (place_of s ns name) ≡ Some x)
+  module _ (i : ℕ) (third : 2 ≤ i) (s : KindTable) (at : slice_get places.kinds i ≡ Some s) (none : NoneBelow places ns i) (x : Object) (name : List ℕ) (there : found (place_of s ns name) ≡ Some x)
       (least : (other : List ℕ) (y : Object) → found (place_of s ns other) ≡ Some y → is_lt (bytes_cmp other name) ≡ false) where
     here : (k : Kind) × (number_of k ≡ i + 1)
     here = kind_of_index i (omega (arith, slice_get_within places.kinds i s at, sound.distinct.0))
@@ -155,7 +155,7 @@ module _ (places : Places) (sound : IsSound places) (ns : List ℕ) where
         in_ns : y.id.ns ≡ ns
         in_ns = sym ((bytes_eq-Decides ns y.id.ns).0 (and_parts (not (is_in_cluster y.id.kind)) (bytes_eq ns y.id.ns) fit_y).1)
 
-        by : (t : Shelves) × (slice_get places.kinds (number_of y.id.kind - 1) ≡ Some t) × (found (place_of t ns y.id.name) ≡ Some y) × (2 ≤ number_of y.id.kind - 1) → is_lt (id_cmp y.id (id_of here.0 ns name)) ≡ false
+        by : (t : KindTable) × (slice_get places.kinds (number_of y.id.kind - 1) ≡ Some t) × (found (place_of t ns y.id.name) ≡ Some y) × (2 ≤ number_of y.id.kind - 1) → is_lt (id_cmp y.id (id_of here.0 ns name)) ≡ false
         by its = split (nat_cmp (number_of y.id.kind - 1) i) (ranks (number_of y.id.kind - 1) i)
           where
             split : (o : Ordering) → MatchOrdering o (number_of y.id.kind - 1 < i) (number_of y.id.kind - 1 ≡ i) (i < number_of y.id.kind - 1) → is_lt (id_cmp y.id (id_of here.0 ns name)) ≡ false
@@ -172,12 +172,12 @@ module _ (places : Places) (sound : IsSound places) (ns : List ℕ) where
     pub first_lies : Some x ≡ least_in (objects_at places) ns
     first_lies = sym (first_is fits x (objects_at places) fit up (found_at places sound x.id ∙ ap (λ q. found (place_at places q)) own ∙ placed) (all_found (λ y. fits y ≡ true → is_lt (id_cmp y.id x.id) ≡ false) (objects_at places) up not_less))
 
-  -- what the shelves of a kind give, where no kind before has an object in the namespace
-  pub kind_gives : (i : ℕ) (s : Shelves) (x : Object) → 2 ≤ i → slice_get places.kinds i ≡ Some s → NoneBelow places ns i → IsLeast (λ name. found (place_of s ns name)) (Some x) → Some x ≡ least_in (objects_at places) ns
+  -- what the tables of kinds of a kind give, where no kind before has an object in the namespace
+  pub kind_gives : (i : ℕ) (s : KindTable) (x : Object) → 2 ≤ i → slice_get places.kinds i ≡ Some s → NoneBelow places ns i → IsLeast (λ name. found (place_of s ns name)) (Some x) → Some x ≡ least_in (objects_at places) ns
   kind_gives i s x third at none least = first_lies i third s at none x least.0 least.1 least.2
 
   -- one more kind that has none
-  pub more_none : (i : ℕ) (s : Shelves) → slice_get places.kinds i ≡ Some s → NoneBelow places ns i → IsLeast (λ name. found (place_of s ns name)) None → NoneBelow places ns (i + 1)
+  pub more_none : (i : ℕ) (s : KindTable) → slice_get places.kinds i ≡ Some s → NoneBelow places ns i → IsLeast (λ name. found (place_of s ns name)) None → NoneBelow places ns (i + 1)
   more_none i s at none least j third less t there name = split (nat_cmp j i) (ranks j i)
     where
       split : (o : Ordering) → MatchOrdering o (j < i) (j ≡ i) (i < j) → found (place_of t ns name) ≡ None
@@ -188,9 +188,9 @@ module _ (places : Places) (sound : IsSound places) (ns : List ℕ) where
           one e = cc
       split Greater behind = absurd (omega (arith, behind, less))
 
--- ---- where the shelves of one kind are sorted
+-- ---- where the tables of kinds of one kind are sorted
 
-module _ (old : Places) (i : ℕ) (d now : Shelves) (within : i < 14) (were : ArePlaces old) where
+module _ (old : ObjectTable) (i : ℕ) (d now : KindTable) (within : i < 14) (were : IsObjectTable old) where
   an_id : Id
   an_id = id_of (kind_of_index i within).0 [] []
 
@@ -198,7 +198,7 @@ module _ (old : Places) (i : ℕ) (d now : Shelves) (within : i < 14) (were : Ar
   unfolding an_id
   it_is_there = omega (arith, (kind_of_index i within).1)
 
-  pub sort_places : (AreShelves (get_or old.kinds i d) → AreShelves now) → ArePlaces (record { kinds = slice_set old.kinds i now })
+  pub sort_places : (IsKindTable (get_or old.kinds i d) → IsKindTable now) → IsObjectTable (record { kinds = slice_set old.kinds i now })
   sort_places keeps = set_places old i d now an_id were.0 within it_is_there keeps were
 
   pub sort_same : ((n m : List ℕ) → place_of now n m ≡ place_of (get_or old.kinds i d) n m) → (id : Id) → place_at (record { kinds = slice_set old.kinds i now }) id ≡ place_at old id

@@ -14,7 +14,7 @@ use Rattle.std.proofs.lemmas.Slice.Eq.{bytes_eq-Decides}
 use Rattle.hx_object.specs.Texts.{bytes_cmp}
 use Rattle.hx_object.specs.declared.object.Object.{Object}
 use Rattle.hx_store.specs.Least.{IsLeast, Named, is_less, least_entry}
-use Rattle.hx_store.specs.Places.{found, place_alone}
+use Rattle.hx_store.specs.ObjectTable.{found, place_alone}
 pub use Rattle.hx_store.specs.Slots.{Entry}
 use Rattle.hx_store.proofs.Finding.{none_among, text_itself}
 

@@ -31,12 +31,12 @@ use Rattle.hx_object.proofs.Identities.{derived_cmp}
 use Rattle.hx_model.specs.State.{Objects, same_id, object_at, is_below_all, ascends}
 use Rattle.hx_model.specs.Answers.{is_listed}
 use Rattle.hx_model.proofs.Objects.{id_total, same_id-cmp, same_from_Equal, same_rows, ascends-filter, object_at-filter, ascends-objects_from}
-use Rattle.hx_store.specs.Places.{IsSound, found, kind_at, place_in, place_of, place_at, board_in, objects_in, objects_under, objects_listed, all_objects, objects_at}
-use Rattle.hx_store.specs.declared.board.Board.{Board}
-use Rattle.hx_store.specs.declared.shelves.Shelves.{Shelves}
-use Rattle.hx_store.specs.declared.places.Places.{Places}
+use Rattle.hx_store.specs.ObjectTable.{IsSound, found, kind_at, place_in, place_of, place_at, name_map_in, objects_in, objects_under, objects_listed, all_objects, objects_at}
+use Rattle.hx_store.specs.declared.name_map.NameMap.{NameMap}
+use Rattle.hx_store.specs.declared.namespaces.KindTable.{KindTable}
+use Rattle.hx_store.specs.declared.object_table.ObjectTable.{ObjectTable}
 use Rattle.hx_store.proofs.Finding.{and_true, id_of, found_in, found_of, found_at, own_in}
-use Rattle.hx_store.proofs.Apart.{AreApart, board_apart, shelves_apart}
+use Rattle.hx_store.proofs.Apart.{AreApart, name_map_apart, kind_table_apart}
 
 -- whether two identities are one, as maps test it
 id_test : Id → Id → Bool
@@ -159,41 +159,41 @@ none_then : (b : Bool) (v : Option Object) → (b ≡ true → v ≡ None) → N
 none_then true v none = sym (none refl)
 none_then false v none = refl
 
-module _ (places : Places) (sound : IsSound places) (kind : Kind) where
-  own_kind : (s : Shelves) → kind_at places kind ≡ Some s → (n m : List ℕ) (x : Object) → found (place_of s n m) ≡ Some x → x.id ≡ id_of kind n m
+module _ (places : ObjectTable) (sound : IsSound places) (kind : Kind) where
+  own_kind : (s : KindTable) → kind_at places kind ≡ Some s → (n m : List ℕ) (x : Object) → found (place_of s n m) ≡ Some x → x.id ≡ id_of kind n m
   own_kind s e n m x there = sound.own (id_of kind n m) x (ap (λ o. found (option_and_then (λ t. place_of t n m) o)) e ∙ there)
 
-  same_place : (o : Option Shelves) → kind_at places kind ≡ o → (q : Id) → (number_of q.kind == number_of kind) ≡ true → place_at places q ≡ option_and_then (λ s. place_of s q.ns q.name) o
+  same_place : (o : Option KindTable) → kind_at places kind ≡ o → (q : Id) → (number_of q.kind == number_of kind) ≡ true → place_at places q ≡ option_and_then (λ s. place_of s q.ns q.name) o
   same_place o e q same = ap (λ n. option_and_then (λ s. place_of s q.ns q.name) (slice_get places.kinds (n - 1))) (eqb-true (number_of q.kind) (number_of kind) same) ∙ ap (option_and_then (λ s. place_of s q.ns q.name)) e
 
-  finds : (ns : Option (List ℕ)) (o : Option Shelves) → kind_at places kind ≡ o → (q : Id) → object_at (option_map_or (objects_under ns) o []) q ≡ cond (is_under kind ns q) (found (place_at places q)) None
+  finds : (ns : Option (List ℕ)) (o : Option KindTable) → kind_at places kind ≡ o → (q : Id) → object_at (option_map_or (objects_under ns) o []) q ≡ cond (is_under kind ns q) (found (place_at places q)) None
   unfolding is_under
   finds ns None e q = none_then (is_under kind ns q) (found (place_at places q)) (λ t. ap found (same_place None e q (and_parts (number_of q.kind == number_of kind) (option_map_or (bytes_eq q.ns) ns true) t).0))
   finds None (Some s) e q =
       found_of kind s (sound.distinct.1 (number_of kind - 1) s e) (own_kind s e) q
       ∙ same_then (number_of q.kind == number_of kind) (found (place_of s q.ns q.name)) (found (place_at places q)) (λ t. ap found (sym (same_place (Some s) e q t)))
       ∙ ap (λ b. cond b (found (place_at places q)) None) (sym (and_true (number_of q.kind == number_of kind)))
-  finds (Some ns) (Some s) e q = by (board_in s ns) refl
+  finds (Some ns) (Some s) e q = by (name_map_in s ns) refl
     where
-      here : (number_of q.kind == number_of kind && bytes_eq q.ns ns) ≡ true → (o : Option Board) → board_in s ns ≡ o → place_at places q ≡ option_and_then (λ board. place_in board q.name) o
+      here : (number_of q.kind == number_of kind && bytes_eq q.ns ns) ≡ true → (o : Option NameMap) → name_map_in s ns ≡ o → place_at places q ≡ option_and_then (λ name_map. place_in name_map q.name) o
       here t o at =
           let parts = and_parts (number_of q.kind == number_of kind) (bytes_eq q.ns ns) t in
-          same_place (Some s) e q parts.0 ∙ ap (option_and_then (λ board. place_in board q.name)) (ap (board_in s) ((bytes_eq-Decides q.ns ns).0 parts.1) ∙ at)
+          same_place (Some s) e q parts.0 ∙ ap (option_and_then (λ name_map. place_in name_map q.name)) (ap (name_map_in s) ((bytes_eq-Decides q.ns ns).0 parts.1) ∙ at)
 
-      by : (o : Option Board) → board_in s ns ≡ o → object_at (option_map_or objects_in o []) q ≡ cond (number_of q.kind == number_of kind && bytes_eq q.ns ns) (found (place_at places q)) None
+      by : (o : Option NameMap) → name_map_in s ns ≡ o → object_at (option_map_or objects_in o []) q ≡ cond (number_of q.kind == number_of kind && bytes_eq q.ns ns) (found (place_at places q)) None
       by None at = none_then (number_of q.kind == number_of kind && bytes_eq q.ns ns) (found (place_at places q)) (λ t. ap found (here t None at))
-      by (Some board) at =
-          found_in kind ns board ((sound.distinct.1 (number_of kind - 1) s e).1 ns board at).0.0 (own_in kind s (sound.distinct.1 (number_of kind - 1) s e) (own_kind s e) ns board at) q
-          ∙ same_then (number_of q.kind == number_of kind && bytes_eq q.ns ns) (found (place_in board q.name)) (found (place_at places q)) (λ t. ap found (sym (here t (Some board) at)))
+      by (Some name_map) at =
+          found_in kind ns name_map ((sound.distinct.1 (number_of kind - 1) s e).1 ns name_map at).0.0 (own_in kind s (sound.distinct.1 (number_of kind - 1) s e) (own_kind s e) ns name_map at) q
+          ∙ same_then (number_of q.kind == number_of kind && bytes_eq q.ns ns) (found (place_in name_map q.name)) (found (place_at places q)) (λ t. ap found (sym (here t (Some name_map) at)))
 
-  are_apart : (ns : Option (List ℕ)) (o : Option Shelves) → kind_at places kind ≡ o → AreApart (option_map_or (objects_under ns) o [])
+  are_apart : (ns : Option (List ℕ)) (o : Option KindTable) → kind_at places kind ≡ o → AreApart (option_map_or (objects_under ns) o [])
   are_apart ns None e = tt
-  are_apart None (Some s) e = shelves_apart kind s (sound.distinct.1 (number_of kind - 1) s e) (own_kind s e)
-  are_apart (Some ns) (Some s) e = by (board_in s ns) refl
+  are_apart None (Some s) e = kind_table_apart kind s (sound.distinct.1 (number_of kind - 1) s e) (own_kind s e)
+  are_apart (Some ns) (Some s) e = by (name_map_in s ns) refl
     where
-      by : (o : Option Board) → board_in s ns ≡ o → AreApart (option_map_or objects_in o [])
+      by : (o : Option NameMap) → name_map_in s ns ≡ o → AreApart (option_map_or objects_in o [])
       by None at = tt
-      by (Some board) at = board_apart kind ns board ((sound.distinct.1 (number_of kind - 1) s e).1 ns board at).0.0 (own_in kind s (sound.distinct.1 (number_of kind - 1) s e) (own_kind s e) ns board at)
+      by (Some name_map) at = name_map_apart kind ns name_map ((sound.distinct.1 (number_of kind - 1) s e).1 ns name_map at).0.0 (own_in kind s (sound.distinct.1 (number_of kind - 1) s e) (own_kind s e) ns name_map at)
 
   -- what lies under the kind and the namespace is what a filter keeps
   kept : (ns : Option (List ℕ)) (q : Id) (o : Option Object) → found (place_at places q) ≡ o → cond (is_under kind ns q) o None ≡ option_filter (is_listed kind ns) o

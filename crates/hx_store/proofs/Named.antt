@@ -21,12 +21,12 @@ use Rattle.hx_object.specs.declared.object.Object.{Object}
 use Rattle.hx_model.specs.State.{same_id, object_at}
 use Rattle.hx_model.specs.Limits.{is_copy}
 use Rattle.hx_model.proofs.Objects.{ascends-objects_from, same_kind}
-use Rattle.hx_store.specs.Places.{entries_of, Place, IsSound, found, kind_at, place_in, place_of, place_at, board_in, of_place, all_objects, objects_at}
+use Rattle.hx_store.specs.ObjectTable.{entries_of, Place, IsSound, found, kind_at, place_in, place_of, place_at, name_map_in, of_place, all_objects, objects_at}
 use Rattle.hx_store.specs.Sources.{is_source, is_source_of, is_indexed, is_indexed_of, indexed_in}
 use Rattle.hx_store.specs.ByName.{IsIndex, entries_at, indexed_among, indexed_at, turned_places}
-use Rattle.hx_store.specs.declared.board.Board.{Board}
-use Rattle.hx_store.specs.declared.shelves.Shelves.{Shelves}
-use Rattle.hx_store.specs.declared.places.Places.{Places}
+use Rattle.hx_store.specs.declared.name_map.NameMap.{NameMap}
+use Rattle.hx_store.specs.declared.namespaces.KindTable.{KindTable}
+use Rattle.hx_store.specs.declared.object_table.ObjectTable.{ObjectTable}
 use Rattle.hx_store.specs.declared.by_name.ByName.{ByName}
 use Rattle.hx_store.proofs.Edits.{none_from}
 use Rattle.hx_store.proofs.Finding.{and_false, and_true, each, found_at, id_of, level, text_itself}
@@ -137,23 +137,23 @@ no_names : IsDistinct bytes_eq []
 unfolding IsDistinct
 no_names = tt
 
-module _ (places : Places) (by_name : ByName) (sound : IsSound places) (index : IsIndex by_name places) (kind : Kind) (name : List ℕ) where
-  entries_distinct : (o : Option Shelves) → kind_at (turned_places by_name) kind ≡ o → IsDistinct bytes_eq (keys_of (option_map_or entries_of (option_and_then (λ s. board_in s name) o) []))
+module _ (places : ObjectTable) (by_name : ByName) (sound : IsSound places) (index : IsIndex by_name places) (kind : Kind) (name : List ℕ) where
+  entries_distinct : (o : Option KindTable) → kind_at (turned_places by_name) kind ≡ o → IsDistinct bytes_eq (keys_of (option_map_or entries_of (option_and_then (λ s. name_map_in s name) o) []))
   entries_distinct None e = no_names
-  entries_distinct (Some s) e = by (board_in s name) refl
+  entries_distinct (Some s) e = by (name_map_in s name) refl
     where
-      by : (o : Option Board) → board_in s name ≡ o → IsDistinct bytes_eq (keys_of (option_map_or entries_of o []))
+      by : (o : Option NameMap) → name_map_in s name ≡ o → IsDistinct bytes_eq (keys_of (option_map_or entries_of o []))
       by None at = no_names
-      by (Some board) at = ((index.distinct.1 (number_of kind - 1) s e).1 name board at).0.0
+      by (Some name_map) at = ((index.distinct.1 (number_of kind - 1) s e).1 name name_map at).0.0
 
   -- the entries are the places of the index
-  lies : (o : Option Shelves) (m : List ℕ) → option_and_then (λ s. place_of s name m) o ≡ place_among (option_map_or entries_of (option_and_then (λ s. board_in s name) o) []) m
+  lies : (o : Option KindTable) (m : List ℕ) → option_and_then (λ s. place_of s name m) o ≡ place_among (option_map_or entries_of (option_and_then (λ s. name_map_in s name) o) []) m
   lies None m = refl
-  lies (Some s) m = by (board_in s name)
+  lies (Some s) m = by (name_map_in s name)
     where
-      by : (o : Option Board) → option_and_then (λ board. place_in board m) o ≡ place_among (option_map_or entries_of o []) m
+      by : (o : Option NameMap) → option_and_then (λ name_map. place_in name_map m) o ≡ place_among (option_map_or entries_of o []) m
       by None = refl
-      by (Some board) = refl
+      by (Some name_map) = refl
 
   abbrev entries : List Entry
   entries = looked_up (indexed_at places kind name) (entries_at by_name kind name)

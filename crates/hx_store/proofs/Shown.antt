@@ -1,4 +1,4 @@
--- Places of a shelf, by their slots: what is found where a slot is pushed, replaced, shown, hidden or taken away.
+-- ObjectTable of a table of names, by their slots: what is found where a slot is pushed, replaced, shown, hidden or taken away.
 use Rattle.std.proofs.Common.{◌≡◌, ℕ, zero, suc, ◌<◌, ◌≤◌, ◌+◌, ◌-◌, Bool, true, false, cond, not, ◌||◌, if◌then◌else◌, Option, Some, None, List, [], ◌∷◌, ◌++◌, length, take, get_or, swap, swap_remove, slice_get, slice_set, position, refl, sym, ap, subst, ◌∙◌, arith, true≢false}
 use Rattle.std.specs.Prelude.{is_some, IfSome, Result, Ok, Err, OnOk, OnErr}
 use Rattle.std.specs.Option.{option_map}
@@ -19,7 +19,7 @@ use Rattle.indexmap.proofs.ReorderLemmas.{exchange, exchange-within, get_or-swap
 use Rattle.indexmap.specs.IndexSet.{insert_key, replace_key, swap_key}
 use Rattle.hx_object.specs.declared.object.Object.{Object}
 use Rattle.hx_store.specs.Least.{Descends, IsLeast, least_entry}
-use Rattle.hx_store.specs.Places.{Place, added, filled, found, of_place, swept}
+use Rattle.hx_store.specs.ObjectTable.{Place, added, filled, found, of_place, swept}
 use Rattle.hx_store.specs.Slots.{Entry, as_shown, emptied, same_name}
 use Rattle.hx_store.proofs.Descending.{descends_take, last_place}
 use Rattle.hx_store.proofs.Edits.{none_from, set_edits}

@@ -8,8 +8,8 @@ use Rattle.hx_model.specs.declared.key.Write.{Write}
 use Rattle.hx_model.specs.declared.key.Write.TheVariants.{Put, Cut}
 use Rattle.hx_model.proofs.Objects.{is_same_id}
 use Rattle.hx_store.specs.Changes.{id_of}
-use Rattle.hx_store.specs.Places.{ArePlaces, HasPlace, Place, EditsPlaces, found, AreAwaited, AreSwept, IsReady, IsSound, KeepsOthers, is_written, made, swept, unchanged, place_at}
-use Rattle.hx_store.specs.declared.places.Places.{Places}
+use Rattle.hx_store.specs.ObjectTable.{IsObjectTable, HasPlace, Place, EditsObjectTable, found, AreAwaited, AreSwept, IsReady, IsSound, KeepsOthers, is_written, made, swept, unchanged, place_at}
+use Rattle.hx_store.specs.declared.object_table.ObjectTable.{ObjectTable}
 use Rattle.hx_store.proofs.Writing.{flip_same, here, same_itself, sound_by}
 
 or_false : (a b : Bool) → (a || b) ≡ false → (a ≡ false) × (b ≡ false)
@@ -40,15 +40,15 @@ same_written (w ∷ ws) (suc n) d v id same = ap (λ b. same_id id (id_of w) || 
 
 -- ---- the places of others
 
-pub edit_others : (g : Place → Place) (old new : Places) (w : Write) (id : Id) → id ≡ id_of w → EditsPlaces g old new id → KeepsOthers (w ∷ []) old new
+pub edit_others : (g : Place → Place) (old new : ObjectTable) (w : Write) (id : Id) → id ≡ id_of w → EditsObjectTable g old new id → KeepsOthers (w ∷ []) old new
 edit_others g old new w id same edits q none =
     edits q ∙ ap (λ b. cond b (g (place_at old q)) (place_at old q)) (ap (λ i. same_id i q) same ∙ flip_same (id_of w) q ∙ (or_false (same_id q (id_of w)) false none).0)
 
-pub make_others : {X Y : Type 0} (old new : Places) (w : Write) (id : Id) (r : Result X Y) → id ≡ id_of w → MatchResult r (λ _. EditsPlaces made old new id) (λ _. EditsPlaces unchanged old new id) → KeepsOthers (w ∷ []) old new
+pub make_others : {X Y : Type 0} (old new : ObjectTable) (w : Write) (id : Id) (r : Result X Y) → id ≡ id_of w → MatchResult r (λ _. EditsObjectTable made old new id) (λ _. EditsObjectTable unchanged old new id) → KeepsOthers (w ∷ []) old new
 make_others old new w id (Ok _) same edits = edit_others made old new w id same edits
 make_others old new w id (Err _) same edits = edit_others unchanged old new w id same edits
 
-pub more_others : (ws vs : List Write) (n : ℕ) (d : Write) (first old new : Places) → n < length vs → ((id : Id) → is_written vs id ≡ is_written ws id) → KeepsOthers ws first old → KeepsOthers (get_or vs n d ∷ []) old new → KeepsOthers ws first new
+pub more_others : (ws vs : List Write) (n : ℕ) (d : Write) (first old new : ObjectTable) → n < length vs → ((id : Id) → is_written vs id ≡ is_written ws id) → KeepsOthers ws first old → KeepsOthers (get_or vs n d ∷ []) old new → KeepsOthers ws first new
 more_others ws vs n d first old new within same before this id none =
     this id (ap (λ b. b || false) (written_at vs n d id within (same id ∙ none))) ∙ before id none
 
@@ -59,10 +59,10 @@ swept_some None e = true≢false (sym (ap is_some e))
 swept_some (Some None) e = true≢false (sym (ap is_some e))
 swept_some (Some (Some x)) e = let none : Some x ≡ None = cc in true≢false (ap is_some none)
 
-pub swept_gone : (old new : Places) (id : Id) → EditsPlaces swept old new id → place_at new id ≢ Some None
+pub swept_gone : (old new : ObjectTable) (id : Id) → EditsObjectTable swept old new id → place_at new id ≢ Some None
 swept_gone old new id edits empty = swept_some (place_at old id) (sym (here swept old new id edits) ∙ empty)
 
-pub more_swept : (old new : Places) (ws : List Write) (n : ℕ) (d : Write) (id : Id) → id ≡ id_of (get_or ws n d) → EditsPlaces swept old new id → ((i : ℕ) (w : Write) → i < n → slice_get ws i ≡ Some w → place_at old (id_of w) ≢ Some None)
+pub more_swept : (old new : ObjectTable) (ws : List Write) (n : ℕ) (d : Write) (id : Id) → id ≡ id_of (get_or ws n d) → EditsObjectTable swept old new id → ((i : ℕ) (w : Write) → i < n → slice_get ws i ≡ Some w → place_at old (id_of w) ≢ Some None)
     → (i : ℕ) (w : Write) → i < n + 1 → slice_get ws i ≡ Some w → place_at new (id_of w) ≢ Some None
 more_swept old new ws n d id same edits before i w less at empty = by (i == n) refl
   where
@@ -80,14 +80,14 @@ more_swept old new ws n d id same edits before i w less at empty = by (i == n) r
 
 -- ---- what is awaited
 
-pub more_awaited : (old new : Places) (was ws : List Write) → ((id : Id) → is_written was id ≡ true → is_written ws id ≡ true) → AreAwaited old was → KeepsOthers ws old new → AreAwaited new ws
+pub more_awaited : (old new : ObjectTable) (was ws : List Write) → ((id : Id) → is_written was id ≡ true → is_written ws id ≡ true) → AreAwaited old was → KeepsOthers ws old new → AreAwaited new ws
 more_awaited old new was ws more awaited others id empty = by (is_written ws id) refl
   where
     by : (b : Bool) → is_written ws id ≡ b → is_written ws id ≡ true
     by true e = e
     by false e = more id (awaited id (sym (others id e) ∙ empty))
 
-pub none_awaited : (old new : Places) (ws vs : List Write) → ((id : Id) → is_written vs id ≡ is_written ws id) → AreAwaited old ws → KeepsOthers vs old new → AreSwept new vs → AreAwaited new []
+pub none_awaited : (old new : ObjectTable) (ws vs : List Write) → ((id : Id) → is_written vs id ≡ is_written ws id) → AreAwaited old ws → KeepsOthers vs old new → AreSwept new vs → AreAwaited new []
 none_awaited old new ws vs same awaited others swept id empty = absurd (by (is_written vs id) refl)
   where
     by : (b : Bool) → is_written vs id ≡ b → ⊥
@@ -97,7 +97,7 @@ none_awaited old new ws vs same awaited others swept id empty = absurd (by (is_w
     by false e = true≢false (sym (awaited id (sym (others id e) ∙ empty)) ∙ sym (same id) ∙ e)
 
 -- where nothing is staged and no place is empty, a store is ready
-pub none_ready : (places : Places) (ws : List Write) → ws ≡ [] → IsSound places → AreAwaited places [] → IsReady places ws
+pub none_ready : (places : ObjectTable) (ws : List Write) → ws ≡ [] → IsSound places → AreAwaited places [] → IsReady places ws
 none_ready places ws none sound awaited = record {
   sound = sound;
   there = λ i w e. absurd (true≢false (sym (ap is_some (sym (ap (λ l. slice_get l i) none) ∙ e))));
@@ -105,7 +105,7 @@ none_ready places ws none sound awaited = record {
 }
 
 -- where each place stays, a store stays ready
-pub stay_ready : (old new : Places) (ws : List Write) → ArePlaces new → ((id : Id) → place_at new id ≡ place_at old id) → IsReady old ws → IsReady new ws
+pub stay_ready : (old new : ObjectTable) (ws : List Write) → IsObjectTable new → ((id : Id) → place_at new id ≡ place_at old id) → IsReady old ws → IsReady new ws
 stay_ready old new ws distinct same ready = record {
   sound = sound_by old new ready.sound distinct (λ id. ap found (same id));
   there = λ i w e. by w (ready.there i w e);

@@ -16,9 +16,9 @@ use Rattle.hx_model.specs.declared.key.Write.{Write}
 use Rattle.hx_model.specs.declared.key.Write.TheVariants.{Put, Cut}
 use Rattle.hx_model.proofs.Objects.{id_total, is_same_id, same_from_Equal, same_rows, object_at-put, object_at-cut, ascends-put, ascends-cut, ascends-objects_from}
 use Rattle.hx_store.specs.Changes.{id_of, object_of}
-use Rattle.hx_store.specs.Places.{AreShelves, place_in, place_of, kind_at, objects_in, objects_of, Place, ArePlaces, AreOwn, IsSound, HasPlace, HasSame, KeepsPlaces, EditsPlaces, found, filled, made, swept, unchanged, place_at, all_objects, objects_at}
-use Rattle.hx_store.specs.declared.shelves.Shelves.{Shelves}
-use Rattle.hx_store.specs.declared.places.Places.{Places}
+use Rattle.hx_store.specs.ObjectTable.{IsKindTable, place_in, place_of, kind_at, objects_in, objects_of, Place, IsObjectTable, AreOwn, IsSound, HasPlace, HasSame, KeepsObjectTable, EditsObjectTable, found, filled, made, swept, unchanged, place_at, all_objects, objects_at}
+use Rattle.hx_store.specs.declared.namespaces.KindTable.{KindTable}
+use Rattle.hx_store.specs.declared.object_table.ObjectTable.{ObjectTable}
 use Rattle.hx_store.proofs.ByKind.{slice_get-set_other}
 use Rattle.hx_store.proofs.Edits.{made_keeps}
 use Rattle.hx_store.proofs.Finding.{found_at}
@@ -42,7 +42,7 @@ swept_found None = refl
 swept_found (Some None) = refl
 swept_found (Some (Some x)) = refl
 
-module _ (g : Place → Place) (old new : Places) (id : Id) (edits : EditsPlaces g old new id) where
+module _ (g : Place → Place) (old new : ObjectTable) (id : Id) (edits : EditsObjectTable g old new id) where
   pub same_by : ((p : Place) → found (g p) ≡ found p) → HasSame old new
   same_by leaves q = ap found (edits q) ∙ by (same_id id q)
     where
@@ -67,10 +67,10 @@ made_some None = refl
 made_some (Some o) = refl
 
 -- what finds the same is as sound
-pub sound_by : (old new : Places) → IsSound old → ArePlaces new → HasSame old new → IsSound new
+pub sound_by : (old new : ObjectTable) → IsSound old → IsObjectTable new → HasSame old new → IsSound new
 sound_by old new sound distinct same = record { distinct = distinct; own = λ id x e. sound.own id x (sym (same id) ∙ e) }
 
-pub same_objects : (old new : Places) → IsSound old → IsSound new → HasSame old new → objects_at new ≡ objects_at old
+pub same_objects : (old new : ObjectTable) → IsSound old → IsSound new → HasSame old new → objects_at new ≡ objects_at old
 same_objects old new sound sound_new same =
     same_rows (objects_at new) (objects_at old) (ascends-objects_from (all_objects new)) (ascends-objects_from (all_objects old))
     (λ q. found_at new sound_new q ∙ same q ∙ sym (found_at old sound q))
@@ -85,7 +85,7 @@ unfolding HasIts
 own_object (Put x) = refl
 own_object (Cut id) = tt
 
-own_by : (old new : Places) (w : Write) → IsSound old → EditsPlaces (filled (object_of w)) old new (id_of w) → AreOwn new
+own_by : (old new : ObjectTable) (w : Write) → IsSound old → EditsObjectTable (filled (object_of w)) old new (id_of w) → AreOwn new
 unfolding HasIts
 own_by old new w sound edits q x e = by (same_id (id_of w) q) refl (sym (ap found (edits q)) ∙ e)
   where
@@ -98,11 +98,11 @@ own_by old new w sound edits q x e = by (same_id (id_of w) q) refl (sym (ap foun
         filled_own (Some y) (Some _) its h = let this : y ≡ x = cc in subst (λ (z : Object). z.id ≡ id_of w) this its
     by false other there = sound.own q x there
 
-pub sound_write : (old new : Places) (w : Write) → IsSound old → ArePlaces new → EditsPlaces (filled (object_of w)) old new (id_of w) → IsSound new
+pub sound_write : (old new : ObjectTable) (w : Write) → IsSound old → IsObjectTable new → EditsObjectTable (filled (object_of w)) old new (id_of w) → IsSound new
 sound_write old new w sound distinct edits = record { distinct = distinct; own = own_by old new w sound edits }
 
 -- the objects after a write
-pub objects_write : (old new : Places) (w : Write) → IsSound old → IsSound new → HasPlace old w → EditsPlaces (filled (object_of w)) old new (id_of w)
+pub objects_write : (old new : ObjectTable) (w : Write) → IsSound old → IsSound new → HasPlace old w → EditsObjectTable (filled (object_of w)) old new (id_of w)
     → objects_at new ≡ after_writes (w ∷ []) (objects_at old)
 objects_write old new (Put x) sound sound_new there edits =
     sym (same_rows (put x (objects_at old)) (objects_at new) (ascends-put x (objects_at old) (ascends-objects_from (all_objects old))) (ascends-objects_from (all_objects new))
@@ -130,17 +130,17 @@ objects_write old new (Cut id) sound sound_new there edits =
     by q false other = ap (λ b. found (cond b (filled None (place_at old q)) (place_at old q))) (sym other ∙ flip_same q id)
 
 -- what has a place keeps it
-pub place_kept : (g : Place → Place) (old new : Places) (id : Id) → EditsPlaces g old new id → ((p : Place) → IsSome p → IsSome (g p)) → KeepsPlaces old new
+pub place_kept : (g : Place → Place) (old new : ObjectTable) (id : Id) → EditsObjectTable g old new id → ((p : Place) → IsSome p → IsSome (g p)) → KeepsObjectTable old new
 place_kept g old new id edits keeps (Put x) there = kept_by g old new id edits keeps x.id there
 place_kept g old new id edits keeps (Cut _) there = tt
 
 -- where nothing is put, nothing wants a place
-pub none_there : (places : Places) (object : Option (Bor Object)) (w : Write) → option_copied object ≡ object_of w → is_some object ≡ false → HasPlace places w
+pub none_there : (places : ObjectTable) (object : Option (Bor Object)) (w : Write) → option_copied object ≡ object_of w → is_some object ≡ false → HasPlace places w
 none_there places None (Put x) is none = absurd (true≢false (sym (ap is_some is)))
 none_there places None (Cut id) is none = tt
 none_there places (Some o) w is none = absurd (true≢false none)
 
-pub place_there : (old new : Places) (w : Write) → EditsPlaces made old new (id_of w) → HasPlace new w
+pub place_there : (old new : ObjectTable) (w : Write) → EditsObjectTable made old new (id_of w) → HasPlace new w
 place_there old new (Put x) edits = subst IsSome (sym (here made old new x.id edits)) (made_some (place_at old x.id))
 place_there old new (Cut id) edits = tt
 
@@ -167,7 +167,7 @@ pub left_hold : (Before After : Write → Type 0) (ws : List Write) (n : ℕ) (v
 left_hold Before After ws n v kept left i w more e = kept w (left i w (omega arith) (sym (slice_get-set_other ws n i v (λ k. absurd (omega (arith, k, more)))) ∙ e))
 
 -- and the writes that are left make of the objects what all make
-pub left_writes : (old new : Places) (ws : List Write) (n : ℕ) (d v : Write) → n < length ws → objects_at new ≡ after_writes (get_or ws n d ∷ []) (objects_at old)
+pub left_writes : (old new : ObjectTable) (ws : List Write) (n : ℕ) (d v : Write) → n < length ws → objects_at new ≡ after_writes (get_or ws n d ∷ []) (objects_at old)
     → after_writes (drop (n + 1) (slice_set ws n v)) (objects_at new) ≡ after_writes (drop n ws) (objects_at old)
 left_writes old new ws n d v within is =
     ap (λ rest. after_writes rest (objects_at new)) (drop-set-lt (n + 1) ws n v (omega arith) ∙ ap (λ k. drop k ws) (add-one n))
@@ -176,41 +176,41 @@ left_writes old new ws n d v within is =
 
 -- ---- what calls ensure, in these words
 
-pub make_same : {X Y : Type 0} (old new : Places) (id : Id) (r : Result X Y) → MatchResult r (λ _. EditsPlaces made old new id) (λ _. EditsPlaces unchanged old new id) → HasSame old new
+pub make_same : {X Y : Type 0} (old new : ObjectTable) (id : Id) (r : Result X Y) → MatchResult r (λ _. EditsObjectTable made old new id) (λ _. EditsObjectTable unchanged old new id) → HasSame old new
 make_same old new id (Ok _) edits = same_by made old new id edits made_found
 make_same old new id (Err _) edits = same_by unchanged old new id edits (λ p. refl)
 
-pub make_kept : {X Y : Type 0} (old new : Places) (id : Id) (r : Result X Y) → MatchResult r (λ _. EditsPlaces made old new id) (λ _. EditsPlaces unchanged old new id) → KeepsPlaces old new
+pub make_kept : {X Y : Type 0} (old new : ObjectTable) (id : Id) (r : Result X Y) → MatchResult r (λ _. EditsObjectTable made old new id) (λ _. EditsObjectTable unchanged old new id) → KeepsObjectTable old new
 make_kept old new id (Ok _) edits = place_kept made old new id edits made_keeps
 make_kept old new id (Err _) edits = place_kept unchanged old new id edits (λ p some. some)
 
-pub make_there : {X Y : Type 0} (old new : Places) (w : Write) (id : Id) (r : Result X Y) → id ≡ id_of w → MatchResult r (λ _. EditsPlaces made old new id) (λ _. EditsPlaces unchanged old new id) → OnOk r (HasPlace new w)
-make_there old new w id (Ok _) same edits = place_there old new w (subst (EditsPlaces made old new) same edits)
+pub make_there : {X Y : Type 0} (old new : ObjectTable) (w : Write) (id : Id) (r : Result X Y) → id ≡ id_of w → MatchResult r (λ _. EditsObjectTable made old new id) (λ _. EditsObjectTable unchanged old new id) → OnOk r (HasPlace new w)
+make_there old new w id (Ok _) same edits = place_there old new w (subst (EditsObjectTable made old new) same edits)
 make_there old new w id (Err _) same edits = tt
 
-pub fill_edits : (old new : Places) (w : Write) (o : Option Object) (id : Id) → o ≡ object_of w → id ≡ id_of w → EditsPlaces (filled o) old new id → EditsPlaces (filled (object_of w)) old new (id_of w)
-fill_edits old new w o id is_o is_id edits = subst (λ i. EditsPlaces (filled (object_of w)) old new i) is_id (subst (λ v. EditsPlaces (filled v) old new id) is_o edits)
+pub fill_edits : (old new : ObjectTable) (w : Write) (o : Option Object) (id : Id) → o ≡ object_of w → id ≡ id_of w → EditsObjectTable (filled o) old new id → EditsObjectTable (filled (object_of w)) old new (id_of w)
+fill_edits old new w o id is_o is_id edits = subst (λ i. EditsObjectTable (filled (object_of w)) old new i) is_id (subst (λ v. EditsObjectTable (filled v) old new id) is_o edits)
 
 -- ---- a store without objects
 
-module _ (places : Places) (long : length places.kinds ≡ 14) (empty : (i : ℕ) (shelves : Shelves) → slice_get places.kinds i ≡ Some shelves → shelves.shelves.entries ≡ []) where
-  empty_shelves : (shelves : Shelves) → shelves.shelves.entries ≡ [] → AreShelves shelves
+module _ (places : ObjectTable) (long : length places.kinds ≡ 14) (empty : (i : ℕ) (kind_table : KindTable) → slice_get places.kinds i ≡ Some kind_table → kind_table.namespaces.entries ≡ []) where
+  empty_kind_table : (kind_table : KindTable) → kind_table.namespaces.entries ≡ [] → IsKindTable kind_table
   unfolding IsDistinct
-  empty_shelves shelves e = (subst (λ es. IsDistinct bytes_eq (keys_of es)) (sym e) tt, λ ns board there. absurd (true≢false (sym (ap is_some (sym (ap (lookup (bytes_eq ns)) e) ∙ there)))))
+  empty_kind_table kind_table e = (subst (λ es. IsDistinct bytes_eq (keys_of es)) (sym e) tt, λ ns name_map there. absurd (true≢false (sym (ap is_some (sym (ap (lookup (bytes_eq ns)) e) ∙ there)))))
 
-  empty_place : (id : Id) (o : Option Shelves) → kind_at places id.kind ≡ o → option_and_then (λ s. place_of s id.ns id.name) o ≡ None
+  empty_place : (id : Id) (o : Option KindTable) → kind_at places id.kind ≡ o → option_and_then (λ s. place_of s id.ns id.name) o ≡ None
   empty_place id None e = refl
-  empty_place id (Some s) e = ap (λ es. option_and_then (λ board. place_in board id.name) (lookup (bytes_eq id.ns) es)) (empty (number_of id.kind - 1) s e)
+  empty_place id (Some s) e = ap (λ es. option_and_then (λ name_map. place_in name_map id.name) (lookup (bytes_eq id.ns) es)) (empty (number_of id.kind - 1) s e)
 
   pub none_placed : (id : Id) → place_at places id ≡ None
   none_placed id = empty_place id (kind_at places id.kind) refl
 
   pub empty_sound : IsSound places
   empty_sound = record {
-    distinct = (long, λ i shelves e. empty_shelves shelves (empty i shelves e));
+    distinct = (long, λ i kind_table e. empty_kind_table kind_table (empty i kind_table e));
     own = λ id x e. absurd (true≢false (sym (ap is_some (sym (ap found (none_placed id)) ∙ e))));
   }
 
-pub empty_objects : (ss : List Shelves) → ((i : ℕ) (shelves : Shelves) → slice_get ss i ≡ Some shelves → shelves.shelves.entries ≡ []) → flat_map objects_of ss ≡ []
+pub empty_objects : (ss : List KindTable) → ((i : ℕ) (kind_table : KindTable) → slice_get ss i ≡ Some kind_table → kind_table.namespaces.entries ≡ []) → flat_map objects_of ss ≡ []
 empty_objects [] empty = refl
-empty_objects (s ∷ ss) empty = ap (λ es. flat_map objects_in (values_of es) ++ flat_map objects_of ss) (empty 0 s refl) ∙ empty_objects ss (λ i shelves e. empty (suc i) shelves e)
+empty_objects (s ∷ ss) empty = ap (λ es. flat_map objects_in (values_of es) ++ flat_map objects_of ss) (empty 0 s refl) ∙ empty_objects ss (λ i kind_table e. empty (suc i) kind_table e)

@@ -17,9 +17,9 @@ use Rattle.hx_object.specs.declared.object.Id.{Id}
 use Rattle.hx_object.specs.declared.object.Object.{Object}
 use Rattle.hx_model.specs.declared.key.Write.{Write}
 use Rattle.hx_model.specs.declared.key.Write.TheVariants.{Put, Cut}
-use Rattle.hx_store.specs.Places.{Place, ArePlaces, IsReady, board_in, entries_of, found, kind_at, of_place, place_at}
+use Rattle.hx_store.specs.ObjectTable.{Place, IsObjectTable, IsReady, name_map_in, entries_of, found, kind_at, of_place, place_at}
 use Rattle.hx_store.specs.Sources.{is_indexed, indexed_in, may_be_indexed}
-use Rattle.hx_store.specs.declared.places.Places.{Places}
+use Rattle.hx_store.specs.declared.object_table.ObjectTable.{ObjectTable}
 use Rattle.hx_store.specs.declared.by_name.ByName.{ByName}
 
 -- the identity with its namespace and its name in each other's place
@@ -27,7 +27,7 @@ abbrev pub turned : Id → Id
 turned id = record { kind = id.kind; ns = id.name; name = id.ns }
 
 -- the places of the index, by turned identities
-abbrev pub turned_places : ByName → Places
+abbrev pub turned_places : ByName → ObjectTable
 turned_places by_name = record { kinds = by_name.kinds }
 
 -- the place of a kind and a name in a namespace
@@ -36,14 +36,14 @@ entry_place by_name kind name ns = place_at (turned_places by_name) (record { ki
 
 -- the places of a kind and a name, with their namespaces
 abbrev pub entries_at : ByName → Kind → List ℕ → List (List ℕ × Option Object)
-entries_at by_name kind name = option_map_or entries_of (option_and_then (λ shelves. board_in shelves name) (kind_at (turned_places by_name) kind)) []
+entries_at by_name kind name = option_map_or entries_of (option_and_then (λ kind_table. name_map_in kind_table name) (kind_at (turned_places by_name) kind)) []
 
 -- the source or the anchor of a kind and a name in a namespace
-abbrev pub indexed_at : Places → Kind → List ℕ → List ℕ → Option Object
+abbrev pub indexed_at : ObjectTable → Kind → List ℕ → List ℕ → Option Object
 indexed_at places kind name ns = indexed_in (found (place_at places (record { kind = kind; ns = ns; name = name })))
 
 -- those in the namespaces of entries
-abbrev pub indexed_among : Places → Kind → List ℕ → List (List ℕ × Option Object) → List Object
+abbrev pub indexed_among : ObjectTable → Kind → List ℕ → List (List ℕ × Option Object) → List Object
 indexed_among places kind name es = flat_map (λ e. of_place (indexed_at places kind name e.0)) es
 
 -- the source or the anchor that is put has its place
@@ -60,16 +60,16 @@ abbrev pub KeepsEntries : ByName → ByName → Type 0
 KeepsEntries old new = (w : Write) → HasEntry old w → HasEntry new w
 
 -- each source and each anchor among the objects has its place; there may be others
-pub record IsIndex (by_name : ByName) (places : Places) : Type 0 where
-  pub distinct : ArePlaces (turned_places by_name)
+pub record IsIndex (by_name : ByName) (places : ObjectTable) : Type 0 where
+  pub distinct : IsObjectTable (turned_places by_name)
   pub all : (id : Id) → is_some (indexed_in (found (place_at places id))) ≡ true → IsSome (place_at (turned_places by_name) (turned id))
 
 -- where no source and no anchor lies, no empty place of the identity is left
-abbrev pub IsSwept : ByName → Places → Id → Type 0
+abbrev pub IsSwept : ByName → ObjectTable → Id → Type 0
 IsSwept by_name places id = may_be_indexed id.kind ≡ true → indexed_in (found (place_at places id)) ≡ None → place_at (turned_places by_name) (turned id) ≢ Some None
 
 -- what a store keeps true
-pub record IsKept (places : Places) (by_name : ByName) (staged : List Write) : Type 0 where
+pub record IsKept (places : ObjectTable) (by_name : ByName) (staged : List Write) : Type 0 where
   pub ready : IsReady places staged
   pub index : IsIndex by_name places
   pub awaited : HasEntries by_name staged

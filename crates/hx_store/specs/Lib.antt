@@ -2,6 +2,6 @@ pub mod ByName
 pub mod Changes
 pub mod Kept
 pub mod Least
-pub mod Places
+pub mod ObjectTable
 pub mod Slots
 pub mod Sources

@@ -1,8 +1,8 @@
--- What lies on a shelf: slots in a row, of which the first ones show what they have.
+-- What lies on a table of names: slots in a row, of which the first ones show what they have.
 --     seen form             the name of a slot, with the object that it has
 --     same_name a b         slots of one name
 --     emptied slot          the name, without the object
---     as_shown shown slots  the places of a shelf, with their names: as many as are shown hold what their slots have, the others are empty
+--     as_shown shown slots  the places of a table of names, with their names: as many as are shown hold what their slots have, the others are empty
 use Rattle.std.specs.Prelude.{ℕ, zero, suc, Bool, List, [], ◌∷◌, Option, Some, None, map}
 use Rattle.std.specs.Str.{bytes_eq}
 use Rattle.hx_object.specs.declared.object.Object.{Object}
@@ -26,7 +26,7 @@ same_name a b = bytes_eq a.0 b.0
 abbrev pub emptied : Entry → Entry
 emptied e = (e.0, None)
 
--- the places of a shelf: the first ones hold what their slots have, the others are empty
+-- the places of a table of names: the first ones hold what their slots have, the others are empty
 abbrev pub as_shown : ℕ → List Entry → List Entry
 as_shown zero slots = map emptied slots
 as_shown (suc shown) [] = []

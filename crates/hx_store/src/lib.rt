@@ -4,14 +4,14 @@
 //! A [`Change`] is seen as the write that it is.
 #![tactic(auto)]
 
-mod board;
 mod by_name;
 mod change;
+mod kind_table;
 mod map;
-mod places;
-mod rack;
-mod shelf;
-mod shelves;
+mod name_list;
+mod name_map;
+mod name_table;
+mod object_table;
 mod slot;
 mod store;
 mod writes;

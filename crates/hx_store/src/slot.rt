@@ -1,4 +1,4 @@
-// What lies on a shelf.
+// What lies on a table of names.
 ghost use Rattle.std.specs.Prelude.{◌≡◌, IfOk, IfSome, Some, None, option_copied, refl};
 ghost use Rattle.std.specs.Cmp as laws_of;
 ghost use Rattle.std.specs.Cmp.{on_equiv, on_per, on_po, on_total};

@@ -8,7 +8,7 @@ ghost use Rattle.hx_store.specs.Sources.{is_source_of, is_anchor_of, is_indexed_
 
 use crate::by_name::ByName;
 use crate::change::Change;
-use crate::places::Places;
+use crate::object_table::ObjectTable;
 use crate::writes::{make_places, make_writes, sweep_places};
 use hx_object::{Id, Kind, NoMemory, Shared, Text};
 use std::alloc::Global;
@@ -20,7 +20,7 @@ use std::mem;
 ///
 /// An object is found in constant time on average, and a list looks at nothing but what it gives. In which namespaces sources (which copies are made of) and anchors lie is kept by kind and name as well. Writes are staged, which makes room for them, and then made without taking memory.
 pub struct Store {
-    places: Places,
+    places: ObjectTable,
     by_name: ByName,
     version: u64,
     staged: Vec<Change>,
@@ -41,7 +41,7 @@ impl Drop for Store {
 
 impl Model for Store {
     ghost use Rattle.hx_store.specs.Kept.{StoreView, store_code};
-    ghost use Rattle.hx_store.specs.Places.{objects_at};
+    ghost use Rattle.hx_store.specs.ObjectTable.{objects_at};
     ghost use Rattle.hx_store.specs.ByName.{IsKept};
 
     ghost Value = { StoreView };
@@ -61,7 +61,7 @@ impl Store {
         ensures staged { result.staged ≡ [] }
     {
         Store {
-            places: Places::new(alloc, keys),
+            places: ObjectTable::new(alloc, keys),
             by_name: ByName::new(alloc, keys),
             version,
             staged: Vec::new(alloc),

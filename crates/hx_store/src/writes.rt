@@ -2,17 +2,17 @@
 ghost use Rattle.std.specs.Prelude.{◌≡◌, [], ◌∷◌, OnOk, OnErr};
 ghost use Rattle.hx_store.specs.Changes.{id_of};
 ghost use Rattle.hx_model.specs.State.{after_writes};
-ghost use Rattle.hx_store.specs.Places.{IsReady, IsSound, AreSwept, HasPlace, HasPlaces, HasSame, KeepsOthers, KeepsPlaces, is_written, objects_at};
+ghost use Rattle.hx_store.specs.ObjectTable.{IsReady, IsSound, AreSwept, HasPlace, HasPlaces, HasSame, KeepsOthers, KeepsObjectTable, is_written, objects_at};
 ghost use Rattle.hx_store.specs.ByName.{HasEntry, HasEntries, IsIndex, IsSwept, KeepsEntries};
 
 use crate::by_name::ByName;
 use crate::change::{Change, may_be_indexed};
-use crate::places::Places;
+use crate::object_table::ObjectTable;
 use hx_object::{Id, NoMemory};
 
 /// Makes a place for each object that is going to be stored. Where there is no memory for all, none is left.
 pub(crate) fn make_places(
-    places: &mut Places,
+    places: &mut ObjectTable,
     by_name: &mut ByName,
     changes: &[Change],
 ) -> Result<(), NoMemory>
@@ -34,7 +34,11 @@ pub(crate) fn make_places(
 }
 
 /// Makes a place for each object that is going to be stored, as far as there is memory.
-fn add_places(places: &mut Places, by_name: &mut ByName, changes: &[Change]) -> Result<(), NoMemory>
+fn add_places(
+    places: &mut ObjectTable,
+    by_name: &mut ByName,
+    changes: &[Change],
+) -> Result<(), NoMemory>
     requires sound { IsSound places.old }
     requires index { IsIndex by_name.old places.old }
     ensures sound { IsSound places.new }
@@ -52,11 +56,11 @@ fn add_places(places: &mut Places, by_name: &mut ByName, changes: &[Change]) -> 
 }
 
 /// Makes a place for the object that a write stores.
-fn add_place(places: &mut Places, change: &Change) -> Result<(), NoMemory>
+fn add_place(places: &mut ObjectTable, change: &Change) -> Result<(), NoMemory>
     requires { IsSound places.old }
     ensures sound { IsSound places.new }
     ensures same { HasSame places.old places.new }
-    ensures kept { KeepsPlaces places.old places.new }
+    ensures kept { KeepsObjectTable places.old places.new }
     ensures others { KeepsOthers (change.now ∷ []) places.old places.new }
     ensures there { OnOk result (HasPlace places.new change.now) }
 {
@@ -67,7 +71,7 @@ fn add_place(places: &mut Places, change: &Change) -> Result<(), NoMemory>
 }
 
 /// Makes a place in the index for the source or the anchor that a write stores. Where one lies there already, the index has it.
-fn add_entry(by_name: &mut ByName, places: &Places, change: &Change) -> Result<(), NoMemory>
+fn add_entry(by_name: &mut ByName, places: &ObjectTable, change: &Change) -> Result<(), NoMemory>
     requires { IsIndex by_name.old places.now }
     ensures index { IsIndex by_name.new places.now }
     ensures kept { KeepsEntries by_name.old by_name.new }
@@ -83,7 +87,7 @@ fn add_entry(by_name: &mut ByName, places: &Places, change: &Change) -> Result<(
 }
 
 /// Makes the writes, whose places are there. The objects move out of the changes. The index stays as it is.
-pub(crate) fn make_writes(places: &mut Places, changes: &mut [Change])
+pub(crate) fn make_writes(places: &mut ObjectTable, changes: &mut [Change])
     requires sound { IsSound places.old }
     requires there { HasPlaces places.old changes.old }
     ensures sound { IsSound places.new }
@@ -98,12 +102,12 @@ pub(crate) fn make_writes(places: &mut Places, changes: &mut [Change])
 }
 
 /// Makes a write, whose place is there.
-fn make_write(places: &mut Places, change: &mut Change)
+fn make_write(places: &mut ObjectTable, change: &mut Change)
     requires sound { IsSound places.old }
     requires there { HasPlace places.old change.old }
     ensures sound { IsSound places.new }
     ensures index { (by_name : ByName) → IsIndex by_name places.old → HasEntry by_name change.old → IsIndex by_name places.new }
-    ensures kept { KeepsPlaces places.old places.new }
+    ensures kept { KeepsObjectTable places.old places.new }
     ensures objects { objects_at places.new ≡ after_writes (change.old ∷ []) (objects_at places.old) }
     ensures others { KeepsOthers (change.old ∷ []) places.old places.new }
     ensures id { id_of change.new ≡ id_of change.old }
@@ -113,7 +117,7 @@ fn make_write(places: &mut Places, change: &mut Change)
 }
 
 /// Takes the empty places of writes away.
-pub(crate) fn sweep_places(places: &mut Places, by_name: &mut ByName, changes: &[Change])
+pub(crate) fn sweep_places(places: &mut ObjectTable, by_name: &mut ByName, changes: &[Change])
     requires sound { IsSound places.old }
     requires index { IsIndex by_name.old places.old }
     ensures sound { IsSound places.new }
@@ -129,7 +133,7 @@ pub(crate) fn sweep_places(places: &mut Places, by_name: &mut ByName, changes: &
 }
 
 /// Takes the place of an identity in the index away, where no source and no anchor lies any more.
-fn sweep_entry(by_name: &mut ByName, places: &Places, id: &Id)
+fn sweep_entry(by_name: &mut ByName, places: &ObjectTable, id: &Id)
     requires { IsIndex by_name.old places.now }
     ensures index { IsIndex by_name.new places.now }
     ensures swept { IsSwept by_name.new places.now id.now }

@@ -2,7 +2,7 @@
 ghost use Rattle.std.specs.Prelude.{◌≡◌, true, None, Some, filter, IfOk, option_copied};
 ghost use Rattle.hx_model.specs.Cases.{is_leaving};
 ghost use Rattle.hx_model.specs.Forest.{chain_of, children_of, comes_back, halt_of, in_chain, is_live, subtree_of};
-ghost use Rattle.hx_model.specs.Moves.{is_calm};
+ghost use Rattle.hx_model.specs.Moves.{is_eligible};
 ghost use Rattle.hx_model.specs.State.{ascends, is_listed, least_in, object_at};
 ghost use Rattle.hx_model.specs.TreeLabels.{is_open};
 ghost use Rattle.hx_model.specs.Reports.{conditions_in};
@@ -127,10 +127,10 @@ impl<'a> Survey<'a> {
     }
 
     /// Whether a namespace is there and not on its way out, and isn't excluded.
-    pub fn is_calm(&self, name: &Text) -> bool
-        ensures { result ≡ is_calm (tree_of self.now) name.now }
+    pub fn is_eligible(&self, name: &Text) -> bool
+        ensures { result ≡ is_eligible (tree_of self.now) name.now }
     {
-        self.tree.is_calm(name)
+        self.tree.is_eligible(name)
     }
 
     /// Whether a namespace takes part: it is there and not on its way out, and neither excluded nor halted.

@@ -2,7 +2,7 @@
 ghost use Rattle.std.specs.Prelude.{◌≡◌, IfOk, option_copied};
 ghost use Rattle.hx_model.specs.Cases.{is_leaving};
 ghost use Rattle.hx_model.specs.Forest.{node_of, is_live, is_excluded, in_chain, comes_back, halt_of, chain_of, children_of, subtree_of};
-ghost use Rattle.hx_model.specs.Moves.{is_calm};
+ghost use Rattle.hx_model.specs.Moves.{is_eligible};
 ghost use Rattle.hx_model.specs.TreeLabels.{is_open};
 ghost use Rattle.hx_survey.specs.Inside.{Ascends};
 
@@ -115,8 +115,8 @@ impl Tree {
     }
 
     /// Whether a namespace is there and not on its way out, and isn't excluded.
-    pub(crate) fn is_calm(&self, name: &Text) -> bool
-        ensures { result ≡ is_calm self.now name.now }
+    pub(crate) fn is_eligible(&self, name: &Text) -> bool
+        ensures { result ≡ is_eligible self.now name.now }
     {
         self.is_live(name) && !self.is_excluded(name)
     }

@@ -17,7 +17,7 @@ use hx_object::well_known::{
     INHERITED_FROM, NONE_EXCEPTION, SELECT_EXCEPTION, TREE_SELECT_EXCEPTION,
 };
 use hx_object::{Mode, NoMemory, Object, Text};
-use hx_rules::exception;
+use hx_reconcile::exception;
 use hx_select::{SelectFault, Selector, TreeFault, TreeSelect};
 use std::alloc::Global;
 

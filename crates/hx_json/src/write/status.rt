@@ -1,6 +1,6 @@
 // Refusals and removals as compact JSON: each is a Kubernetes `Status`.
 ghost use Rattle.std.specs.Prelude.{◌≡◌, ◌++◌, string_bytes, OnOk};
-ghost use Rattle.hx_model.specs.Replies.{gone_text, status_text};
+ghost use Rattle.hx_model.specs.Replies.{deleted_text, status_text};
 
 use super::details::push_details;
 use super::text::{push, push_named, push_named_number, push_named_text, push_number};
@@ -21,8 +21,8 @@ pub fn push_status(out: &mut String, refusal: &Refusal) -> Result<(), NoMemory>
 }
 
 /// Appends the text of a removal, with the version of its write: a Kubernetes `Status` of success.
-pub fn push_gone(out: &mut String, version: u64) -> Result<(), NoMemory>
-    ensures { OnOk result (string_bytes out.new ≡ string_bytes out.old ++ gone_text version) }
+pub fn push_deleted(out: &mut String, version: u64) -> Result<(), NoMemory>
+    ensures { OnOk result (string_bytes out.new ≡ string_bytes out.old ++ deleted_text version) }
 {
     push_named_number(
         out,

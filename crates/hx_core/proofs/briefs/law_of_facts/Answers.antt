@@ -1,6 +1,6 @@
 use Rattle.std.proofs.Common.{◌<◌, ◌^◌, length, subst}
 use Rattle.std.specs.List.{AllByRecursion}
-use Rattle.hx_rules.specs.Briefs.{planned_by}
+use Rattle.hx_reconcile.specs.Briefs.{planned_by}
 use Rattle.hx_core.proofs.Keeping.{short_by}
 use Rattle.hx_core.proofs.briefs.law_of_facts.Goals as goal
 

@@ -1,4 +1,4 @@
-use Rattle.hx_forest.specs.Ways.{parent_in}
+use Rattle.hx_forest.specs.ParentRefs.{parent_in}
 use Rattle.hx_forest.proofs.Indexing.{within_lists}
 use Rattle.hx_forest.proofs.prepared.join.Goals as goal
 

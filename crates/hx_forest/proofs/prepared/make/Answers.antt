@@ -1,7 +1,7 @@
 use Rattle.std.proofs.Common.{◌≡◌, List, ℕ, sym, subst, Option}
 use Rattle.hx_model.specs.Forest.{Forest, children_of}
 use Rattle.hx_forest.specs.Children.{lists_of, names_in}
-use Rattle.hx_forest.specs.Ways.{nodes_of, forest_of}
+use Rattle.hx_forest.specs.ParentRefs.{nodes_of, forest_of}
 use Rattle.hx_forest.specs.Staged.{Place, IsJoined}
 use Rattle.hx_forest.proofs.Nodes.{ascends-forest}
 use Rattle.hx_forest.proofs.Changing.{index_changed}

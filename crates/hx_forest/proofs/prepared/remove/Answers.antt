@@ -1,12 +1,12 @@
 use Rattle.std.proofs.Common.{◌≡◌, ◌∙◌, List, ℕ, Option, Some, option_copied, option_map, ap, sym, subst, arith}
 use Rattle.hx_model.specs.Forest.{parent_of}
 use Rattle.hx_forest.specs.Children.{lists_of}
-use Rattle.hx_forest.specs.Places.{IsCut}
+use Rattle.hx_forest.specs.NodeTable.{IsCut}
 use Rattle.hx_forest.specs.Staged.{IsLeft}
-use Rattle.hx_forest.specs.Ways.{nodes_of, forest_of, index_at, parent_in}
+use Rattle.hx_forest.specs.ParentRefs.{nodes_of, forest_of, index_at, parent_in}
 use Rattle.hx_forest.proofs.Nodes.{ascends-forest}
 use Rattle.hx_forest.proofs.Slots.{index_within, cut_names}
-use Rattle.hx_forest.proofs.Ways.{among_indices, parent_at_name}
+use Rattle.hx_forest.proofs.ParentRefs.{among_indices, parent_at_name}
 use Rattle.hx_forest.proofs.Indexing.{within_lists}
 use Rattle.hx_forest.proofs.Entering.{carries_out, tied_left}
 use Rattle.hx_forest.proofs.Changing.{index_removed}
@@ -34,7 +34,7 @@ leave-requires-clause-there c =
 pub returns-clause-index : goal.returns-clause-index
 returns-clause-index c =
     let nodes = c.args.nodes.now in
-    let after = c.find_ways_to.new.nodes in
+    let after = c.find_parent_refs_to.new.nodes in
     let name = c.args.name in
     let i = c.in-Some.at in
     let mid = c.unlink.new.children in
@@ -46,7 +46,7 @@ returns-clause-index c =
     let left : IsLeft (option_map (λ p. (p, name)) (parent_of (forest_of nodes) name)) old new =
     subst (λ (o : Option (List ℕ)). IsLeft (option_map (λ p. (p, name)) o) old new) (was ∙ sym (parent_at_name nodes name i here)) (c.unlink.ensures.list nodes above) in
     let cut : IsCut nodes.places.entries after.places.entries name i =
-    cut_names nodes.places.entries c.remove-old.new.self.places.entries after.places.entries name i c.find_ways_to.ensures.names (c.remove-old.ensures.cut name here) in
+    cut_names nodes.places.entries c.remove-old.new.self.places.entries after.places.entries name i c.find_parent_refs_to.ensures.names (c.remove-old.ensures.cut name here) in
     let tied = c.unlink.ensures.tied nodes above c.requires.index.tied in
     record {
       tied = tied_left nodes after mid c.leave.new.self name i cut here tied c.leave.ensures.list;
@@ -57,12 +57,12 @@ returns-clause-index c =
 pub returns-clause-fits : goal.returns-clause-fits
 returns-clause-fits c = λ k q fits.
     let nodes = c.args.nodes.now in
-    let after = c.find_ways_to.new.nodes in
+    let after = c.find_parent_refs_to.new.nodes in
     let name = c.args.name in
     let i = c.in-Some.at in
     let here : index_at nodes (Some name) ≡ Some i = sym c.index_of.ensures ∙ c.in-Some.is in
     let was : option_copied c.as_ref.result ≡ parent_in nodes (Some i) = c.as_ref.ensures.value ∙ c.remove-old.ensures.old in
     let above : c.above-above.result ≡ index_at nodes (option_copied c.as_ref.result) = c.above-above.ensures ∙ ap (index_at nodes) (sym was) in
     let cut : IsCut nodes.places.entries after.places.entries name i =
-    cut_names nodes.places.entries c.remove-old.new.self.places.entries after.places.entries name i c.find_ways_to.ensures.names (c.remove-old.ensures.cut name here) in
+    cut_names nodes.places.entries c.remove-old.new.self.places.entries after.places.entries name i c.find_parent_refs_to.ensures.names (c.remove-old.ensures.cut name here) in
     (carries_out nodes after c.unlink.new.children c.leave.new.self name i cut here (c.unlink.ensures.tied nodes above c.requires.index.tied) c.leave.ensures.list q).fits k (c.unlink.ensures.fits nodes above k q fits)

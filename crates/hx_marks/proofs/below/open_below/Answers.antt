@@ -1,6 +1,6 @@
 use Rattle.std.proofs.Common.{◌≡◌, [], sym, ◌∙◌, rules}
 use Rattle.hx_marks.specs.Law.{open_below}
-use Rattle.hx_marks.proofs.Calm.{all_open}
+use Rattle.hx_marks.proofs.Eligible.{all_open}
 use Rattle.hx_marks.proofs.SpreadLaw.{open_distinct}
 use Rattle.hx_marks.proofs.TakingPart.{open_below_none}
 use Rattle.hx_marks.proofs.below.open_below.Goals as goal

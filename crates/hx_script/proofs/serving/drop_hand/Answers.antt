@@ -1,6 +1,6 @@
 use Rattle.std.proofs.Common.{refl, option_map}
 use Rattle.hx_model.specs.Machine.{Dropped}
-use Rattle.hx_rules.specs.declared.brief.Brief.{Brief}
+use Rattle.hx_reconcile.specs.declared.brief.Brief.{Brief}
 use Rattle.hx_script.specs.declared.order.Order.TheVariants as order
 use Rattle.hx_script.proofs.Idling.{idle_after}
 use Rattle.hx_script.proofs.Making.{Serves-turn}

@@ -1,6 +1,6 @@
 use Rattle.std.proofs.Common.{[], ◌∷◌, refl, subst, ◌∙◌, arith}
 use Rattle.std.proofs.lemmas.Option.{slice_get_within}
-use Rattle.hx_store.specs.Places.{HasPlace, KeepsOthers}
+use Rattle.hx_store.specs.ObjectTable.{HasPlace, KeepsOthers}
 use Rattle.hx_store.specs.ByName.{HasEntry}
 use Rattle.hx_store.proofs.Indexing.{index_places}
 use Rattle.hx_store.proofs.Waiting.{more_others}

@@ -1,7 +1,7 @@
 use Rattle.std.proofs.Common.{◌≡◌, ◌<◌, ℕ, Some}
 use Rattle.std.specs.Prelude.{slice_get}
 use Rattle.hx_model.specs.declared.key.Write.{Write}
-use Rattle.hx_store.specs.Places.{IsSound, HasSame, HasPlace, KeepsOthers}
+use Rattle.hx_store.specs.ObjectTable.{IsSound, HasSame, HasPlace, KeepsOthers}
 use Rattle.hx_store.specs.ByName.{HasEntry, IsIndex}
 use Rattle.hx_store.proofs.writes.add_places.Given as goal
 

@@ -1,5 +1,5 @@
 use Rattle.std.proofs.Common.{[], refl, true≢false, sym, ◌∙◌}
-use Rattle.hx_store.specs.Places.{AreAwaited}
+use Rattle.hx_store.specs.ObjectTable.{AreAwaited}
 use Rattle.hx_store.proofs.Waiting.{more_awaited, none_awaited, none_ready}
 use Rattle.hx_store.proofs.Writing.{same_objects}
 use Rattle.hx_store.proofs.writes.make_places.Goals as goal

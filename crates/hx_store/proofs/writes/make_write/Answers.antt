@@ -1,13 +1,13 @@
 use Rattle.std.proofs.Common.{ap, refl, ◌∙◌}
 use Rattle.hx_store.specs.Changes.{id_of, object_of}
-use Rattle.hx_store.specs.Places.{EditsPlaces, filled}
+use Rattle.hx_store.specs.ObjectTable.{EditsObjectTable, filled}
 use Rattle.hx_store.proofs.Indexing.{index_write}
 use Rattle.hx_store.proofs.Waiting.{edit_others}
 use Rattle.hx_store.proofs.Writing.{fill_edits, objects_write, place_kept, sound_write}
 use Rattle.hx_store.proofs.Edits.{filled_keeps}
 use Rattle.hx_store.proofs.writes.make_write.Goals as goal
 
-edits : (c : goal.After-fill) → EditsPlaces (filled (object_of c.args.change.now)) c.args.places.now c.fill.new.self (id_of c.args.change.now)
+edits : (c : goal.After-fill) → EditsObjectTable (filled (object_of c.args.change.now)) c.args.places.now c.fill.new.self (id_of c.args.change.now)
 edits c = fill_edits c.args.places.now c.fill.new.self c.args.change.now c.take-object.result c.id.result.now
     c.take-object.ensures.object (c.id.ensures ∙ ap id_of c.take-object.ensures.rest) c.fill.ensures.filled
 

@@ -2,7 +2,7 @@ use Rattle.std.proofs.Common.{◌≤◌, ◌<◌, length, refl, sym, ap, ◌∙�
 use Rattle.std.proofs.lemmas.Option.{slice_get-get_or}
 use Rattle.std.proofs.Math.ListN.{drop_of_length-le}
 use Rattle.hx_model.specs.State.{after_writes}
-use Rattle.hx_store.specs.Places.{HasPlace, objects_at}
+use Rattle.hx_store.specs.ObjectTable.{HasPlace, objects_at}
 use Rattle.hx_store.specs.ByName.{HasEntry}
 use Rattle.hx_store.proofs.Waiting.{more_others, same_written}
 use Rattle.hx_store.proofs.Writing.{left_hold, left_writes}

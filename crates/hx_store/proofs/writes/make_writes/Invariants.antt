@@ -3,7 +3,7 @@ use Rattle.std.specs.Prelude.{slice_get}
 use Rattle.hx_object.specs.declared.object.Id.{Id}
 use Rattle.hx_model.specs.State.{after_writes}
 use Rattle.hx_model.specs.declared.key.Write.{Write}
-use Rattle.hx_store.specs.Places.{IsSound, HasPlace, KeepsOthers, is_written, objects_at}
+use Rattle.hx_store.specs.ObjectTable.{IsSound, HasPlace, KeepsOthers, is_written, objects_at}
 use Rattle.hx_store.specs.ByName.{HasEntries, HasEntry, IsIndex}
 use Rattle.hx_store.specs.declared.by_name.ByName.{ByName}
 use Rattle.hx_store.proofs.writes.make_writes.Given as goal

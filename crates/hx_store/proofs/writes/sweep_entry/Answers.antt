@@ -1,6 +1,6 @@
 use Rattle.std.proofs.Common.{◌≡◌, true, false, rules, sym, ap, ◌∙◌, true≢false}
 use Rattle.std.specs.Prelude.{is_some}
-use Rattle.hx_store.specs.Places.{found, place_at}
+use Rattle.hx_store.specs.ObjectTable.{found, place_at}
 use Rattle.hx_store.specs.Sources.{indexed_in, may_be_indexed}
 use Rattle.hx_store.specs.ByName.{turned, turned_places}
 use Rattle.hx_store.proofs.Indexing.{index_sweep}

@@ -1,7 +1,7 @@
 use Rattle.std.proofs.Common.{◌≡◌, get_or, refl, ap, ◌∙◌, arith}
 use Rattle.std.proofs.lemmas.Option.{slice_get_within}
 use Rattle.hx_store.specs.Changes.{id_of}
-use Rattle.hx_store.specs.Places.{HasSame, swept}
+use Rattle.hx_store.specs.ObjectTable.{HasSame, swept}
 use Rattle.hx_store.proofs.Indexing.{index_places}
 use Rattle.hx_store.proofs.Waiting.{edit_others, more_others, more_swept}
 use Rattle.hx_store.proofs.Writing.{same_by, sound_by, swept_found}

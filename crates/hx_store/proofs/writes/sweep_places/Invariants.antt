@@ -2,7 +2,7 @@ use Rattle.std.proofs.Common.{◌≡◌, ◌≢◌, ◌<◌, ℕ, Some, None}
 use Rattle.std.specs.Prelude.{slice_get}
 use Rattle.hx_model.specs.declared.key.Write.{Write}
 use Rattle.hx_store.specs.Changes.{id_of}
-use Rattle.hx_store.specs.Places.{IsSound, HasSame, KeepsOthers, place_at}
+use Rattle.hx_store.specs.ObjectTable.{IsSound, HasSame, KeepsOthers, place_at}
 use Rattle.hx_store.specs.ByName.{IsIndex}
 use Rattle.hx_store.proofs.writes.sweep_places.Given as goal
 

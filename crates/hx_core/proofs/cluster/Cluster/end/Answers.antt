@@ -1,6 +1,6 @@
 use Rattle.hx_core.specs.Inside.{view_of}
 use Rattle.hx_model.specs.Hands.{hand_of}
-use Rattle.hx_rules.specs.Briefs.{hand_by}
+use Rattle.hx_reconcile.specs.Briefs.{hand_by}
 use Rattle.hx_core.proofs.Finishing.{ends_empty, held_is}
 use Rattle.hx_core.proofs.cluster.Cluster.end.Goals as goal
 

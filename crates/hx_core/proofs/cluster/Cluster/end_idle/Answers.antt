@@ -1,5 +1,5 @@
 use Rattle.hx_model.specs.Hands.{hand_of}
-use Rattle.hx_rules.specs.Briefs.{hand_by}
+use Rattle.hx_reconcile.specs.Briefs.{hand_by}
 use Rattle.hx_core.specs.Inside.{view_of}
 use Rattle.hx_core.proofs.Finishing.{ends_nothing, done_nothing}
 use Rattle.hx_core.proofs.cluster.Cluster.end_idle.Goals as goal

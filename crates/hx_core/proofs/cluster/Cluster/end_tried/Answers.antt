@@ -1,5 +1,5 @@
 use Rattle.std.proofs.Common.{not, sym, ap, ◌∙◌, subst}
-use Rattle.hx_rules.specs.Briefs.{hand_by}
+use Rattle.hx_reconcile.specs.Briefs.{hand_by}
 use Rattle.hx_core.specs.Inside.{view_of}
 use Rattle.hx_core.specs.Queued.{IsReleased}
 use Rattle.hx_core.proofs.Finishing.{ends_tried, done_tried}

@@ -3,7 +3,7 @@ use Rattle.hx_model.specs.State.{State}
 use Rattle.hx_core.specs.Inside.{view_of}
 use Rattle.hx_core.specs.Working.{IsGiven, IsGivenBy}
 use Rattle.hx_core.proofs.Keeping.{sound_given, sound_ready}
-use Rattle.hx_core.proofs.Reached.{reach_same}
+use Rattle.hx_core.proofs.Reached.{scope_same}
 use Rattle.hx_core.proofs.Turning.{given_by}
 use Rattle.hx_core.proofs.cluster.Cluster.give.Goals as goal
 
@@ -13,7 +13,7 @@ invariant_of-self g c =
     let ready = sound_ready c.self.inside.state.state c.make_ready.new.state.state c.self.inside.workers.seen (g.K.Keeper.shown c.self.inside.keeper) c.self.inside.state.staged c.make_ready.new.state.staged c.make_ready.ensures.state c.make_ready.ensures.staged c.self.invariant.sound in
     record {
       sound = sound_given c.make_ready.new.state.state c.self.inside.workers.seen c.give_to.new.workers.seen (g.K.Keeper.shown c.self.inside.keeper) c.make_ready.new.state.staged c.args.worker c.args.key c.give_to.result ready requires.empty requires.free c.law_apart.ensures c.give_to.ensures.given;
-      reach = reach_same c.self.inside.state.state c.make_ready.new.state.state c.self.inside.workers.reach c.give_to.new.workers.reach c.make_ready.ensures.state c.give_to.ensures.reach c.self.invariant.reach;
+      scope = scope_same c.self.inside.state.state c.make_ready.new.state.state c.self.inside.workers.scope c.give_to.new.workers.scope c.make_ready.ensures.state c.give_to.ensures.scope c.self.invariant.scope;
     }
 
 pub returns : goal.returns

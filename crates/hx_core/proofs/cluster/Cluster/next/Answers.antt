@@ -1,7 +1,7 @@
 use Rattle.std.proofs.Common.{refl, ap, sym, subst}
 use Rattle.hx_core.specs.Inside.{IsSound, view_of}
 use Rattle.hx_core.proofs.Keeping.{next_in, next_none}
-use Rattle.hx_core.proofs.Reached.{reach_same}
+use Rattle.hx_core.proofs.Reached.{scope_same}
 use Rattle.hx_queue.specs.Workers.{WorkersView}
 use Rattle.hx_core.proofs.cluster.Cluster.next.Goals as goal
 
@@ -9,7 +9,7 @@ pub invariant_of-self : goal.invariant_of-self
 invariant_of-self g c =
     record {
       sound = subst (λ (v : WorkersView). IsSound c.self.inside.state.state v (g.K.Keeper.shown c.self.inside.keeper) c.self.inside.state.staged) (sym c.next.ensures.seen) c.self.invariant.sound;
-      reach = reach_same c.self.inside.state.state c.self.inside.state.state c.self.inside.workers.reach c.next.new.self.reach refl c.next.ensures.reach c.self.invariant.reach;
+      scope = scope_same c.self.inside.state.state c.self.inside.state.state c.self.inside.workers.scope c.next.new.self.scope refl c.next.ensures.scope c.self.invariant.scope;
     }
 
 pub returns-clause-same : goal.returns-clause-same

@@ -10,7 +10,7 @@ invariant_of-result g c =
     record {
       sound = sound_opening (g.K.Keeper.shown c.args.keeper) (g.K.Keeper.shown c.load_work.new.keeper) c.in-Ok.state.state c.in-Ok.workers.seen c.in-Ok.state.staged c.in-Ok.ensures.valid c.in-Ok.ensures.staged c.in-Ok.ensures.asked.same.kept c.in-Ok.ensures.holds
           c.in-Ok.ensures.waiting c.in-Ok.ensures.hands c.in-Ok.ensures.again;
-      reach = c.in-Ok.ensures.reach;
+      scope = c.in-Ok.ensures.scope;
     }
 
 pub returns-in-Ok-clause-opens : goal.returns-in-Ok-clause-opens

@@ -9,7 +9,7 @@ invariant_of-self g c =
       sound = sound_committed c.self.inside.state.state c.write_marked.new.state.state c.self.inside.workers.seen c.write_marked.new.workers.seen c.args.writes.items (option_copied c.args.own) (g.K.Keeper.shown c.self.inside.keeper) (g.K.Keeper.shown c.write_marked.new.keeper)
           c.self.inside.state.staged c.write_marked.new.state.staged c.write_marked.result c.self.invariant.sound requires.may requires.orderly requires.some requires.own c.write_marked.ensures.staged c.write_marked.ensures.landed c.write_marked.ensures.marked c.write_marked.ensures.seen
           c.write_marked.ensures.state c.write_marked.ensures.keeper c.write_marked.ensures.fault;
-      reach = c.write_marked.ensures.reach;
+      scope = c.write_marked.ensures.scope;
     }
 
 pub returns-clause-marked : goal.returns-clause-marked

@@ -17,6 +17,6 @@ loop-prepared-preserved c =
       none = c.loop-prepared.invariant.none;
       ready = ready_on before.nodes c.make.new.nodes before.children c.make.new.children p rest (subst (IsReady before.nodes before.children) split c.loop-prepared.invariant.ready)
           c.make.ensures.nodes c.make.ensures.index c.make.ensures.node_room c.make.ensures.list_room c.make.ensures.other_room c.make.ensures.fits;
-      ways = c.make.ensures.ways;
+      parent_refs = c.make.ensures.parent_refs;
       notes = c.make.ensures.notes c.loop-prepared.invariant.notes;
     }

@@ -2,7 +2,7 @@ use Rattle.std.proofs.Common.{rules, ◌≡◌, ◌+◌, ◌≤◌, ◌<◌, ◌
 use Rattle.std.proofs.lemmas.List.{take_all}
 use Rattle.std.specs.Str.{bytes_eq}
 use Rattle.hx_model.specs.Forest.{Forest, is_there, children_of}
-use Rattle.hx_forest.specs.Ways.{nodes_of}
+use Rattle.hx_forest.specs.ParentRefs.{nodes_of}
 use Rattle.hx_forest.proofs.Named.{ascends}
 use Rattle.hx_forest.proofs.Nodes.{ascends-forest}
 use Rattle.hx_forest.proofs.Descending.{IsDescent, descent_start, descent_on, descent_end, few_found, nothing_below}

@@ -1,5 +1,5 @@
 use Rattle.std.proofs.Common.{rules, ◌≡◌, ◌<◌, Some, option_copied, sym, ap, ◌∙◌}
-use Rattle.hx_forest.specs.Ways.{name_in}
+use Rattle.hx_forest.specs.ParentRefs.{name_in}
 use Rattle.hx_forest.proofs.Passing.{one_fewer}
 use Rattle.hx_forest.proofs.Indices.{names_index}
 use Rattle.hx_forest.proofs.walks.AncestorsIterator.next.Goals as goal

@@ -1,7 +1,7 @@
 use Rattle.std.proofs.Common.{◌≡◌, ◌∙◌, None, sym, ap, subst}
 use Rattle.hx_model.specs.Hands.{hand_of}
-use Rattle.hx_rules.specs.Briefs.{hand_by}
-use Rattle.hx_rules.specs.declared.brief.Brief.{Brief}
+use Rattle.hx_reconcile.specs.Briefs.{hand_by}
+use Rattle.hx_reconcile.specs.declared.brief.Brief.{Brief}
 use Rattle.hx_queue.specs.Kept.{Releases, is_held}
 use Rattle.hx_queue.specs.Tied.{hands_of, IsKept}
 use Rattle.hx_queue.specs.Workers.{IsLetGo}

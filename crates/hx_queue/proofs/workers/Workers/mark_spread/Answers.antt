@@ -7,9 +7,9 @@ use Rattle.std.proofs.Common.{subst, sym}
 pub invariant_of-self : goal.invariant_of-self
 invariant_of-self c =
     kept_by_spread c.args.id (hands_of c.self.inside.hands.items) c.self.inside.queue c.self.inside.spread c.add.new.self c.self.invariant
-    (subst (λ (w : WorkersKept). MaySpread c.args.id w.seen.hands w.reach w.spread) (sym c.self.view_is) c.requires.may) c.add.ensures.ids
+    (subst (λ (w : WorkersKept). MaySpread c.args.id w.seen.hands w.scope w.spread) (sym c.self.view_is) c.requires.may) c.add.ensures.ids
 
 pub returns-clause-marked : goal.returns-clause-marked
 returns-clause-marked c =
     rw (← c.self.view_is) (seen_by_spread c.args.id (hands_of c.self.inside.hands.items) c.self.inside.queue c.self.inside.spread c.add.new.self
-    (subst (λ (w : WorkersKept). MaySpread c.args.id w.seen.hands w.reach w.spread) (sym c.self.view_is) c.requires.may) c.add.ensures.reach c.add.ensures.ids)
+    (subst (λ (w : WorkersKept). MaySpread c.args.id w.seen.hands w.scope w.spread) (sym c.self.view_is) c.requires.may) c.add.ensures.scope c.add.ensures.ids)

@@ -7,5 +7,5 @@ use Rattle.hx_queue.proofs.workers.Workers.may_spread.Goals as goal
 
 pub returns-then-fits : goal.returns-then-fits
 returns-then-fits c =
-    rw (← c.self.view_is) (may_by c.args.id.now c.self.inside.hands.items c.self.inside.spread.reach c.self.inside.spread.ids c.holds_place.result (c.fits.ensures c.if-fits.true)
+    rw (← c.self.view_is) (may_by c.args.id.now c.self.inside.hands.items c.self.inside.spread.scope c.self.inside.spread.ids c.holds_place.result (c.fits.ensures c.if-fits.true)
     (c.holds_place.ensures ∙ ap (list_any (λ (h : Handed). is_place_of c.args.id.now h.brief.key)) c.as_slice.ensures.value))

@@ -1,7 +1,7 @@
 use Rattle.std.proofs.Common.{◌≡◌, ◌∙◌, ◌++◌, ◌∷◌, [], sym, ap, subst}
 use Rattle.std.proofs.lemmas.List.{map-append}
 use Rattle.hx_model.specs.Hands.{hand_of, is_held}
-use Rattle.hx_rules.specs.Briefs.{hand_by}
+use Rattle.hx_reconcile.specs.Briefs.{hand_by}
 use Rattle.hx_queue.specs.Spread.{is_spread}
 use Rattle.hx_queue.specs.Tied.{hands_of, hand_in, IsKept}
 use Rattle.hx_queue.specs.Workers.{WorkersKept, IsTakenBy}

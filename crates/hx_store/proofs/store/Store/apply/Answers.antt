@@ -1,7 +1,7 @@
 use Rattle.std.proofs.Common.{◌≡◌, ◌++◌, drop, length, sym, take, ap, subst, ◌∙◌}
 use Rattle.std.proofs.Math.Seq.{take-append_seam}
 use Rattle.hx_model.specs.State.{after_writes}
-use Rattle.hx_store.specs.Places.{AreAwaited, is_written, objects_at}
+use Rattle.hx_store.specs.ObjectTable.{AreAwaited, is_written, objects_at}
 use Rattle.hx_store.specs.ByName.{HasEntries}
 use Rattle.hx_store.proofs.Indexing.{none_staged}
 use Rattle.hx_store.proofs.Waiting.{more_awaited, none_awaited, none_ready}

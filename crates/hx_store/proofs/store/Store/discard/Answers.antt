@@ -1,5 +1,5 @@
 use Rattle.std.proofs.Common.{◌≡◌, ap, ◌∙◌}
-use Rattle.hx_store.specs.Places.{is_written}
+use Rattle.hx_store.specs.ObjectTable.{is_written}
 use Rattle.hx_store.proofs.Indexing.{none_staged}
 use Rattle.hx_store.proofs.Waiting.{none_awaited, none_ready}
 use Rattle.hx_store.proofs.Writing.{same_objects}

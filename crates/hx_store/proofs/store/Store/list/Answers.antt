@@ -2,7 +2,7 @@ use Rattle.std.proofs.Common.{◌≡◌, ◌++◌, ap, subst, ◌∙◌, filter}
 use Rattle.std.specs.Prelude.{option_copied}
 use Rattle.std.specs.List.Sorted.{IsPermutation}
 use Rattle.hx_model.specs.Answers.{is_listed}
-use Rattle.hx_store.specs.Places.{objects_listed}
+use Rattle.hx_store.specs.ObjectTable.{objects_listed}
 use Rattle.hx_store.proofs.Listing.{places_listed}
 use Rattle.hx_store.proofs.store.Store.list.Goals as goal
 

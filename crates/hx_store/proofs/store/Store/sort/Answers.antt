@@ -1,13 +1,13 @@
 use Rattle.std.proofs.Common.{◌≡◌, ap, ◌∙◌}
 use Rattle.hx_object.specs.declared.object.Id.{Id}
-use Rattle.hx_store.specs.Places.{ArePlaces, found, objects_at, place_at}
+use Rattle.hx_store.specs.ObjectTable.{IsObjectTable, found, objects_at, place_at}
 use Rattle.hx_store.proofs.Indexing.{index_places}
 use Rattle.hx_store.proofs.Waiting.{stay_ready}
 use Rattle.hx_store.proofs.Writing.{same_objects}
 use Rattle.hx_store.proofs.store.Store.sort.Goals.{After-sort}
 use Rattle.hx_store.proofs.store.Store.sort.Goals as goal
 
-distinct : (c : After-sort) → ArePlaces c.sort.new.self
+distinct : (c : After-sort) → IsObjectTable c.sort.new.self
 distinct c = c.sort.ensures.places c.self.invariant.ready.sound.distinct
 
 same : (c : After-sort) (id : Id) → place_at c.sort.new.self id ≡ place_at c.self.inside.places id

@@ -1,7 +1,0 @@
-use Rattle.std.proofs.Common.{◌∙◌, Some, ap}
-use Rattle.hx_forest.specs.Ways.{node_in, place_in}
-use Rattle.hx_forest.proofs.Ways.{node_at_name}
-use Rattle.hx_forest.proofs.places.Nodes.node.Goals as goal
-
-pub returns : goal.returns
-returns c = c.node_in.ensures ∙ ap (λ o. node_in (place_in c.args.self.now o)) c.index_of.ensures ∙ node_at_name c.args.self.now (Some c.args.name.now)

@@ -1,7 +1,0 @@
-use Rattle.std.proofs.Common.{◌∙◌, ap, sym}
-use Rattle.hx_forest.specs.Ways.{node_in}
-use Rattle.hx_forest.proofs.Ways.{node_there}
-use Rattle.hx_forest.proofs.places.Nodes.node_near.Goals as goal
-
-pub returns-then-lies_at : goal.returns-then-lies_at
-returns-then-lies_at c = c.node_in.ensures ∙ ap node_in (c.lies_at.ensures c.if-lies_at.true) ∙ sym (node_there c.args.self.now c.args.name.now)

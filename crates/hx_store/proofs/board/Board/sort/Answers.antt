@@ -1,6 +1,0 @@
-use Rattle.std.proofs.Common.{sym, ap, ◌∙◌}
-use Rattle.hx_store.specs.Places.{place_in, place_on}
-use Rattle.hx_store.proofs.board.Board.sort.Goals as goal
-
-pub returns-in-Many-clause-places : goal.returns-in-Many-clause-places
-returns-in-Many-clause-places c q = c.sort.ensures.places q ∙ ap (λ s. place_on s q) c.as_mut.ensures.value ∙ ap (λ b. place_in b q) (sym c.in-Many.is)

@@ -1,6 +1,0 @@
-use Rattle.std.proofs.Common.{sym, ◌∙◌}
-use Rattle.hx_store.proofs.Shown.{length_shown}
-use Rattle.hx_store.proofs.shelf.Shelf.len.Goals as goal
-
-pub returns : goal.returns
-returns c = c.len.ensures.len ∙ sym (length_shown c.args.self.now.shown c.args.self.now.places.keys)
