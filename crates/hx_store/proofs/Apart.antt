@@ -14,7 +14,7 @@ use Rattle.hx_object.specs.declared.object.Object.{Object}
 use Rattle.hx_model.specs.State.{same_id, object_at}
 use Rattle.hx_store.specs.ObjectTable.{entries_of, IsKindTable, AreDistinct, found, place_in, place_of, of_place, objects_in, objects_of}
 use Rattle.hx_store.specs.declared.name_map.NameMap.{NameMap}
-use Rattle.hx_store.specs.declared.namespaces.KindTable.{KindTable}
+use Rattle.hx_store.specs.declared.kind_table.KindTable.{KindTable}
 use Rattle.hx_store.proofs.Finding.{none_among, each, level, id_of, apart_in, apart_of, own_in}
 
 -- no identity is that of a later object

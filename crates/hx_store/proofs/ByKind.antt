@@ -9,7 +9,7 @@ use Rattle.hx_object.specs.declared.kind.Kind.{Kind}
 use Rattle.hx_object.specs.declared.kind.Kind.TheVariants.{Namespace, HncConfiguration, HierarchyConfiguration, SubnamespaceAnchor, HierarchicalResourceQuota, Role, RoleBinding, ConfigMap, Secret, NetworkPolicy, LimitRange, Pod, Service, PersistentVolumeClaim}
 use Rattle.hx_object.specs.declared.object.Id.{Id}
 use Rattle.hx_store.specs.ObjectTable.{Place, EditsKindTable, EditsObjectTable, IsKindTable, IsObjectTable, place_of, place_at}
-use Rattle.hx_store.specs.declared.namespaces.KindTable.{KindTable}
+use Rattle.hx_store.specs.declared.kind_table.KindTable.{KindTable}
 use Rattle.hx_store.specs.declared.object_table.ObjectTable.{ObjectTable}
 
 -- numbers begin with one

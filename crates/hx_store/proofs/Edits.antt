@@ -12,7 +12,7 @@ use Rattle.hx_store.specs.ObjectTable.{entries_of, entries_on, Place, EditsNameM
 use Rattle.hx_store.specs.declared.name_map.NameMap.{NameMap}
 use Rattle.hx_store.specs.declared.name_map.NameMap.TheVariants.{Empty, Held, One}
 use Rattle.hx_store.specs.declared.name_table.NameTable.{NameTable}
-use Rattle.hx_store.specs.declared.namespaces.KindTable.{KindTable}
+use Rattle.hx_store.specs.declared.kind_table.KindTable.{KindTable}
 
 pub none_from : {X : Type 0} (o : Option X) → is_some o ≡ false → o ≡ None
 none_from None e = refl

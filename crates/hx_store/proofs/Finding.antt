@@ -20,7 +20,7 @@ use Rattle.hx_model.proofs.Objects.{object_at-objects_from}
 use Rattle.hx_store.proofs.ByKind.{number_of-least}
 use Rattle.hx_store.specs.ObjectTable.{entries_of, Place, IsKindTable, AreDistinct, IsSound, found, place_in, place_of, place_at, name_map_in, of_place, objects_in, objects_of, all_objects, objects_at}
 use Rattle.hx_store.specs.declared.name_map.NameMap.{NameMap}
-use Rattle.hx_store.specs.declared.namespaces.KindTable.{KindTable}
+use Rattle.hx_store.specs.declared.kind_table.KindTable.{KindTable}
 use Rattle.hx_store.specs.declared.object_table.ObjectTable.{ObjectTable}
 
 -- ---- keys that are texts

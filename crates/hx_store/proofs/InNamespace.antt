@@ -21,7 +21,7 @@ use Rattle.hx_model.proofs.Objects.{ascends-objects_from, is_same_id, none_below
 use Rattle.hx_store.specs.Least.{IsLeast}
 use Rattle.hx_store.specs.ObjectTable.{IsObjectTable, IsKindTable, IsSound, all_objects, found, kind_at, objects_at, place_at, place_of, unchanged}
 use Rattle.hx_store.specs.declared.object_table.ObjectTable.{ObjectTable}
-use Rattle.hx_store.specs.declared.namespaces.KindTable.{KindTable}
+use Rattle.hx_store.specs.declared.kind_table.KindTable.{KindTable}
 use Rattle.hx_store.proofs.ByKind.{number_of-least, set_edits, set_places}
 use Rattle.hx_store.proofs.Edits.{either_same}
 use Rattle.hx_store.proofs.Finding.{found_at, id_of, kind_of_index, text_itself}

@@ -14,7 +14,7 @@ use Rattle.hx_store.specs.ObjectTable.{Place, IsObjectTable, HasSame, EditsObjec
 use Rattle.hx_store.specs.Sources.{is_indexed, indexed_in}
 use Rattle.hx_store.specs.ByName.{HasEntry, HasEntries, IsIndex, KeepsEntries, turned_places, turned}
 use Rattle.hx_store.specs.declared.object_table.ObjectTable.{ObjectTable}
-use Rattle.hx_store.specs.declared.namespaces.KindTable.{KindTable}
+use Rattle.hx_store.specs.declared.kind_table.KindTable.{KindTable}
 use Rattle.hx_store.specs.declared.by_name.ByName.{ByName}
 use Rattle.hx_store.proofs.Edits.{made_keeps}
 use Rattle.hx_store.proofs.Writing.{empty_sound, none_placed, kept_by, here, made_some}

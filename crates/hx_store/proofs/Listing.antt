@@ -33,7 +33,7 @@ use Rattle.hx_model.specs.Answers.{is_listed}
 use Rattle.hx_model.proofs.Objects.{id_total, same_id-cmp, same_from_Equal, same_rows, ascends-filter, object_at-filter, ascends-objects_from}
 use Rattle.hx_store.specs.ObjectTable.{IsSound, found, kind_at, place_in, place_of, place_at, name_map_in, objects_in, objects_under, objects_listed, all_objects, objects_at}
 use Rattle.hx_store.specs.declared.name_map.NameMap.{NameMap}
-use Rattle.hx_store.specs.declared.namespaces.KindTable.{KindTable}
+use Rattle.hx_store.specs.declared.kind_table.KindTable.{KindTable}
 use Rattle.hx_store.specs.declared.object_table.ObjectTable.{ObjectTable}
 use Rattle.hx_store.proofs.Finding.{and_true, id_of, found_in, found_of, found_at, own_in}
 use Rattle.hx_store.proofs.Apart.{AreApart, name_map_apart, kind_table_apart}

@@ -25,7 +25,7 @@ use Rattle.hx_store.specs.ObjectTable.{entries_of, Place, IsSound, found, kind_a
 use Rattle.hx_store.specs.Sources.{is_source, is_source_of, is_indexed, is_indexed_of, indexed_in}
 use Rattle.hx_store.specs.ByName.{IsIndex, entries_at, indexed_among, indexed_at, turned_places}
 use Rattle.hx_store.specs.declared.name_map.NameMap.{NameMap}
-use Rattle.hx_store.specs.declared.namespaces.KindTable.{KindTable}
+use Rattle.hx_store.specs.declared.kind_table.KindTable.{KindTable}
 use Rattle.hx_store.specs.declared.object_table.ObjectTable.{ObjectTable}
 use Rattle.hx_store.specs.declared.by_name.ByName.{ByName}
 use Rattle.hx_store.proofs.Edits.{none_from}

@@ -17,7 +17,7 @@ use Rattle.hx_model.specs.declared.key.Write.TheVariants.{Put, Cut}
 use Rattle.hx_model.proofs.Objects.{id_total, is_same_id, same_from_Equal, same_rows, object_at-put, object_at-cut, ascends-put, ascends-cut, ascends-objects_from}
 use Rattle.hx_store.specs.Changes.{id_of, object_of}
 use Rattle.hx_store.specs.ObjectTable.{IsKindTable, place_in, place_of, kind_at, objects_in, objects_of, Place, IsObjectTable, AreOwn, IsSound, HasPlace, HasSame, KeepsObjectTable, EditsObjectTable, found, filled, made, swept, unchanged, place_at, all_objects, objects_at}
-use Rattle.hx_store.specs.declared.namespaces.KindTable.{KindTable}
+use Rattle.hx_store.specs.declared.kind_table.KindTable.{KindTable}
 use Rattle.hx_store.specs.declared.object_table.ObjectTable.{ObjectTable}
 use Rattle.hx_store.proofs.ByKind.{slice_get-set_other}
 use Rattle.hx_store.proofs.Edits.{made_keeps}

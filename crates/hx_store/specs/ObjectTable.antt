@@ -30,7 +30,7 @@ use Rattle.hx_store.specs.declared.name_map.NameMap.{NameMap}
 use Rattle.hx_store.specs.declared.name_map.NameMap.TheVariants.{Empty, Held, One, Few, Many}
 use Rattle.hx_store.specs.declared.name_list.NameList.{NameList}
 use Rattle.hx_store.specs.declared.name_table.NameTable.{NameTable}
-use Rattle.hx_store.specs.declared.namespaces.KindTable.{KindTable}
+use Rattle.hx_store.specs.declared.kind_table.KindTable.{KindTable}
 use Rattle.hx_store.specs.declared.object_table.ObjectTable.{ObjectTable}
 
 -- a place: None where it is missing, Some None where it is empty

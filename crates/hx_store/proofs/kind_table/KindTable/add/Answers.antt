@@ -2,7 +2,7 @@ use Rattle.std.proofs.Common.{◌≡◌, List, ℕ, Some, cond, ap, ◌∙◌}
 use Rattle.std.specs.Str.{bytes_eq}
 use Rattle.hx_store.specs.ObjectTable.{name_map_in}
 use Rattle.hx_store.proofs.Edits.{all_but, new_edits, new_full, is_kind_table, same_kind_table}
-use Rattle.hx_store.proofs.namespaces.KindTable.add.Goals as goal
+use Rattle.hx_store.proofs.kind_table.KindTable.add.Goals as goal
 
 looks : (c : goal.Joined-none) → (q : List ℕ) → name_map_in (record { kind_table = c.insert.new.self }) q ≡ cond (bytes_eq c.args.ns.now q) (Some c.in_ok-name_map.name_map) (name_map_in c.args.self.now q)
 looks c q =

@@ -2,7 +2,7 @@ use Rattle.std.proofs.Common.{◌≡◌, Some, sym, ap, subst, ◌∙◌}
 use Rattle.std.specs.Option.{option_copied_mut}
 use Rattle.hx_store.specs.ObjectTable.{filled, name_map_in, IsKindTable}
 use Rattle.hx_store.proofs.Edits.{filled_keeps, full_edits, written_edits, written_full}
-use Rattle.hx_store.proofs.namespaces.KindTable.fill.Goals as goal
+use Rattle.hx_store.proofs.kind_table.KindTable.fill.Goals as goal
 
 there : (c : goal.After-self-in-Some-1) → name_map_in c.args.self.now c.args.ns.now ≡ Some c.in-Some.name_map.now
 there c = sym c.get_mut.ensures.value ∙ ap option_copied_mut c.in-Some.is

@@ -1,9 +1,9 @@
 use Rattle.std.proofs.Common.{◌≡◌, Some, [], sym, ap, subst, ◌∙◌}
 use Rattle.std.specs.Option.{option_copied_mut}
-use Rattle.hx_store.specs.declared.namespaces.KindTable.{KindTable}
+use Rattle.hx_store.specs.declared.kind_table.KindTable.{KindTable}
 use Rattle.hx_store.specs.ObjectTable.{unchanged, name_map_in, IsKindTable}
 use Rattle.hx_store.proofs.Edits.{stay_name_map, stay_full, stay_kind_table, written_edits, written_full}
-use Rattle.hx_store.proofs.namespaces.KindTable.sort.Goals as goal
+use Rattle.hx_store.proofs.kind_table.KindTable.sort.Goals as goal
 
 there : (c : goal.After-self-in-Some-1) → name_map_in c.args.self.now c.args.ns.now ≡ Some c.in-Some.name_map.now
 there c = sym c.get_mut.ensures.value ∙ ap option_copied_mut c.in-Some.is

@@ -2,7 +2,7 @@ use Rattle.std.proofs.Common.{◌≡◌, None, Some, sym, ap, subst, ◌∙◌, 
 use Rattle.std.specs.Option.{option_copied_mut}
 use Rattle.hx_store.specs.ObjectTable.{swept, name_map_in, IsKindTable}
 use Rattle.hx_store.proofs.Edits.{is_kind_table, written_edits, written_but, written_full}
-use Rattle.hx_store.proofs.namespaces.KindTable.sweep.Goals as goal
+use Rattle.hx_store.proofs.kind_table.KindTable.sweep.Goals as goal
 
 pub returns-then-is_empty-clause-kind_table : goal.returns-then-is_empty-clause-kind_table
 returns-then-is_empty-clause-kind_table c sound =
