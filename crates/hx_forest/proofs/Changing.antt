@@ -26,7 +26,7 @@ use Rattle.hx_forest.specs.declared.nodes.Nodes.{Nodes}
 use Rattle.hx_forest.specs.ParentRefs.{forest_of, index_at, parent_in}
 use Rattle.hx_forest.specs.Staged.{parted_by, joined_by, IsLeft, IsJoined}
 use Rattle.hx_forest.proofs.Named.{ascends, ascends-without_value, ascends-with_changed, lookup-without_value}
-use Rattle.hx_forest.proofs.Nodes.{ascends-with_node, node_of-with_node}
+use Rattle.hx_forest.proofs.NodeLookups.{ascends-with_node, node_of-with_node}
 use Rattle.hx_forest.proofs.ParentRefs.{parent_at_name}
 use Rattle.hx_forest.proofs.Listing.{names_sorted, same_names}
 

@@ -1,5 +1,5 @@
 pub mod Named
-pub mod Nodes
+pub mod NodeLookups
 pub mod Placing
 pub mod Slots
 pub mod Restless

@@ -30,7 +30,7 @@ use Rattle.hx_forest.specs.Inside.{node_at}
 use Rattle.hx_forest.specs.ParentRefs.{nodes_of, place_of, place_at, node_in, forest_of, index_at, place_in, parent_in, IsAt, LeadsUp, LeadUp, AllLeadUp}
 use Rattle.hx_forest.proofs.Placing.{place_at_index, name_at_index, own_index, look_changed}
 use Rattle.hx_forest.proofs.Named.{same_values}
-use Rattle.hx_forest.proofs.Nodes.{ascends-forest, forest-put, forest-cut, forest-changed, node_of-forest}
+use Rattle.hx_forest.proofs.NodeLookups.{ascends-forest, forest-put, forest-cut, forest-changed, node_of-forest}
 
 -- ---- ways
 

@@ -8,7 +8,7 @@ use Rattle.std.specs.Str.{bytes_eq}
 use Rattle.std.proofs.lemmas.Bool.{false_from_ne_true}
 use Rattle.std.proofs.lemmas.Map.Keys.{IsDistinct-tail}
 use Rattle.hx_forest.specs.declared.change.Change.TheVariants as tree
-use Rattle.hx_forest.proofs.Nodes.{node_of-with_node}
+use Rattle.hx_forest.proofs.NodeLookups.{node_of-with_node}
 use Rattle.hx_forest.proofs.Named.{lookup-with_value}
 use Rattle.hx_model.specs.First.{so}
 use Rattle.hx_model.specs.Forest.{Forest, is_in, node_of, is_there, parent_of, is_child, children_of}

@@ -3,7 +3,7 @@ use Rattle.hx_forest.specs.declared.change.Change.{Change}
 use Rattle.hx_forest.specs.Children.{lists_of, names_in, IsIndex, Fits}
 use Rattle.hx_forest.specs.ParentRefs.{nodes_of, forest_of}
 use Rattle.hx_forest.specs.Staged.{parted_by}
-use Rattle.hx_forest.proofs.Nodes.{ascends-forest}
+use Rattle.hx_forest.proofs.NodeLookups.{ascends-forest}
 use Rattle.hx_forest.proofs.Indexing.{lists_named, tied_named}
 use Rattle.hx_forest.proofs.Changing.{index_terminated}
 use Rattle.hx_forest.proofs.prepared.change_nodes.Goals as goal

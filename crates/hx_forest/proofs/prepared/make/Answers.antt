@@ -3,7 +3,7 @@ use Rattle.hx_model.specs.Forest.{Forest, children_of}
 use Rattle.hx_forest.specs.Children.{lists_of, names_in}
 use Rattle.hx_forest.specs.ParentRefs.{nodes_of, forest_of}
 use Rattle.hx_forest.specs.Staged.{Place, IsJoined}
-use Rattle.hx_forest.proofs.Nodes.{ascends-forest}
+use Rattle.hx_forest.proofs.NodeLookups.{ascends-forest}
 use Rattle.hx_forest.proofs.Changing.{index_changed}
 use Rattle.hx_forest.proofs.prepared.make.Goals as goal
 

@@ -4,7 +4,7 @@ use Rattle.hx_forest.specs.Children.{lists_of}
 use Rattle.hx_forest.specs.NodeTable.{IsCut}
 use Rattle.hx_forest.specs.Staged.{IsLeft}
 use Rattle.hx_forest.specs.ParentRefs.{nodes_of, forest_of, index_at, parent_in}
-use Rattle.hx_forest.proofs.Nodes.{ascends-forest}
+use Rattle.hx_forest.proofs.NodeLookups.{ascends-forest}
 use Rattle.hx_forest.proofs.Slots.{index_within, cut_names}
 use Rattle.hx_forest.proofs.ParentRefs.{among_indices, parent_at_name}
 use Rattle.hx_forest.proofs.Indexing.{within_lists}

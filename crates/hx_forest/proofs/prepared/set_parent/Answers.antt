@@ -3,7 +3,7 @@ use Rattle.hx_model.specs.Forest.{parent_of}
 use Rattle.hx_forest.specs.Children.{lists_of, names_in, Fits}
 use Rattle.hx_forest.specs.Staged.{IsLeft}
 use Rattle.hx_forest.specs.ParentRefs.{nodes_of, forest_of, index_at, parent_in}
-use Rattle.hx_forest.proofs.Nodes.{ascends-forest}
+use Rattle.hx_forest.proofs.NodeLookups.{ascends-forest}
 use Rattle.hx_forest.proofs.Slots.{index_keys}
 use Rattle.hx_forest.proofs.ParentRefs.{among_indices, parent_at_name}
 use Rattle.hx_forest.proofs.Indexing.{lists_named, tied_named, within_lists}

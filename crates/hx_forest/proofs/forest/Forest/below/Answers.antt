@@ -4,7 +4,7 @@ use Rattle.std.specs.Str.{bytes_eq}
 use Rattle.hx_model.specs.Forest.{Forest, is_there, children_of}
 use Rattle.hx_forest.specs.ParentRefs.{nodes_of}
 use Rattle.hx_forest.proofs.Named.{ascends}
-use Rattle.hx_forest.proofs.Nodes.{ascends-forest}
+use Rattle.hx_forest.proofs.NodeLookups.{ascends-forest}
 use Rattle.hx_forest.proofs.Descending.{IsDescent, descent_start, descent_on, descent_end, few_found, nothing_below}
 use Rattle.hx_forest.proofs.forest.Forest.below.Goals as goal
 

@@ -3,7 +3,7 @@ use Rattle.hx_model.specs.ForestChanges.{forest_from}
 use Rattle.hx_forest.specs.Names.{IsAscending}
 use Rattle.hx_forest.specs.Children.{list_at, names_in}
 use Rattle.hx_forest.specs.ParentRefs.{nodes_of}
-use Rattle.hx_forest.proofs.Nodes.{ascends-forest}
+use Rattle.hx_forest.proofs.NodeLookups.{ascends-forest}
 use Rattle.hx_forest.proofs.Changing.{children_ascend}
 use Rattle.hx_forest.proofs.forest.Forest.children.Goals as goal
 

@@ -2,7 +2,7 @@ use Rattle.std.proofs.Common.{◌∙◌, List, ℕ, sym, subst}
 use Rattle.std.specs.List.{IsDistinct}
 use Rattle.std.specs.Str.{bytes_eq}
 use Rattle.hx_forest.specs.ParentRefs.{nodes_of}
-use Rattle.hx_forest.proofs.Nodes.{length-forest}
+use Rattle.hx_forest.proofs.NodeLookups.{length-forest}
 use Rattle.hx_forest.proofs.ParentRefs.{same_keys, same_count}
 use Rattle.hx_forest.proofs.nodes.Nodes.len.Goals as goal
 
