@@ -6,7 +6,7 @@ use Rattle.hx_store.proofs.ByKind.{set_edits, set_places}
 use Rattle.hx_store.proofs.by_name.ByName.make.Goals as goal
 
 pub returns-clause-places : goal.returns-clause-places
-returns-clause-places c = set_places (turned_places c.args.self.now) c.index_of.result c.index-self-index_of.result c.make.new.self (turned c.args.id.now) (search rules) c.index_of.ensures.small c.index_of.ensures.value c.make.ensures.namespaces
+returns-clause-places c = set_places (turned_places c.args.self.now) c.index_of.result c.index-self-index_of.result c.make.new.self (turned c.args.id.now) (search rules) c.index_of.ensures.small c.index_of.ensures.value c.make.ensures.kind_table
 
 pub returns-clause-made : goal.returns-clause-made
 returns-clause-made c =

@@ -8,13 +8,13 @@ there : (c : goal.After-self-in-Some-1) → name_map_in c.args.self.now c.args.n
 there c = sym c.get_mut.ensures.value ∙ ap option_copied_mut c.in-Some.is
 
 pub returns-in-Some-clause-kind_table : goal.returns-in-Some-clause-kind_table
-returns-in-Some-clause-kind_table c = written_full c.args.self.now (record { kind_table = c.get_mut.follows.lender c.fill.new.self }) c.args.ns.now c.in-Some.name_map.now c.fill.new.self
+returns-in-Some-clause-kind_table c = written_full c.args.self.now (record { namespaces = c.get_mut.follows.lender c.fill.new.self }) c.args.ns.now c.in-Some.name_map.now c.fill.new.self
     (there c) (c.get_mut.follows.holds c.fill.new.self) c.fill.ensures.name_map
     (full_edits (filled c.args.object) c.in-Some.name_map.now c.fill.new.self c.args.name.now c.fill.ensures.places (filled_keeps c.args.object))
 
 pub returns-in-Some-clause-places : goal.returns-in-Some-clause-places
-returns-in-Some-clause-places c = written_edits c.args.self.now (record { kind_table = c.get_mut.follows.lender c.fill.new.self }) c.args.ns.now (filled c.args.object) c.args.name.now c.in-Some.name_map.now c.fill.new.self
+returns-in-Some-clause-places c = written_edits c.args.self.now (record { namespaces = c.get_mut.follows.lender c.fill.new.self }) c.args.ns.now (filled c.args.object) c.args.name.now c.in-Some.name_map.now c.fill.new.self
     (there c) (c.get_mut.follows.holds c.fill.new.self) c.fill.ensures.places
 
 pub returns-in-None-clause-kind_table : goal.returns-in-None-clause-kind_table
-returns-in-None-clause-kind_table c sound = subst (λ m. IsKindTable (record { kind_table = m })) (sym c.get_mut.follows.holds-at-none) sound
+returns-in-None-clause-kind_table c sound = subst (λ m. IsKindTable (record { namespaces = m })) (sym c.get_mut.follows.holds-at-none) sound

@@ -4,7 +4,7 @@ use Rattle.hx_store.proofs.ByKind.{set_edits, set_places}
 use Rattle.hx_store.proofs.object_table.ObjectTable.sweep.Goals as goal
 
 pub returns-clause-places : goal.returns-clause-places
-returns-clause-places c = set_places c.args.self.now c.index_of.result c.index-self-index_of.result c.sweep.new.self c.args.id.now (search rules) c.index_of.ensures.small c.index_of.ensures.value c.sweep.ensures.namespaces
+returns-clause-places c = set_places c.args.self.now c.index_of.result c.index-self-index_of.result c.sweep.new.self c.args.id.now (search rules) c.index_of.ensures.small c.index_of.ensures.value c.sweep.ensures.kind_table
 
 pub returns-clause-swept : goal.returns-clause-swept
 returns-clause-swept c = set_edits c.args.self.now c.index_of.result c.index-self-index_of.result c.sweep.new.self c.args.id.now (search rules) c.index_of.ensures.small c.index_of.ensures.value
