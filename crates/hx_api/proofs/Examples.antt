@@ -11,7 +11,7 @@ use Rattle.hx_model.specs.declared.refusal.Refusal.TheVariants.{NoMethod, BadQue
 use Rattle.hx_api.specs.Asks.{ask_of}
 use Rattle.hx_api.specs.Paths.{resource_of, segment_text}
 use Rattle.hx_api.specs.Queries.{bad_parameter, parameters_of}
-use Rattle.hx_api.specs.declared.method.Method.TheVariants.{Get, Post, Delete}
+use Rattle.hx_http.specs.declared.method.Method.TheVariants.{Get, Post, Delete}
 use Rattle.hx_api.specs.declared.resource_path.ResourcePath.TheVariants.{Events, Collection, Object}
 
 all_pods : resource_of (codes "/api/v1/pods") ≡ Some (Collection Pod None)

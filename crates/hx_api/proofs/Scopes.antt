@@ -8,7 +8,7 @@ use Rattle.hx_model.specs.declared.refusal.Refusal.TheVariants.{NoMethod}
 use Rattle.hx_api.specs.Asks.{resource_for, readable}
 use Rattle.hx_api.specs.Paths.{allows, decoded_object, decoded_resource, is_blank, is_namespaces, kind_under, cluster_kind, resource_of, resource_of_parts, resource_under, core_resource, group_resource, root_resource, parts_of, same_parts, segment_text}
 use Rattle.hx_api.specs.Inside.{FitsScope}
-use Rattle.hx_api.specs.declared.method.Method.{Method}
+use Rattle.hx_http.specs.declared.method.Method.{Method}
 use Rattle.hx_api.specs.declared.resource_path.ResourcePath.{ResourcePath}
 use Rattle.hx_api.specs.declared.resource_path.ResourcePath.TheVariants.{Events, Collection, Object}
 

@@ -18,8 +18,8 @@ use Rattle.hx_model.specs.declared.refusal.Refusal.TheVariants.{BadPath, BadQuer
 use Rattle.hx_api.specs.Bodies.{Said, read_body, refusal_of}
 use Rattle.hx_api.specs.Paths.{allows, decoded_resource, resource_of}
 use Rattle.hx_api.specs.Queries.{Parameters, bad_parameter, is_skip, parameters_of, path_of, query_of, selector_text}
-use Rattle.hx_api.specs.declared.method.Method.{Method}
-use Rattle.hx_api.specs.declared.method.Method.TheVariants.{Get, Post, Put, Delete}
+use Rattle.hx_http.specs.declared.method.Method.{Method}
+use Rattle.hx_http.specs.declared.method.Method.TheVariants.{Get, Post, Put, Delete}
 use Rattle.hx_api.specs.declared.resource_path.ResourcePath.{ResourcePath}
 use Rattle.hx_api.specs.declared.resource_path.ResourcePath.TheVariants.{Events, Collection, Object}
 

@@ -12,8 +12,8 @@ use Rattle.hx_object.specs.Kinds.{api_version_of, is_in_cluster, kind_of_plural}
 use Rattle.hx_object.specs.Names.{slash}
 use Rattle.hx_object.specs.declared.kind.Kind.{Kind}
 use Rattle.hx_model.specs.First.{so}
-use Rattle.hx_api.specs.declared.method.Method.{Method}
-use Rattle.hx_api.specs.declared.method.Method.TheVariants.{Get, Post, Put, Delete}
+use Rattle.hx_http.specs.declared.method.Method.{Method}
+use Rattle.hx_http.specs.declared.method.Method.TheVariants.{Get, Post, Put, Delete}
 use Rattle.hx_api.specs.declared.resource_path.ResourcePath.{ResourcePath}
 use Rattle.hx_api.specs.declared.resource_path.ResourcePath.TheVariants.{Events, Collection, Object}
 

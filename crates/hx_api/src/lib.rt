@@ -4,7 +4,6 @@
 #![tactic(auto)]
 
 mod body;
-mod method;
 mod parts;
 mod query;
 mod reply;
@@ -12,6 +11,6 @@ mod request;
 mod resource_path;
 mod served;
 
-pub use method::Method;
+pub use hx_http::Method;
 pub use reply::{Reply, push_body, status_of, write_answer};
 pub use request::RequestReader;

@@ -9,8 +9,8 @@ use Rattle.hx_object.specs.Names.{slash}
 use Rattle.hx_model.specs.declared.ask.Ask.{Ask}
 use Rattle.hx_model.specs.declared.refusal.Refusal.{Refusal}
 use Rattle.hx_model.specs.declared.refusal.Refusal.TheVariants.{BadLine, TooLong}
-use Rattle.hx_api.specs.declared.method.Method.{Method}
-use Rattle.hx_api.specs.declared.method.Method.TheVariants.{Get, Post, Put, Delete}
+use Rattle.hx_http.specs.declared.method.Method.{Method}
+use Rattle.hx_http.specs.declared.method.Method.TheVariants.{Get, Post, Put, Delete}
 use Rattle.hx_api.specs.Asks.{ask_of}
 use Rattle.hx_script.specs.Lines.{Line, Short, Long}
 use Rattle.hx_script.specs.Words.{word_of, rest_of}
