@@ -1,0 +1,261 @@
+// A door on a loopback address.
+ghost use Rattle.std.specs.Prelude.{◌≡◌, false, None, IfErr, IfOk, IsSome, IsSomeAnd, OnErr, OnOk};
+ghost use Rattle.std.specs.Option.{option_copied};
+ghost use Rattle.hx_ports.specs.Causes.{HasCause};
+ghost use Rattle.hx_door.specs.Doors.{AreFresh, Hands};
+ghost use Rattle.hx_door.specs.Listening.{IsLoopback, IsHeard, IsListenFault};
+
+use crate::door::{Door, DoorFault, Link};
+use hx_ports::{Sink, Source, StdSink, StdSource};
+use std::io::{ErrorKind, Read};
+use std::net::{Net, Shutdown, SocketAddr, TcpListener, TcpStream};
+use std::time::Duration;
+use std::{fmt, io};
+
+/// How many seconds a read or a write of a link waits.
+const PATIENCE_SECONDS: u64 = 60;
+
+/// How many milliseconds the end of a link waits for more of what its client sends.
+const SILENCE_MILLISECONDS: u64 = 500;
+
+/// How many bytes the end of a link reads at a time, and how often it does at most: 16 MB in all.
+const PIECE_BYTES: usize = 4096;
+
+const MOST_PIECES: u32 = 4096;
+
+/// Why a door doesn't listen.
+#[derive(Debug, Drop)]
+pub enum ListenFault {
+    /// The text is no IP address with a port, as `127.0.0.1:8080` or `[::1]:0` are.
+    NotAnAddress,
+    /// The address isn't one of 127.0.0.0/8 or ::1, so other machines could reach it.
+    NotLoopback,
+    /// The system refused the address, as where another process listens there.
+    Refused(io::Error),
+}
+
+impl fmt::Display for ListenFault {
+    fn fmt<W: fmt::Write>(&self, f: &mut fmt::Formatter<W>) -> fmt::Result {
+        match self {
+            ListenFault::NotAnAddress => f.write_str("it is no IP address with a port"),
+            ListenFault::NotLoopback => f.write_str("it is no loopback address"),
+            ListenFault::Refused(error) => write!(f, "{error}"),
+        }
+    }
+}
+
+impl From<io::Error> for ListenFault {
+    ghost use Rattle.hx_door.specs.declared.tcp.ListenFault.TheVariants.{Refused};
+
+    ghost from_gives = { λ error fault. fault ≡ Refused error };
+
+    fn from(error: io::Error) -> ListenFault {
+        ListenFault::Refused(error)
+    }
+}
+
+/// Links that come to a loopback address over TCP.
+pub struct TcpDoor {
+    listener: TcpListener,
+    address: SocketAddr,
+    faults: u64,
+    handed: u64,
+    out: u64,
+    last_fault: Option<io::Error>,
+}
+
+impl Drop for TcpDoor {
+    fn drop(self) {
+        let TcpDoor {
+            listener: _,
+            address: _,
+            faults: _,
+            handed: _,
+            out: _,
+            last_fault: _,
+        } = self;
+    }
+}
+
+impl TcpDoor {
+    ghost use Rattle.hx_door.specs.Shown.{address_of, why_failed};
+
+    /// Listens at an IP address and a port, or at a free port where that is 0. An address that isn't loopback is refused before anything is bound.
+    pub fn listen<R: Net<Listener = TcpListener, Stream = TcpStream>>(
+        rt: &R,
+        address: &str,
+    ) -> Result<TcpDoor, ListenFault>
+        ensures heard { OnOk result (IsHeard address.now) }
+        ensures refused { IfErr result (λ fault. IsListenFault address.now fault) }
+        ensures shown { IfOk result (λ door. ⟦<TcpDoor as Door>⟧.shown door ≡ record { faults = 0; handed = 0; out = 0; closed = false; coming = None; written = None }) }
+    {
+        let Ok(address) = address.parse::<SocketAddr>() else {
+            return Err(ListenFault::NotAnAddress);
+        };
+        if !address.ip().is_loopback() {
+            return Err(ListenFault::NotLoopback);
+        }
+        let listener = bind(rt, address)?;
+        let address = listener.local_addr()?;
+        Ok(TcpDoor {
+            listener,
+            address,
+            faults: 0,
+            handed: 0,
+            out: 0,
+            last_fault: None,
+        })
+    }
+
+    /// The address and the port that the door listens at.
+    pub fn local_addr(&self) -> SocketAddr
+        ensures { result ≡ address_of self.now }
+    {
+        self.address
+    }
+
+    pub fn faults(&self) -> u64
+        ensures { result ≡ (⟦<TcpDoor as Door>⟧.shown self.now).faults }
+    {
+        self.faults
+    }
+
+    /// Why the last call of `accept` failed that did.
+    pub fn last_fault(&self) -> Option<&io::Error>
+        ensures { option_copied result ≡ why_failed self.now }
+    {
+        self.last_fault.as_ref()
+    }
+}
+
+/// Binds a loopback address, and nothing else.
+fn bind<R: Net<Listener = TcpListener, Stream = TcpStream>>(
+    rt: &R,
+    address: SocketAddr,
+) -> io::Result<TcpListener>
+    requires { IsLoopback address }
+{
+    TcpListener::bind(rt, address)
+}
+
+impl Door for TcpDoor {
+    ghost use Rattle.hx_door.specs.Shown.{why_failed};
+
+    type Input = StdSource<TcpReader>;
+
+    type Output = StdSink<TcpStream>;
+
+    ghost shown = { λ d. record { faults = d.faults; handed = d.handed; out = d.out; closed = false; coming = None; written = None } };
+
+    fn accept(
+        &mut self,
+    ) -> Result<Option<Link<StdSource<TcpReader>, StdSink<TcpStream>>>, DoorFault>
+        ensures link { IfOk result (λ next. IsSomeAnd next (λ link. Hands (⟦<TcpDoor as Door>⟧.shown self.old) (⟦<TcpDoor as Door>⟧.shown self.new) (⟦<StdSource<TcpReader> as Source>⟧.shown link.source) (⟦<StdSink<TcpStream> as Sink>⟧.shown link.sink))) }
+        ensures fault { OnErr result (⟦<TcpDoor as Door>⟧.shown self.new ≡ record (⟦<TcpDoor as Door>⟧.shown self.old) { faults = (⟦<TcpDoor as Door>⟧.shown self.new).faults }) }
+        ensures cause { HasCause (⟦<TcpDoor as Door>⟧.shown self.old).faults (⟦<TcpDoor as Door>⟧.shown self.new).faults result }
+        ensures told { OnErr result (IsSome (why_failed self.new)) }
+        ensures same { OnOk result (why_failed self.new ≡ why_failed self.old) }
+    {
+        match next_link(&self.listener) {
+            Ok(link) => {
+                self.handed = self.handed.saturating_add(1);
+                self.out = self.out.saturating_add(1);
+                Ok(Some(link))
+            }
+            Err(error) => {
+                self.faults = self.faults.saturating_add(1);
+                self.last_fault = Some(error);
+                Err(DoorFault)
+            }
+        }
+    }
+
+    fn take_back(&mut self, _sink: StdSink<TcpStream>) {
+        self.out = self.out.saturating_sub(1);
+    }
+}
+
+/// Waits for the next link.
+fn next_link(listener: &TcpListener) -> io::Result<Link<StdSource<TcpReader>, StdSink<TcpStream>>>
+    ensures { IfOk result (λ link. AreFresh (⟦<StdSource<TcpReader> as Source>⟧.shown link.source) (⟦<StdSink<TcpStream> as Sink>⟧.shown link.sink)) }
+{
+    link_over(accept_again(listener)?)
+}
+
+/// Waits for a client, and again where it is gone before it is had.
+fn accept_again(listener: &TcpListener) -> io::Result<TcpStream> {
+    for _ in 0..u64::MAX {
+        match listener.accept() {
+            Ok((stream, _)) => return Ok(stream),
+            Err(error) => {
+                if !is_passing(error.kind()) {
+                    return Err(error);
+                }
+            }
+        }
+    }
+    Err(io::Error::from(ErrorKind::Interrupted))
+}
+
+/// Whether a failure says nothing of the door, and only of a client or a signal.
+fn is_passing(kind: ErrorKind) -> bool {
+    matches!(kind, ErrorKind::Interrupted | ErrorKind::ConnectionAborted)
+}
+
+/// A link over a stream. What is written to it is sent at once, and no read or write waits for ever.
+fn link_over(stream: TcpStream) -> io::Result<Link<StdSource<TcpReader>, StdSink<TcpStream>>>
+    ensures { IfOk result (λ link. AreFresh (⟦<StdSource<TcpReader> as Source>⟧.shown link.source) (⟦<StdSink<TcpStream> as Sink>⟧.shown link.sink)) }
+{
+    stream.set_nodelay(true)?;
+    let patience = Duration::from_secs(PATIENCE_SECONDS);
+    stream.set_read_timeout(Some(patience))?;
+    stream.set_write_timeout(Some(patience))?;
+    let writer = stream.try_clone()?;
+    Ok(Link {
+        source: StdSource::new(TcpReader { stream }),
+        sink: StdSink::new(writer),
+    })
+}
+
+/// What the client of a link sends. Dropping it ends the link: the client is told that no more is sent, and what it still sends is read for a while.
+pub struct TcpReader {
+    stream: TcpStream,
+}
+
+impl Read for TcpReader {
+    fn read(&mut self, into: &mut [u8]) -> io::Result<usize> {
+        self.stream.read(into)
+    }
+}
+
+impl Drop for TcpReader {
+    fn drop(self) {
+        linger(&self.stream);
+        let TcpReader { stream: _ } = self;
+    }
+}
+
+/// Says that no more is sent, and reads what still comes. A client that is cut off while it sends may lose what it was sent.
+fn linger(stream: &TcpStream) {
+    if stream.shutdown(Shutdown::Write).is_err() {
+        return;
+    }
+    let silence = Duration::from_millis(SILENCE_MILLISECONDS);
+    if stream.set_read_timeout(Some(silence)).is_err() {
+        return;
+    }
+    for _ in 0..MOST_PIECES {
+        if !goes_on(stream) {
+            return;
+        }
+    }
+}
+
+/// Reads a piece and forgets it, and says whether more may come.
+fn goes_on(stream: &TcpStream) -> bool {
+    let mut piece = [0; PIECE_BYTES];
+    match (&mut &*stream).read(&mut piece) {
+        Ok(count) => count > 0,
+        Err(error) => error.kind() == ErrorKind::Interrupted,
+    }
+}
