@@ -8,8 +8,8 @@ use Rattle.hx_ports.specs.Views.{KeeperView, SinkView, SourceView}
 use Rattle.hx_model.specs.Machine.{History, IsHistory, opening_world, replay}
 use Rattle.hx_model.specs.State.{State}
 use Rattle.hx_model.specs.Valid.{IsValid}
-use Rattle.hx_core.specs.Refinement.{AllValid, ClusterView, Represents, IsKeptOf, kept_of}
-use Rattle.hx_words.specs.Words.{is_reading}
+use Rattle.hx_core.specs.Refinement.{AllValid, ClusterView, HasWorld, Represents, Simulates, IsKeptOf, kept_of}
+use Rattle.hx_words.specs.Words.{asked_if, is_reading, is_run}
 use Rattle.hx_words.specs.declared.command.Command.{Command}
 use Rattle.hx_words.specs.declared.command.Report.{Report}
 use Rattle.hx_words.specs.declared.command.Task.{Task}
@@ -31,7 +31,7 @@ use Rattle.hx_model.proofs.Tearing.{holds_after_fault}
 use Rattle.hx_model.proofs.Beginning.{excess_begins_only_there, no_excess_by_fault}
 use Rattle.hx_model.proofs.Knowing.{speaks_of_keys_alone}
 use Rattle.hnc.proofs.Quiet.{quiet_settled}
-use Rattle.hnc.specs.Headline.{HoldsBetween, Runs, Leaves, LeavesWhole, LeavesFront, LeavesRead, OfRun, IsUnbegun, has_not_begun, is_complete, is_cut_short}
+use Rattle.hnc.specs.Headline.{HoldsBetween, Runs, Carries, Leaves, LeavesWhole, LeavesFront, LeavesRead, OfRun, IsUnbegun, has_not_begun, is_complete, is_cut_short}
 use Rattle.hnc.specs.Reports.{Prints, PrintsWhole, PrintsFront, Says, SaysFront, SaysOf, is_told}
 
 -- a cluster was started on a keeper that took its place at the path of the words
@@ -105,30 +105,21 @@ runs broken first entries valid history all =
       known = speaks_of_keys_alone broken first entries valid history;
     }
 
--- a run of a cluster that was started
-leaves : (words : Command) (script : List ℕ) (rest : List Line) (lacking : List ℕ) (sink sink' : SinkView) (keeper keeper' : KeeperView) (a b : ClusterView)
-    → Starts words keeper a → keeper' ≡ b.keeper → Ran (script_lines script) rest lacking a b sink.written sink'.written → Leaves words script rest lacking sink sink' keeper keeper'
-leaves words script rest lacking sink sink' keeper keeper' a b starts is ran =
-    let entries = entries_of ran.exchanges in
+-- what a started cluster made of entries
+pub carries : (words : Command) (entries : History) (keeper keeper' : KeeperView) (a b : ClusterView) → Starts words keeper a → keeper' ≡ b.keeper → (HasWorld a → Simulates a entries b) → Carries words entries keeper keeper'
+carries words entries keeper keeper' a b starts is simulates =
     let opening = opening_world a.keeper.broken a.state in
-    let run = ran.simulates (opening, starts.opens) in
+    let run = simulates (opening, starts.opens) in
     let steps = run.steps opening starts.opens in
     let here : Stands a.state entries a.keeper.broken b.keeper = record { history = steps.0; valid = run.valid opening starts.opens; stored = steps.1.kept; breaks = steps.1.broken } in
     let there : Stands a.state entries keeper.broken keeper' = subst (Stands a.state entries keeper.broken) (sym is) (subst (λ broken. Stands a.state entries broken b.keeper) starts.whole here) in
     record {
-      exchanges = ran.exchanges;
-      text = ran.text;
       first = a.state;
       last = replay (opening_world keeper.broken a.state) entries;
-      each = ran.each;
-      lines = ran.split;
       undamaged = told_before keeper.kept a.keeper.kept IsUndamaged starts.same starts.undamaged;
       configured = starts.configured;
       opens = told_before keeper.kept a.keeper.kept (λ held. held ≡ kept_of a.state) starts.same starts.holds;
       runs = runs keeper.broken a.state entries starts.valid there.history there.valid;
-      says = ran.says;
-      lacks = ran.lacks;
-      wrote = ran.wrote;
       place = ap (λ k. k.place) is ∙ run.place ∙ starts.place;
       tells = tells_on keeper.kept a.keeper.kept keeper'.kept starts.same (ap (λ k. is_some k.kept) is ∙ run.tells);
       stored = there.stored;
@@ -136,6 +127,20 @@ leaves words script rest lacking sink sink' keeper keeper' a b starts is ran =
       lost = λ e. subst (λ k. Rose keeper.faults k.faults) (sym is) (subst (λ n. Rose n b.keeper.faults) starts.still (run.cause e));
       still = λ e. ap (λ k. k.faults) is ∙ run.still e ∙ starts.still;
     }
+
+-- a run of a cluster that was started
+leaves : (words : Command) (script : List ℕ) (rest : List Line) (lacking : List ℕ) (sink sink' : SinkView) (keeper keeper' : KeeperView) (a b : ClusterView)
+    → Starts words keeper a → keeper' ≡ b.keeper → Ran (script_lines script) rest lacking a b sink.written sink'.written → Leaves words script rest lacking sink sink' keeper keeper'
+leaves words script rest lacking sink sink' keeper keeper' a b starts is ran = record {
+  exchanges = ran.exchanges;
+  text = ran.text;
+  each = ran.each;
+  lines = ran.split;
+  carries = carries words (entries_of ran.exchanges) keeper keeper' a b starts is ran.simulates;
+  says = ran.says;
+  lacks = ran.lacks;
+  wrote = ran.wrote;
+}
 
 -- what the words ask for
 of_run : (words : Option Command) (run : Command) (source : SourceView) (P : Command → List ℕ → Type 0) → words ≡ Some run → OfScript source.left (P run) → OfRun words source P
@@ -193,14 +198,12 @@ wants_memory status fault old attached faults (inr (inr is)) failed damaged stil
 -- ---- reports
 
 -- what the words ask for, where it only reads
-pub reads_of : (words : Option Command) (command : Command) (report : Report) → words ≡ Some command → command.task ≡ Print report → option_and_then (λ (c : Command). if is_reading c.task then Some c else None) words ≡ Some command
-reads_of words command report is task =
-    ap (option_and_then (λ (c : Command). if is_reading c.task then Some c else None)) is ∙ ap (λ (t : Task). if is_reading t then Some command else None) task
+pub reads_of : (words : Option Command) (command : Command) (report : Report) → words ≡ Some command → command.task ≡ Print report → asked_if is_reading words ≡ Some command
+reads_of words command report is task = ap (asked_if is_reading) is ∙ ap (λ (t : Task). if is_reading t then Some command else None) task
 
 -- what the words ask for, where it is a run
-pub runs_of : (words : Option Command) (command : Command) → words ≡ Some command → command.task ≡ Run → option_and_then (λ (c : Command). if is_reading c.task then None else Some c) words ≡ Some command
-runs_of words command is task =
-    ap (option_and_then (λ (c : Command). if is_reading c.task then None else Some c)) is ∙ ap (λ (t : Task). if is_reading t then None else Some command) task
+pub runs_of : (words : Option Command) (command : Command) → words ≡ Some command → command.task ≡ Run → asked_if is_run words ≡ Some command
+runs_of words command is task = ap (asked_if is_run) is ∙ ap (λ (t : Task). if is_run t then Some command else None) task
 
 -- a report that ended with a known status
 pub told_as : (report : Report) (status known : Status) (s : State) (sink sink' : SinkView) → status ≡ known → is_told known ≡ true → (is_told status ≡ true → Says report status s [] sink sink') → Says report known s [] sink sink'

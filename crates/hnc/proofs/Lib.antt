@@ -1,3 +1,4 @@
-mod Leaving
+pub mod Leaving
 pub mod Quiet
 mod Reporting
+mod Serving

@@ -2,21 +2,27 @@
 --     EndsQuiet                  a history ends with a check that no key waits or is held
 --     HoldsBetween s t           limits hold from one state to another
 --     Runs opening entries last  a history of the machine leads from one world to another
---     Leaves                     what a run of a script leaves: one history of the machine, what it writes and what is kept
+--     Carries                    entries are one history of the machine, and the keeper holds what it leaves
+--     Leaves                     what a run of a script leaves: such a history of its lines, and what it writes
 --     LeavesWhole, LeavesFront   the same of a run to the script's end;  of one that was cut short
 --     LeavesRead                 of one whose source failed: each line that ended before has its answer
+--     LeavesServed               what serving links leaves: such a history of their messages and of the settles behind them
 --     OfRun words source P       there is a script with P, for the run that the words ask for: the one that the source tells, where it tells
---     IsCarriedOut, IsCutShort   a run reached its script's end, or a report was printed;  the first part of one was
+--     IsCarriedOut, IsCutShort   a run reached its script's end, a report was printed, or links were served;  the first part of a run or a report was
 --     is_cut_short, has_not_begun      what a status says of a command
 --     IsUnbegun                  nothing was begun
+--     IsLeftByDoor               what a command leaves whose door failed
 --     code_of_status             the number of a status
-use Rattle.std.specs.Prelude.{◌≡◌, ◌≤◌, ◌⊎◌, ℕ, Bool, true, false, List, [], ◌∷◌, ◌++◌, IfSome, IsSome, IsSomeAnd, None, Some, length}
+use Rattle.std.specs.Prelude.{◌≡◌, ◌≤◌, ◌⊎◌, ℕ, Bool, true, false, List, [], ◌∷◌, ◌++◌, IfSome, IsSome, IsOk, IsErr, IsSomeAnd, None, Some, length}
 use Rattle.std.specs.declared.option.Option.{Option}
+use Rattle.std.specs.declared.result.Result.{Result}
 use Rattle.std.specs.List.{AllByRecursion}
 use Rattle.std.specs.Io.KnownBytes.{Appends, Consumes}
 use Rattle.hx_ports.specs.Causes.{Rose}
 use Rattle.hx_ports.specs.Views.{KeeperView, SinkView, SourceView}
 use Rattle.hx_words.specs.declared.command.Command.{Command}
+use Rattle.hx_words.specs.declared.command.Task.{Task}
+use Rattle.hx_words.specs.declared.command.Task.TheVariants.{Serve}
 use Rattle.hx_model.specs.State.{State}
 use Rattle.hx_model.specs.Overruns.{IsHeldBetween, KeepsLimits}
 use Rattle.hx_model.specs.Machine.{World, History, Checked, opening_world, IsHistory, replay, loses_to_fault}
@@ -27,8 +33,11 @@ use Rattle.hx_model.specs.Known.{SpeaksOfKeys, none_known}
 use Rattle.hx_core.specs.Refinement.{AllValid, IsKeptOf, kept_of}
 use Rattle.hx_core.specs.Starting.{IsUndamaged}
 use Rattle.hnc.specs.declared.top.Status.{Status}
-use Rattle.hnc.specs.declared.top.Status.TheVariants.{Done, Usage, ReadFault, WriteFault, KeeperFault, Damaged, NoMemory, Unsettled, TooLong, NotFound}
+use Rattle.hnc.specs.declared.top.Status.TheVariants.{Done, Usage, ReadFault, WriteFault, KeeperFault, Damaged, NoMemory, DoorFault, Unsettled, TooLong, NotFound}
 use Rattle.hnc.specs.Reports.{PrintsWhole, PrintsFront}
+use Rattle.hx_door.specs.Doors.{DoorView}
+use Rattle.hx_door.specs.declared.fault.DoorFault.{DoorFault as Fault}
+use Rattle.hx_serve.specs.Visits.{Visit, IsVisit, HaveVisited, EndsServing, visits_entries}
 use Rattle.hx_script.specs.Lines.{Line, script_lines, unended}
 use Rattle.hx_script.specs.Running.{LacksLast, OfScript, most_bytes}
 use Rattle.hx_script.specs.Exchanges.{Exchange, IsExchange, lines_of, entries_of, answer_lines}
@@ -58,29 +67,33 @@ pub record Runs (opening : World) (entries : History) (last : World) : Type 0 wh
   pub torn : IfSome last.torn (HoldsBetween last.state)
   pub known : SpeaksOfKeys none_known opening entries
 
--- There is a first state, which is under the configuration of the words: the one whose rows the keeper had, where it told them. There is one history of the machine from it. Its entries are those of the script's lines in order, each once, up to the rest.
--- What is written are their answers, but for what is lacking of the last one. What the keeper holds is what the history leaves, and it is broken where the history says so; its count rose where a loss to a fault stands in the history, and stayed where none does.
+-- There is a first state, which is under the configuration of the words: the one whose rows the keeper had, where it told them. These entries are a history of the machine from it.
+-- What the keeper holds is what the history leaves, and it is broken where the history says so; its count rose where a loss to a fault stands in the history, and stayed where none does.
 -- The keeper was undamaged. It is at the path of the words now, and it tells what it holds if it told before.
-pub record Leaves (run : Command) (script : List ℕ) (rest : List Line) (lacking : List ℕ) (sink sink' : SinkView) (keeper keeper' : KeeperView) : Type 0 where
-  pub exchanges : List Exchange
-  pub text : List ℕ
+pub record Carries (run : Command) (entries : History) (keeper keeper' : KeeperView) : Type 0 where
   pub first : State
   pub last : World
-  pub each : AllByRecursion IsExchange exchanges
-  pub lines : script_lines script ≡ lines_of exchanges ++ rest
   pub undamaged : IfSome keeper.kept IsUndamaged
   pub configured : first.config ≡ run.config
   pub opens : IfSome keeper.kept (λ held. held ≡ kept_of first)
-  pub runs : Runs (opening_world keeper.broken first) (entries_of exchanges) last
-  pub says : answer_lines exchanges ≡ text ++ lacking
-  pub lacks : LacksLast exchanges lacking
-  pub wrote : Appends sink.written sink'.written text
+  pub runs : Runs (opening_world keeper.broken first) entries last
   pub place : keeper'.place ≡ Some run.db
   pub tells : IfSome keeper.kept (λ _. IsSome keeper'.kept)
   pub stored : IfSome keeper'.kept (IsKeptOf last)
   pub breaks : last.broken ≡ keeper'.broken
-  pub lost : loses_to_fault (entries_of exchanges) ≡ true → Rose keeper.faults keeper'.faults
-  pub still : loses_to_fault (entries_of exchanges) ≡ false → keeper'.faults ≡ keeper.faults
+  pub lost : loses_to_fault entries ≡ true → Rose keeper.faults keeper'.faults
+  pub still : loses_to_fault entries ≡ false → keeper'.faults ≡ keeper.faults
+
+-- There is one history of the machine. Its entries are those of the script's lines in order, each once, up to the rest. What is written are their answers, but for what is lacking of the last one.
+pub record Leaves (run : Command) (script : List ℕ) (rest : List Line) (lacking : List ℕ) (sink sink' : SinkView) (keeper keeper' : KeeperView) : Type 0 where
+  pub exchanges : List Exchange
+  pub text : List ℕ
+  pub each : AllByRecursion IsExchange exchanges
+  pub lines : script_lines script ≡ lines_of exchanges ++ rest
+  pub carries : Carries run (entries_of exchanges) keeper keeper'
+  pub says : answer_lines exchanges ≡ text ++ lacking
+  pub lacks : LacksLast exchanges lacking
+  pub wrote : Appends sink.written sink'.written text
 
 -- the run reached the end of the script: each line has its whole answer
 pub record LeavesWhole (run : Command) (script : List ℕ) (sink sink' : SinkView) (keeper keeper' : KeeperView) : Type 0 where
@@ -99,14 +112,35 @@ pub record LeavesRead (run : Command) (source source' : SourceView) (sink sink' 
   pub read : Consumes source.left source'.left bytes
   pub leaves : (more : List ℕ) → Leaves run (bytes ++ more) (script_lines (unended bytes ++ more)) [] sink sink' keeper keeper'
 
+-- Links were served one after the other, and the cluster settled behind each. There is one history of the machine: its entries are those of the links' messages in order, each with those of the settle behind it.
+-- What each link was answered is said by its visit, and the door handed out these links and no others. It ended after so many as asked, or where no more came; or where the door failed.
+pub record LeavesServed (served : Command) (result : Result ℕ Fault) (links : ℕ) (door door' : DoorView) (keeper keeper' : KeeperView) : Type 0 where
+  pub visits : List Visit
+  pub each : AllByRecursion IsVisit visits
+  pub carries : Carries served (visits_entries visits) keeper keeper'
+  pub between : DoorView
+  pub visited : HaveVisited door visits between
+  pub few : length visits ≤ links
+  pub ends : EndsServing result (Some links) visits between door'
+
+-- so it was with a task that serves
+abbrev pub LeavesServedBy : Command → Task → Result ℕ Fault → DoorView → DoorView → KeeperView → KeeperView → Type 0
+LeavesServedBy served (Serve serving) result door door' keeper keeper' = LeavesServed served result serving.links door door' keeper keeper'
+LeavesServedBy served _ result door door' keeper keeper' = ⊥
+
+-- links were served to the end of the task, or where the door failed
+abbrev pub LeavesLinks : Command → (Result ℕ Fault → Type 0) → DoorView → DoorView → KeeperView → KeeperView → Type 0
+LeavesLinks served P door door' keeper keeper' = (result : Result ℕ Fault) × P result × LeavesServedBy served served.task result door door' keeper keeper'
+
 -- the words ask for a run, and there is a script with this property. Where the source tells its bytes, it is these.
 abbrev pub OfRun : Option Command → SourceView → (Command → List ℕ → Type 0) → Type 0
 OfRun words source P = IsSomeAnd words (λ run. OfScript source.left (P run))
 
--- the words ask for a run that reached the end of its script, or for a report that was printed
-abbrev pub IsCarriedOut : Option Command → Option Command → Status → SourceView → SinkView → SinkView → KeeperView → KeeperView → Type 0
-IsCarriedOut run reading status source sink sink' keeper keeper' =
+-- the words ask for a run that reached the end of its script, or for a report that was printed, or for links that were served
+abbrev pub IsCarriedOut : Option Command → Option Command → Option Command → Status → SourceView → SinkView → SinkView → KeeperView → KeeperView → DoorView → DoorView → Type 0
+IsCarriedOut run reading serving status source sink sink' keeper keeper' door door' =
     OfRun run source (λ command script. LeavesWhole command script sink sink' keeper keeper') ⊎ IsSomeAnd reading (λ command. PrintsWhole command status sink sink' keeper keeper')
+    ⊎ IsSomeAnd serving (λ command. LeavesLinks command IsOk door door' keeper keeper')
 
 -- the words ask for a run or for a report, of which the first part was written
 abbrev pub IsCutShort : Option Command → Option Command → SourceView → SinkView → SinkView → KeeperView → KeeperView → Type 0
@@ -144,6 +178,11 @@ pub record IsUnbegun {S W : Type 0} (words : Option Command) (source source' : S
   pub whole : keeper'.broken ≡ keeper.broken
   pub place : (keeper'.place ≡ None) ⊎ IsSomeAnd words (λ run. keeper'.place ≡ Some run.db)
 
+-- the door failed: before it listened, and nothing was begun; or when a link was to come, and those before were served
+abbrev pub IsLeftByDoor : {S W : Type 0} → Option Command → Option Command → S → S → W → W → KeeperView → KeeperView → DoorView → DoorView → Type 0
+IsLeftByDoor words serving source source' sink sink' keeper keeper' door door' =
+    IsUnbegun words source source' sink sink' keeper keeper' ⊎ IsSomeAnd serving (λ command. LeavesLinks command IsErr door door' keeper keeper')
+
 -- the number of a status, which is the exit status of the program
 abbrev pub code_of_status : Status → ℕ
 code_of_status Done = 0
@@ -153,6 +192,7 @@ code_of_status WriteFault = 3
 code_of_status KeeperFault = 4
 code_of_status Damaged = 5
 code_of_status NoMemory = 6
+code_of_status DoorFault = 7
 code_of_status Unsettled = 8
 code_of_status TooLong = 9
 code_of_status NotFound = 10

@@ -13,7 +13,7 @@ use Rattle.hx_words.specs.declared.command.Command.{Command}
 use Rattle.hx_words.specs.declared.command.Report.{Report}
 use Rattle.hx_words.specs.declared.command.Report.TheVariants.{Tree, Describe, Quota, Audit}
 use Rattle.hx_words.specs.declared.command.Task.{Task}
-use Rattle.hx_words.specs.declared.command.Task.TheVariants.{Run, Print}
+use Rattle.hx_words.specs.declared.command.Task.TheVariants.{Print}
 use Rattle.hx_model.specs.State.{State, Objects, object_at, namespace_id}
 use Rattle.hx_model.specs.Valid.{IsValid}
 use Rattle.hx_model.specs.declared.key.Key.{Key}
@@ -70,10 +70,10 @@ pub record SaysFront (report : Report) (s : State) (sink sink' : SinkView) : Typ
   pub lacking : List ℕ
   pub says : Says report status s lacking sink sink'
 
--- that of a task; a run prints none
+-- that of a task; no other task prints one
 abbrev pub SaysOf : Task → Status → State → List ℕ → SinkView → SinkView → Type 0
-SaysOf Run status s lacking sink sink' = ⊥
 SaysOf (Print report) status s lacking sink sink' = Says report status s lacking sink sink'
+SaysOf _ status s lacking sink sink' = ⊥
 
 -- There is a valid state, under the configuration of the words: the one whose rows the keeper has, where it tells them. What is written is the report on it, but for what is lacking.
 -- The keeper was undamaged. It is at the path of the words now, and holds what it held.

@@ -22,6 +22,8 @@ use std::{env, io};
 /// How the commands are used.
 const USAGE: &str = "\
 usage: hnc run [--db PATH] [--excluded-namespace NAMES] [--allow-skip] <SCRIPT
+       hnc serve --listen ADDRESS:PORT [--sessions NUMBER] [--workers NUMBER] [--links NUMBER]
+                 [--db PATH] [--excluded-namespace NAMES] [--allow-skip]
        hnc tree [--db PATH] [--excluded-namespace NAMES]
        hnc describe NAMESPACE [--db PATH] [--excluded-namespace NAMES]
        hnc quota [--db PATH]

@@ -6,7 +6,7 @@ use Rattle.clap.specs.Words.{Text}
 use Rattle.hx_words.specs.declared.command.Command.{Command}
 use Rattle.hx_words.specs.declared.command.Report.TheVariants.{Tree, Describe, Quota, Audit}
 use Rattle.hx_words.specs.declared.command.Task.{Task}
-use Rattle.hx_words.specs.declared.command.Task.TheVariants.{Run, Print}
+use Rattle.hx_words.specs.declared.command.Task.TheVariants.{Run, Serve, Print}
 use Rattle.hx_words.specs.Words.{command_of, run_of, reading_of}
 
 -- a command that is asked for
@@ -220,9 +220,41 @@ help_behind_tree : refused (codes "tree" ∷ codes "--help" ∷ [])
 unfolding refused command_of clap_on_literals
 help_behind_tree = refl
 
-serving : refused (codes "serve" ∷ [])
-unfolding refused command_of clap_on_literals
+serving : command_of (codes "serve" ∷ codes "--listen" ∷ codes "127.0.0.1:0" ∷ []) ≡ asking_for (Serve (record { listen = codes "127.0.0.1:0"; sessions = 4; workers = 2; links = 1000000 })) [] [] false
+unfolding command_of asking_for clap_on_literals
 serving = refl
+
+serving_all : command_of (codes "serve" ∷ codes "--links=1" ∷ codes "--workers" ∷ codes "0" ∷ codes "--sessions" ∷ codes "16" ∷ codes "--listen=x" ∷ codes "--db" ∷ codes "a" ∷ codes "--allow-skip" ∷ []) ≡ asking_for (Serve (record { listen = codes "x"; sessions = 16; workers = 0; links = 1 })) (codes "a") [] true
+unfolding command_of asking_for clap_on_literals
+serving_all = refl
+
+serving_nowhere : refused (codes "serve" ∷ [])
+unfolding refused command_of clap_on_literals
+serving_nowhere = refl
+
+no_sessions : refused (codes "serve" ∷ codes "--listen=x" ∷ codes "--sessions" ∷ codes "0" ∷ [])
+unfolding refused command_of clap_on_literals
+no_sessions = refl
+
+many_sessions : refused (codes "serve" ∷ codes "--listen=x" ∷ codes "--sessions" ∷ codes "17" ∷ [])
+unfolding refused command_of clap_on_literals
+many_sessions = refl
+
+many_workers : refused (codes "serve" ∷ codes "--listen=x" ∷ codes "--workers=17" ∷ [])
+unfolding refused command_of clap_on_literals
+many_workers = refl
+
+no_number : refused (codes "serve" ∷ codes "--listen=x" ∷ codes "--links" ∷ codes "many" ∷ [])
+unfolding refused command_of clap_on_literals
+no_number = refl
+
+links_twice : refused (codes "serve" ∷ codes "--listen=x" ∷ codes "--links" ∷ codes "1" ∷ codes "--links" ∷ codes "1" ∷ [])
+unfolding refused command_of clap_on_literals
+links_twice = refl
+
+running_served : refused (codes "run" ∷ codes "--listen" ∷ codes "x" ∷ [])
+unfolding refused command_of clap_on_literals
+running_served = refl
 
 making : refused (codes "gen" ∷ codes "1" ∷ codes "2" ∷ [])
 unfolding refused command_of clap_on_literals

@@ -11,7 +11,7 @@ pub struct Command {
     pub task: Task,
     /// The path of the database. The empty path asks for rows in memory.
     pub db: Text,
-    /// What is fixed for the cluster. Only `run` can allow to skip rules, and `quota` excludes no namespace.
+    /// What is fixed for the cluster. Only `run` and `serve` can allow to skip rules, and `quota` excludes no namespace.
     pub config: RunConfig,
 }
 
@@ -22,6 +22,7 @@ impl Command {
     {
         match &self.task {
             Task::Run => false,
+            Task::Serve(_serving) => false,
             Task::Print(_report) => true,
         }
     }
@@ -31,6 +32,8 @@ impl Command {
 pub enum Task {
     /// To answer the lines of a script.
     Run,
+    /// To answer messages of HTTP.
+    Serve(Serving),
     /// To print a report on what is stored.
     Print(Report),
 }
@@ -39,9 +42,23 @@ impl Drop for Task {
     fn drop(self) {
         match self {
             Task::Run => {}
+            Task::Serve(_) => {}
             Task::Print(_) => {}
         }
     }
+}
+
+/// How messages of HTTP are answered.
+#[derive(Drop)]
+pub struct Serving {
+    /// Where to listen: an address and a port. What is none isn't told from the others here.
+    pub listen: Text,
+    /// How many links are answered at a time, 1 to 16.
+    pub sessions: u32,
+    /// How many workers settle beside them, 0 to 16.
+    pub workers: u32,
+    /// After how many links to end, 1 to 1,000,000.
+    pub links: u64,
 }
 
 /// What is printed of the stored rows.

@@ -4,6 +4,7 @@ ghost use Rattle.clap.specs.Words.{app_of, fault_of, rule_of, subcommand_of, sub
 ghost use Rattle.clap.specs.declared.builder.command.Command.TheViews.{out-Command as fields_of};
 ghost use Rattle.hx_words.specs.Words as spec;
 
+use clap::builder::ValueParser;
 use clap::{Arg, ArgAction, ArgMatches, Command, Error};
 use std::alloc::{AllocError, Global};
 
@@ -27,9 +28,16 @@ fn hnc<'a>(alloc: Global) -> Result<Command<'a>, AllocError>
 fn trees<'a>(alloc: Global) -> Result<Command<'a>, AllocError>
     ensures app { IfOk result (λ command. app_of command ≡ spec.trees) }
 {
-    let running = program(alloc).subcommand(run(alloc)?)?;
-    let showing = running.subcommand(in_trees(alloc, "tree")?)?;
+    let showing = changing(alloc)?.subcommand(in_trees(alloc, "tree")?)?;
     showing.subcommand(describe(alloc)?)
+}
+
+/// The program with the subcommands that change what is stored.
+fn changing<'a>(alloc: Global) -> Result<Command<'a>, AllocError>
+    ensures app { IfOk result (λ command. app_of command ≡ spec.changing) }
+{
+    let scripted = program(alloc).subcommand(running(alloc, "run")?)?;
+    scripted.subcommand(serve(alloc)?)
 }
 
 /// The program: it has to be given a subcommand, and has no help.
@@ -44,11 +52,30 @@ fn program<'a>(alloc: Global) -> Command<'a>
         .disable_help_subcommand(true)
 }
 
-fn run<'a>(alloc: Global) -> Result<Command<'a>, AllocError>
-    ensures app { IfOk result (λ command. app_of command ≡ spec.run) }
+/// A subcommand that changes what is stored.
+fn running<'a>(alloc: Global, name: &'a str) -> Result<Command<'a>, AllocError>
+    ensures app { IfOk result (λ command. app_of command ≡ spec.running name.entry.now) }
     ensures local { IfOk result (λ command. (fields_of command).has_globals ≡ false) }
 {
-    in_trees(alloc, "run")?.arg(flag(alloc, "allow-skip"))
+    in_trees(alloc, name)?.arg(flag(alloc, "allow-skip"))
+}
+
+fn serve<'a>(alloc: Global) -> Result<Command<'a>, AllocError>
+    ensures app { IfOk result (λ command. app_of command ≡ spec.serve) }
+    ensures local { IfOk result (λ command. (fields_of command).has_globals ≡ false) }
+{
+    let listening = listening(alloc)?;
+    let sessions = listening.arg(number_option(alloc, "sessions", 1, 16, "4"))?;
+    let workers = sessions.arg(number_option(alloc, "workers", 0, 16, "2"))?;
+    workers.arg(number_option(alloc, "links", 1, 1_000_000, "1000000"))
+}
+
+/// The subcommand that serves, with its address.
+fn listening<'a>(alloc: Global) -> Result<Command<'a>, AllocError>
+    ensures app { IfOk result (λ command. app_of command ≡ spec.listening) }
+    ensures local { IfOk result (λ command. (fields_of command).has_globals ≡ false) }
+{
+    running(alloc, "serve")?.arg(required_option(alloc, "listen"))
 }
 
 fn describe<'a>(alloc: Global) -> Result<Command<'a>, AllocError>
@@ -80,6 +107,24 @@ fn text_option<'a>(alloc: Global, name: &'a str) -> Arg<'a>
     ensures local { result.global ≡ false }
 {
     Arg::new(alloc, name).long(name)
+}
+
+/// An option with a value, which has to stand.
+fn required_option<'a>(alloc: Global, name: &'a str) -> Arg<'a>
+    ensures rule { rule_of result ≡ spec.required_option name.entry.now }
+    ensures local { result.global ≡ false }
+{
+    text_option(alloc, name).required(true)
+}
+
+/// An option whose value is a number within bounds, and one that stands for it where it isn't given.
+fn number_option<'a>(alloc: Global, name: &'a str, least: u64, most: u64, usual: &'a str) -> Arg<'a>
+    ensures rule { rule_of result ≡ spec.number_option name.entry.now least most usual.entry.now }
+    ensures local { result.global ≡ false }
+{
+    text_option(alloc, name)
+        .value_parser(ValueParser::unsigned(least, most))
+        .default_value(usual)
 }
 
 /// An option without a value.

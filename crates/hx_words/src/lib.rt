@@ -5,6 +5,7 @@
 //! | subcommand | takes |
 //! |---|---|
 //! | `run` | `--db PATH`, `--excluded-namespace NAMES`, `--allow-skip` |
+//! | `serve` | those of `run`, `--listen ADDRESS`, which has to stand, `--sessions NUMBER`, `--workers NUMBER`, `--links NUMBER` |
 //! | `tree` | `--db PATH`, `--excluded-namespace NAMES` |
 //! | `describe` | `NAMESPACE`, which has to stand, `--db PATH`, `--excluded-namespace NAMES` |
 //! | `quota` | `--db PATH` |
@@ -16,11 +17,11 @@ mod grammar;
 mod names;
 mod untaken;
 
-ghost use Rattle.std.specs.Prelude.{◌≡◌, map, IfOk, IsErrOf, None, Some, string_bytes};
+ghost use Rattle.std.specs.Prelude.{◌≡◌, ◌≤◌, map, IfOk, IfSome, IsErrOf, None, Some, string_bytes};
 ghost use Rattle.clap.specs.Words.{found_of, rows_of};
-ghost use Rattle.hx_words.specs.Words.{asked_by, command_of, config_of, description_of, task_of, value_of};
+ghost use Rattle.hx_words.specs.Words.{asked_by, command_of, config_of, description_of, if_within, number_in, serving_in, task_of, value_of};
 
-pub use crate::command::{Command, Report, Task};
+pub use crate::command::{Command, Report, Serving, Task};
 use crate::grammar::parsed;
 use crate::names::{has_names, names_in};
 pub use crate::untaken::first_untaken;
@@ -75,7 +76,7 @@ impl From<AllocError> for WordsFault {
 
 /// Reads the words behind the program's name: a subcommand, and behind it what it takes, in any order and each at most once.
 ///
-/// PATH is any text. NAMES are names of namespaces (DNS labels), joined by commas; the empty value has none. NAMESPACE is the name of one.
+/// PATH and ADDRESS are any text. A NUMBER is one as `clap` reads it: 1 to 16 sessions (else 4), 0 to 16 workers (2), 1 to 1,000,000 links (1,000,000). NAMES are names of namespaces (DNS labels), joined by commas; the empty value has none. NAMESPACE is the name of one.
 /// As is usual with `clap`, `--db=PATH` and `--excluded-namespace=NAMES` are taken too, and a PATH that begins with a dash and has more bytes only so; a word `--` says that no option follows.
 /// `Usage` where the words aren't taken: another word, a missing value, an option twice, a value out of form, and a request for help or a version.
 pub fn read_words(alloc: Global, words: &[String]) -> Result<Command, WordsFault>
@@ -107,11 +108,56 @@ fn task_of(alloc: Global, name: &str, options: &ArgMatches<'_>) -> Result<Task, 
 {
     match name {
         "run" => Ok(Task::Run),
+        "serve" => serving_in(alloc, options),
         "tree" => Ok(Task::Print(Report::Tree)),
         "describe" => description_of(alloc, value_of(options, "namespace")),
         "quota" => Ok(Task::Print(Report::Quota)),
         "audit" => Ok(Task::Print(Report::Audit)),
         _ => Err(WordsFault::Usage),
+    }
+}
+
+/// To serve, as the options say.
+fn serving_in(alloc: Global, options: &ArgMatches<'_>) -> Result<Task, WordsFault>
+    ensures task { IfOk result (λ task. serving_in (rows_of (found_of options.now)) ≡ Some task) }
+    ensures usage { IsErrOf result WordsFault.Usage → serving_in (rows_of (found_of options.now)) ≡ None }
+{
+    let Some(sessions) = number_in(1, 16, value_of(options, "sessions")) else {
+        return Err(WordsFault::Usage);
+    };
+    let Some(workers) = number_in(0, 16, value_of(options, "workers")) else {
+        return Err(WordsFault::Usage);
+    };
+    let Some(links) = number_in(1, 1_000_000, value_of(options, "links")) else {
+        return Err(WordsFault::Usage);
+    };
+    Ok(Task::Serve(Serving {
+        listen: Text::of(alloc, value_of(options, "listen"))?,
+        sessions: sessions as u32,
+        workers: workers as u32,
+        links,
+    }))
+}
+
+/// The number that a value says, within bounds.
+fn number_in(least: u64, most: u64, value: &str) -> Option<u64>
+    ensures number { result ≡ number_in least most value.now }
+    ensures few { IfSome result (λ number. number ≤ most) }
+{
+    match value.parse::<u64>() {
+        Ok(number) => if_within(least, most, number),
+        Err(_) => None,
+    }
+}
+
+fn if_within(least: u64, most: u64, number: u64) -> Option<u64>
+    ensures number { result ≡ if_within least most number }
+    ensures few { IfSome result (λ number. number ≤ most) }
+{
+    if least <= number && number <= most {
+        Some(number)
+    } else {
+        None
     }
 }
 

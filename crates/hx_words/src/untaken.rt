@@ -5,22 +5,15 @@ use hx_object::is_dns_label;
 /// The first word that isn't taken where it stands, for a reader of standard error. `None` where one is missing.
 pub fn first_untaken(words: &[String]) -> Option<&str> {
     match words {
-        [word, rest @ ..] => match behind_subcommand(word.as_str()) {
-            Some(place) => first_untaken_from(place, rest),
-            None => Some(word.as_str()),
-        },
+        [word, rest @ ..] => {
+            let name = word.as_str();
+            if !is_subcommand(name) {
+                return Some(name);
+            }
+            first_untaken_behind(name, rest)
+        }
         [] => None,
     }
-}
-
-fn first_untaken_from(mut place: Place, words: &[String]) -> Option<&str> {
-    for word in words {
-        match after(place, word.as_str()) {
-            Some(next) => place = next,
-            None => return Some(word.as_str()),
-        }
-    }
-    None
 }
 
 /// What the next word has to be.
@@ -28,124 +21,141 @@ fn first_untaken_from(mut place: Place, words: &[String]) -> Option<&str> {
 enum Wanted {
     /// An option, or a value without one.
     Any,
-    /// The value of `--db`.
-    Path,
-    /// The value of `--excluded-namespace`.
-    Names,
+    /// The value of an option.
+    Value(Form),
     /// A value without an option: no option follows.
-    Value,
+    Last,
 }
 
-/// A place between two words: what has to come next, and what may still stand.
+/// What a value has to be.
 #[derive(Clone, Copy)]
-struct Place {
-    wanted: Wanted,
-    takes_db: bool,
-    takes_excluded: bool,
-    takes_allow_skip: bool,
-    takes_namespace: bool,
+enum Form {
+    Text,
+    Names,
+    Number { least: u64, most: u64 },
 }
 
-/// The place behind a subcommand.
-fn behind_subcommand(word: &str) -> Option<Place> {
-    let place = Place {
-        wanted: Wanted::Any,
-        takes_db: true,
-        takes_excluded: true,
-        takes_allow_skip: false,
-        takes_namespace: false,
+/// What an option takes.
+#[derive(Clone, Copy)]
+enum Taken {
+    Nothing,
+    Value(Form),
+}
+
+fn first_untaken_behind<'a>(subcommand: &str, words: &'a [String]) -> Option<&'a str> {
+    let mut wanted = Wanted::Any;
+    for index in 0..words.len() {
+        let word = words[index].as_str();
+        match after(subcommand, wanted, &words[..index], word) {
+            Some(next) => wanted = next,
+            None => return Some(word),
+        }
+    }
+    None
+}
+
+/// What has to come behind a word, where that is taken. The words before it stand behind the subcommand.
+fn after(subcommand: &str, wanted: Wanted, before: &[String], word: &str) -> Option<Wanted> {
+    match wanted {
+        Wanted::Value(form) if !is_dashed(word) && has_form(form, word) => Some(Wanted::Any),
+        Wanted::Value(_) => None,
+        Wanted::Any if word == "--" => Some(Wanted::Last),
+        Wanted::Any if is_dashed(word) => after_option(subcommand, before, word),
+        Wanted::Any => after_value(subcommand, before, word, Wanted::Any),
+        Wanted::Last => after_value(subcommand, before, word, Wanted::Last),
+    }
+}
+
+/// What has to come behind an option, which may have its value in one word with it.
+fn after_option(subcommand: &str, before: &[String], word: &str) -> Option<Wanted> {
+    let (option, value) = match word.split_once('=') {
+        Some((option, value)) => (option, Some(value)),
+        None => (word, None),
     };
-    match word {
-        "run" => Some(Place {
-            takes_allow_skip: true,
-            ..place
-        }),
-        "tree" | "audit" => Some(place),
-        "describe" => Some(Place {
-            takes_namespace: true,
-            ..place
-        }),
-        "quota" => Some(Place {
-            takes_excluded: false,
-            ..place
-        }),
+    if is_given(before, option) {
+        return None;
+    }
+    match (taken_by(subcommand, option)?, value) {
+        (Taken::Nothing, None) => Some(Wanted::Any),
+        (Taken::Value(form), None) => Some(Wanted::Value(form)),
+        (Taken::Value(form), Some(value)) if has_form(form, value) => Some(Wanted::Any),
         _ => None,
     }
 }
 
-/// The place behind a word, where that is taken.
-fn after(place: Place, word: &str) -> Option<Place> {
-    match place.wanted {
-        Wanted::Any => after_any(place, word),
-        Wanted::Path if !is_dashed(word) => Some(wanting(place, Wanted::Any)),
-        Wanted::Names if has_names(word) => Some(wanting(place, Wanted::Any)),
-        Wanted::Value => after_value(place, word),
+/// What has to come behind a value without an option: the name of a namespace, which only one subcommand takes, and once.
+fn after_value(subcommand: &str, before: &[String], word: &str, next: Wanted) -> Option<Wanted> {
+    if subcommand != "describe" || !is_dns_label(word.as_bytes()) || has_value(before) {
+        return None;
+    }
+    Some(next)
+}
+
+/// Whether a value without an option is among the words: one that neither is an option nor follows one.
+fn has_value(words: &[String]) -> bool {
+    let mut follows = false;
+    for word in words {
+        let option = is_dashed(word.as_str());
+        if !option && !follows {
+            return true;
+        }
+        follows = option && word.as_str() != "--" && !word.as_str().contains('=');
+    }
+    false
+}
+
+/// Whether an option is among the words, alone or with its value.
+fn is_given(words: &[String], option: &str) -> bool {
+    words.iter().any(|word| match word.as_str().strip_prefix(option) {
+        Some(rest) => rest.is_empty() || rest.starts_with('='),
+        None => false,
+    })
+}
+
+fn is_subcommand(word: &str) -> bool {
+    matches!(
+        word,
+        "run" | "serve" | "tree" | "describe" | "quota" | "audit"
+    )
+}
+
+/// What an option of a subcommand takes, where the subcommand has it.
+fn taken_by(subcommand: &str, option: &str) -> Option<Taken> {
+    match option {
+        "--db" => Some(Taken::Value(Form::Text)),
+        "--excluded-namespace" if subcommand != "quota" => Some(Taken::Value(Form::Names)),
+        "--allow-skip" if subcommand == "run" || subcommand == "serve" => Some(Taken::Nothing),
+        _ if subcommand == "serve" => taken_in_serving(option),
         _ => None,
     }
 }
 
-fn after_any(place: Place, word: &str) -> Option<Place> {
-    match word {
-        "--" => Some(wanting(place, Wanted::Value)),
-        "--allow-skip" if place.takes_allow_skip => Some(Place {
-            takes_allow_skip: false,
-            ..place
-        }),
-        "--db" => after_db(place, Wanted::Path),
-        "--excluded-namespace" => after_excluded(place, Wanted::Names),
-        _ if is_dashed(word) => after_attached(place, word),
-        _ => after_value(place, word),
-    }
-}
-
-/// The place behind an option with its value in one word.
-fn after_attached(place: Place, word: &str) -> Option<Place> {
-    let (name, value) = word.split_once('=')?;
-    match name {
-        "--db" => after_db(place, Wanted::Any),
-        "--excluded-namespace" if has_names(value) => after_excluded(place, Wanted::Any),
+/// What an option takes that only serving has.
+fn taken_in_serving(option: &str) -> Option<Taken> {
+    match option {
+        "--listen" => Some(Taken::Value(Form::Text)),
+        "--sessions" => Some(Taken::Value(Form::Number { least: 1, most: 16 })),
+        "--workers" => Some(Taken::Value(Form::Number { least: 0, most: 16 })),
+        "--links" => Some(Taken::Value(Form::Number {
+            least: 1,
+            most: 1_000_000,
+        })),
         _ => None,
     }
 }
 
-/// The place behind a value without an option.
-fn after_value(place: Place, word: &str) -> Option<Place> {
-    if !place.takes_namespace || !is_dns_label(word.as_bytes()) {
-        return None;
+fn has_form(form: Form, value: &str) -> bool {
+    match form {
+        Form::Text => true,
+        Form::Names => has_names(value),
+        Form::Number { least, most } => match value.parse::<u64>() {
+            Ok(number) => least <= number && number <= most,
+            Err(_) => false,
+        },
     }
-    Some(Place {
-        takes_namespace: false,
-        ..place
-    })
 }
 
-fn after_db(place: Place, wanted: Wanted) -> Option<Place> {
-    if !place.takes_db {
-        return None;
-    }
-    Some(Place {
-        wanted,
-        takes_db: false,
-        ..place
-    })
-}
-
-fn after_excluded(place: Place, wanted: Wanted) -> Option<Place> {
-    if !place.takes_excluded {
-        return None;
-    }
-    Some(Place {
-        wanted,
-        takes_excluded: false,
-        ..place
-    })
-}
-
-fn wanting(place: Place, wanted: Wanted) -> Place {
-    Place { wanted, ..place }
-}
-
-/// Whether a word is no value: behind its option it begins with a dash.
+/// Whether a word begins with a dash and has more bytes: then it isn't taken as a value of its own.
 fn is_dashed(word: &str) -> bool {
-    word.starts_with('-') && word != "-"
+    word.len() > 1 && word.starts_with('-')
 }
