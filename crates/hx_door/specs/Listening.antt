@@ -7,8 +7,8 @@ use Rattle.std.specs.Net.Addr.{MatchIp, IsLoopbackV4, IsLoopbackV6}
 use Rattle.std.specs.Net.Grammar.{IsSocketText}
 use Rattle.std.specs.Net.Socket.{socket_ip}
 use Rattle.std.specs.declared.net.socket_addr.SocketAddr.{SocketAddr}
-use Rattle.hx_door.specs.declared.tcp.ListenFault.{ListenFault}
-use Rattle.hx_door.specs.declared.tcp.ListenFault.TheVariants.{NotAnAddress, NotLoopback, Refused}
+use Rattle.hx_door.specs.declared.tcp.TcpFault.{TcpFault}
+use Rattle.hx_door.specs.declared.tcp.TcpFault.TheVariants.{NotAnAddress, NotLoopback, NotListening, Failed}
 
 -- an address that only processes of the machine reach: 127.0.0.0/8 and ::1 (RFC 1122, 3.2.1.3; RFC 4291, 2.5.3)
 abbrev pub IsLoopback : SocketAddr → Type 0
@@ -22,8 +22,9 @@ IsHeard text = (address : SocketAddr) × IsSocketText text address × IsLoopback
 abbrev pub IsForeign : List ℕ → Type 0
 IsForeign text = (address : SocketAddr) × IsSocketText text address × (¬ IsLoopback address)
 
--- why a door doesn't listen at what a text asks for: only of a loopback address the system is asked
-abbrev pub IsListenFault : List ℕ → ListenFault → Type 0
+-- why a door doesn't listen at what a text asks for: the system is asked for a loopback address alone
+abbrev pub IsListenFault : List ℕ → TcpFault → Type 0
 IsListenFault text NotAnAddress = (address : SocketAddr) → ¬ IsSocketText text address
 IsListenFault text NotLoopback = IsForeign text
-IsListenFault text (Refused error) = IsHeard text
+IsListenFault text NotListening = ⊥
+IsListenFault text (Failed error) = IsHeard text

@@ -2,11 +2,9 @@
 --     script_of, text_of      what a link's client sends;  what was written to a sink
 --     ends_of, lines_of       the ends of a link;  of the links that are still to come
 --     is_over                 none is left
---     accepts_of              which calls of `accept` fail
---     address_of, why_failed  where a door listens;  why its last call failed that did
-use Rattle.std.specs.Prelude.{ℕ, Bool, true, false, List, [], ◌∷◌, map, unwrap_or, Option}
-use Rattle.std.specs.declared.io.Error.{Error}
-use Rattle.std.specs.declared.net.socket_addr.SocketAddr.{SocketAddr}
+--     calls_of                which calls fail
+--     listens, why_failed     a door listens;  why its last call failed that did
+use Rattle.std.specs.Prelude.{ℕ, Bool, true, false, List, [], ◌∷◌, map, unwrap_or, Option, is_some}
 use Rattle.hx_ports.specs.contracts.mem.MemSourceSource.TheImpl as mem_source
 use Rattle.hx_ports.specs.contracts.mem.MemSinkSink.TheImpl as mem_sink
 use Rattle.hx_ports.specs.declared.mem.MemSink.{MemSink}
@@ -15,6 +13,7 @@ use Rattle.hx_ports.specs.declared.mem.Plan.{Plan}
 use Rattle.hx_door.specs.declared.mem.MemDoor.{MemDoor}
 use Rattle.hx_door.specs.declared.mem.MemLine.{MemLine}
 use Rattle.hx_door.specs.declared.tcp.TcpDoor.{TcpDoor}
+use Rattle.hx_door.specs.declared.tcp.TcpFault.{TcpFault}
 
 -- what the client of the link sends
 abbrev pub script_of : MemLine → List ℕ
@@ -37,14 +36,14 @@ abbrev pub is_over : {A : Type 0} → List A → Bool
 is_over [] = true
 is_over (x ∷ xs) = false
 
--- which calls of `accept` fail, and how many there were
-abbrev pub accepts_of : MemDoor → Plan
-accepts_of door = record { numbers = door.fails; calls = door.calls }
+-- which calls of `listen` and `accept` fail, and how many there were
+abbrev pub calls_of : MemDoor → Plan
+calls_of door = record { numbers = door.fails; calls = door.calls }
 
--- where the door listens
-abbrev pub address_of : TcpDoor → SocketAddr
-address_of door = door.address
+-- the door listens
+abbrev pub listens : TcpDoor → Bool
+listens door = is_some door.listener
 
--- why the last call of `accept` failed that did
-abbrev pub why_failed : TcpDoor → Option Error
+-- why the last call failed that did
+abbrev pub why_failed : TcpDoor → Option TcpFault
 why_failed door = door.last_fault

@@ -5,7 +5,7 @@ ghost use Rattle.hx_door.specs.Doors.{Closes, DoorView, Hands, TakesBack};
 
 use hx_ports::{Sink, Source};
 
-/// No link was had, and the door's count of faults rose.
+/// A door failed, and its count of faults rose.
 #[derive(Clone, Copy, Debug, PartialEq, Eq)]
 pub struct DoorFault;
 
@@ -18,7 +18,7 @@ pub struct Link<S, W> {
 
 /// Hands out links, one after the other, and counts its failures.
 ///
-/// The count rises with each failure of `accept` and with nothing else, and never falls. At `u64::MAX` it stands, and counts as risen. So do the numbers of links at theirs.
+/// The count rises with each failure and with nothing else, and never falls. At `u64::MAX` it stands, and counts as risen. The numbers of links stand there too.
 pub trait Door {
     /// What a link's client sends. Dropping it ends the link.
     type Input: Source + Drop;
@@ -27,6 +27,11 @@ pub trait Door {
     type Output: Sink + Drop;
 
     ghost shown: { Self → DoorView };
+
+    /// Opens the door where the address says. Links are handed out from then on.
+    fn listen(&mut self, address: &str) -> Result<(), DoorFault>
+        ensures same { shown self.new ≡ record (shown self.old) { faults = (shown self.new).faults } }
+        ensures cause { HasCause (shown self.old).faults (shown self.new).faults result };
 
     /// Waits for the next link, or says by `None` that none comes any more. A door that is closed stays closed.
     fn accept(&mut self) -> Result<Option<Link<Self::Input, Self::Output>>, DoorFault>

@@ -13,4 +13,4 @@ mod tests;
 
 pub use door::{Door, DoorFault, Link};
 pub use mem::{MemDoor, MemLine};
-pub use tcp::{ListenFault, TcpDoor, TcpReader};
+pub use tcp::{TcpDoor, TcpFault, TcpReader};

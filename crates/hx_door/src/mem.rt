@@ -1,7 +1,7 @@
 // Doors in memory.
 ghost use Rattle.std.specs.Prelude.{◌≡◌, ◌+◌, ◌≤◌, [], ◌∷◌, Some, IfNone, IfOk, IfSome, MatchOption, OnErr, map, vec_len, vec_capacity};
 ghost use Rattle.std.specs.VecDeque.{deque_len};
-ghost use Rattle.hx_ports.specs.Calls.{after_call, is_planned, FailsByPlan};
+ghost use Rattle.hx_ports.specs.Calls.{FailsByPlan};
 ghost use Rattle.hx_ports.specs.Causes.{HasCause};
 ghost use Rattle.hx_door.specs.Doors.{Closes, Hands, TakesBack};
 
@@ -58,13 +58,13 @@ impl Drop for MemDoor {
 }
 
 impl MemDoor {
-    ghost use Rattle.hx_door.specs.Shown.{accepts_of, ends_of, is_over, lines_of, script_of, text_of};
+    ghost use Rattle.hx_door.specs.Shown.{calls_of, ends_of, is_over, lines_of, script_of, text_of};
 
-    /// The calls of `accept` whose numbers stand in `fails` fail; the first one is number 1.
+    /// The calls of `listen` and `accept` whose numbers stand in `fails` fail. They are counted together, and the first one is number 1.
     pub fn new(lines: Vec<MemLine>, fails: Vec<u64>) -> Result<Self, NoMemory>
         ensures shown { IfOk result (λ door. ⟦<MemDoor as Door>⟧.shown door ≡ record { faults = 0; handed = 0; out = 0; closed = is_over lines.items; coming = Some (map script_of lines.items); written = Some [] }) }
         ensures lines { IfOk result (λ door. lines_of door ≡ map ends_of lines.items) }
-        ensures plan { IfOk result (λ door. accepts_of door ≡ record { numbers = fails; calls = 0 }) }
+        ensures plan { IfOk result (λ door. calls_of door ≡ record { numbers = fails; calls = 0 }) }
     {
         let kept = Vec::with_capacity(*lines.allocator(), lines.len())?;
         Ok(MemDoor {
@@ -85,25 +85,39 @@ impl MemDoor {
         self.kept.as_slice()
     }
 
-    /// Counts a call, and says whether it fails.
-    fn next_fails(&mut self) -> bool
-        ensures fails { result ≡ is_planned (accepts_of self.old) }
-        ensures counted { accepts_of self.new ≡ after_call (accepts_of self.old) }
-        ensures rest { self.new ≡ record self.old { calls = self.new.calls } }
+    /// Counts a call, which may be one that fails.
+    fn count_call(&mut self) -> Result<(), DoorFault>
+        ensures plan { FailsByPlan (calls_of self.old) (calls_of self.new) result }
+        ensures cause { HasCause self.old.faults self.new.faults result }
+        ensures rest { self.new ≡ record self.old { calls = self.new.calls; faults = self.new.faults } }
     {
         self.calls = self.calls.saturating_add(1);
-        self.fails.contains(&self.calls)
+        if self.fails.contains(&self.calls) {
+            self.faults = self.faults.saturating_add(1);
+            return Err(DoorFault);
+        }
+        Ok(())
     }
 }
 
 impl Door for MemDoor {
-    ghost use Rattle.hx_door.specs.Shown.{accepts_of, ends_of, is_over, lines_of, script_of, text_of};
+    ghost use Rattle.hx_door.specs.Shown.{calls_of, ends_of, is_over, lines_of, script_of, text_of};
 
     type Input = MemSource;
 
     type Output = MemSink;
 
     ghost shown = { λ d. record { faults = d.faults; handed = d.handed; out = d.out; closed = is_over d.coming.items; coming = Some (map script_of d.coming.items); written = Some (map text_of d.kept.items) } };
+
+    /// The address is not looked at.
+    fn listen(&mut self, _address: &str) -> Result<(), DoorFault>
+        ensures same { ⟦<MemDoor as Door>⟧.shown self.new ≡ record (⟦<MemDoor as Door>⟧.shown self.old) { faults = (⟦<MemDoor as Door>⟧.shown self.new).faults } }
+        ensures cause { HasCause (⟦<MemDoor as Door>⟧.shown self.old).faults (⟦<MemDoor as Door>⟧.shown self.new).faults result }
+        ensures kept { lines_of self.new ≡ lines_of self.old }
+        ensures plan { FailsByPlan (calls_of self.old) (calls_of self.new) result }
+    {
+        self.count_call()
+    }
 
     fn accept(&mut self) -> Result<Option<Link<MemSource, MemSink>>, DoorFault>
         ensures link { IfOk result (λ next. IfSome next (λ link. Hands (⟦<MemDoor as Door>⟧.shown self.old) (⟦<MemDoor as Door>⟧.shown self.new) (⟦<MemSource as Source>⟧.shown link.source) (⟦<MemSink as Sink>⟧.shown link.sink))) }
@@ -112,12 +126,9 @@ impl Door for MemDoor {
         ensures cause { HasCause (⟦<MemDoor as Door>⟧.shown self.old).faults (⟦<MemDoor as Door>⟧.shown self.new).faults result }
         ensures lines { IfOk result (λ next. MatchOption next (lines_of self.old ≡ []) (λ link. lines_of self.old ≡ (link.source, link.sink) ∷ lines_of self.new)) }
         ensures kept { OnErr result (lines_of self.new ≡ lines_of self.old) }
-        ensures plan { FailsByPlan (accepts_of self.old) (accepts_of self.new) result }
+        ensures plan { FailsByPlan (calls_of self.old) (calls_of self.new) result }
     {
-        if self.next_fails() {
-            self.faults = self.faults.saturating_add(1);
-            return Err(DoorFault);
-        }
+        self.count_call()?;
         let Some(MemLine { source, sink }) = self.coming.pop_front() else {
             return Ok(None);
         };

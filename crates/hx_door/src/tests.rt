@@ -2,13 +2,13 @@
 ghost use Rattle.std.specs.Prelude.{◌≡◌, ◌<◌, true, false, OnErr, Ok};
 ghost use Rattle.hx_ports.specs.Calls.{next_number};
 
-use crate::{Door, DoorFault, Link, ListenFault, MemDoor, MemLine, TcpDoor};
+use crate::{Door, DoorFault, Link, MemDoor, MemLine, TcpDoor, TcpFault};
 use hx_object::NoMemory;
 use hx_ports::{MemSink, MemSource, Sink, Source};
 use std::alloc::Global;
 use std::io;
 use std::io::{Read, Write};
-use std::net::{Net, Shutdown, TcpListener, TcpStream};
+use std::net::{Shutdown, TcpStream};
 use std::test::Fail;
 
 /// Reads once from the next link and sends back what was read. Says whether there was one.
@@ -44,12 +44,12 @@ fn line(alloc: Global, bytes: &[u8], piece: usize) -> Result<MemLine, NoMemory>
     Ok(MemLine::new(source, sink))
 }
 
-/// A door with two links, whose second call fails.
+/// A door with two links, whose third call fails.
 fn two_links(alloc: Global) -> Result<MemDoor, NoMemory> {
     let mut lines = Vec::new(alloc);
     lines.push(line(alloc, b"first", 1)?)?;
     lines.push(line(alloc, b"second", 7)?)?;
-    MemDoor::new(lines, vec![in alloc; 2; 1]?)
+    MemDoor::new(lines, vec![in alloc; 3; 1]?)
 }
 
 /// How many links were served in so many calls, and how many calls failed.
@@ -76,6 +76,7 @@ fn has_text(door: &MemDoor, index: usize, text: &[u8]) -> bool {
 #[test]
 fn a_door_in_memory_keeps_what_was_written(rt: HostRuntime) -> Result<(), Fail> {
     let mut door = two_links(rt.alloc())?;
+    assert!(rt; door.listen("").is_ok());
     assert_eq!(rt; serve(&mut door, 5), (2, 1));
     assert!(rt; has_text(&door, 0, b"f"));
     assert!(rt; has_text(&door, 1, b"second"));
@@ -84,42 +85,35 @@ fn a_door_in_memory_keeps_what_was_written(rt: HostRuntime) -> Result<(), Fail> 
 }
 
 /// What a client is sent that sends a text.
-fn reply<R: Net<Listener = TcpListener, Stream = TcpStream>>(
-    rt: &R,
-    alloc: Global,
-    text: &[u8],
-) -> io::Result<Vec<u8>> {
-    let Ok(mut door) = TcpDoor::listen(rt, "127.0.0.1:0") else {
-        return Err(io::Error::from(io::ErrorKind::AddrInUse));
+fn reply(rt: &HostRuntime, text: &[u8]) -> io::Result<Vec<u8>> {
+    let mut door = TcpDoor::new(rt);
+    let _ = door.listen("127.0.0.1:0");
+    let Some(address) = door.local_addr() else {
+        return Err(io::Error::from(io::ErrorKind::AddrNotAvailable));
     };
-    let mut client = TcpStream::connect(rt, door.local_addr())?;
+    let mut client = TcpStream::connect(rt, address)?;
     client.write_all(text)?;
     client.shutdown(Shutdown::Write)?;
     let _ = echo_next(&mut door);
-    let mut reply = Vec::new(alloc);
+    let mut reply = Vec::new(rt.alloc());
     client.read_to_end(&mut reply)?;
     Ok(reply)
 }
 
 #[test]
 fn a_client_on_the_machine_is_answered(rt: HostRuntime) -> Result<(), Fail> {
-    let reply = reply(&rt, rt.alloc(), b"hello")?;
+    let reply = reply(&rt, b"hello")?;
     assert_eq!(rt; reply.as_slice(), b"hello".as_slice());
     Ok(())
 }
 
 #[test]
 fn other_addresses_are_refused(rt: HostRuntime) {
-    assert!(rt;
-        matches!(
-            TcpDoor::listen(&rt, "0.0.0.0:0"),
-            Err(ListenFault::NotLoopback)
-        )
-    );
-    assert!(rt;
-        matches!(
-            TcpDoor::listen(&rt, "localhost:0"),
-            Err(ListenFault::NotAnAddress)
-        )
-    );
+    let mut door = TcpDoor::new(&rt);
+    assert!(rt; door.accept().is_err());
+    assert!(rt; door.listen("0.0.0.0:0").is_err());
+    assert!(rt; matches!(door.last_fault(), Some(TcpFault::NotLoopback)));
+    assert!(rt; door.listen("localhost:0").is_err());
+    assert!(rt; matches!(door.last_fault(), Some(TcpFault::NotAnAddress)));
+    assert_eq!(rt; door.faults(), 3);
 }
