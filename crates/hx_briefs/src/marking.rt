@@ -30,7 +30,7 @@ pub fn mark_wanting(
     requires idle { workers.old.seen ≡ no_work }
     requires counted { IsCounted store.now.objects forest.now.nodes usage.now.now }
     ensures marked { OnOk result ((s : State) → HasTree config.now.excluded store.now.objects forest.now.nodes s → AreMarked s workers.new.seen) }
-    ensures reach { workers.new.reach ≡ workers.old.reach }
+    ensures scope { workers.new.scope ≡ workers.old.scope }
 {
     let wanting = wanting_keys(store, forest, usage, config)?;
     workers.reserve(wanting.len())?;
