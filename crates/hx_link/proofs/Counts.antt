@@ -1,12 +1,12 @@
 -- What was read at each end of a link.
-use Rattle.std.proofs.Common.{◌≡◌, ◌≤◌, ◌+◌, ℕ, List, [], ◌++◌, None, Some, refl, sym, ap, subst, ◌∙◌, append-nil, length, take, arith}
+use Rattle.std.proofs.Common.{◌≡◌, ◌≤◌, ◌+◌, ℕ, false, List, [], ◌++◌, None, Some, refl, sym, ap, subst, ◌∙◌, append-nil, length, take, arith}
 use Rattle.std.specs.declared.option.Option.{Option}
 use Rattle.std.specs.Io.KnownBytes.{Consumes, Keeps}
 use Rattle.hx_http.specs.Messages.{More, next_of}
-use Rattle.hx_http.specs.Streams.{Question, Stream, stream_of}
+use Rattle.hx_http.specs.Streams.{Question, Stream, behind, stream_of}
 use Rattle.hx_http.proofs.Streams.{stream_waits}
-use Rattle.hx_link.specs.Exchanges.{Exchange, questions_of}
-use Rattle.hx_link.specs.Running.{Doing, Feeds, Ran, Does, HasRead, ReadsOn, most_bytes}
+use Rattle.hx_link.specs.Exchanges.{Exchange}
+use Rattle.hx_link.specs.Running.{Doing, Feeds, Does, HasRead, ReadsOn, most_bytes}
 use Rattle.hx_link.specs.Reading.{ReadsFront}
 use Rattle.hx_link.proofs.Pieces.{Feeds-none, Reads-fed}
 
@@ -38,18 +38,17 @@ module _ {V : Type 0} (does : Doing Question V) (none : (s : V) → does s [] s)
   pub Reads-count-fault : (s l l' : Option (List ℕ)) (waiting : List ℕ) (total : ℕ) (a b : V) (x y : Option (List ℕ)) → ReadsOn does s l total waiting a b x y → Keeps l l' → total ≤ most_bytes → HasRead s l' (λ count. count ≤ most_bytes)
   Reads-count-fault s l l' waiting total a b x y on kept few = Reads-count-none s l l' waiting total a b x y on (keeps_none l l' kept) few
 
-  -- what is asked behind it is left
-  Ran-rest : (qs rest : List Question) (a b : V) (x y : Option (List ℕ)) → Does does qs a b x y → Ran does (qs ++ rest) rest [] a b x y
-  Ran-rest qs rest a b x y p = record { exchanges = p.exchanges; text = p.text; split = ap (λ l. l ++ rest) (p.split ∙ append-nil (questions_of p.exchanges)); does_them = p.does_them; says = p.says; lacks = p.lacks; wrote = p.wrote }
-
   -- and each message that was whole was answered
   pub Reads-front : (s l l' : Option (List ℕ)) (waiting : List ℕ) (total : ℕ) (a b : V) (x y : Option (List ℕ)) → ReadsOn does s l total waiting a b x y → Keeps l l' → next_of waiting ≡ More → ReadsFront does s l' a b x y
   Reads-front s l l' waiting total a b x y on kept waits =
       let all = Reads-fed does none more s l l' [] waiting waiting total 0 a b b x y y on (omega arith) (keeps_none l l' kept) (subst (λ w. Feeds does w waiting b b y y) (sym (append-nil waiting)) (Feeds-none does none more waiting b y)) in
-      let left : (stream_of all.bytes).unused ≡ waiting = ap (λ l. (stream_of l).unused) (sym (append-nil all.bytes)) ∙ ap (λ (t : Stream). t.unused) (all.feeds.splits []) ∙ ap (λ l. (stream_of l).unused) (append-nil waiting) ∙ ap (λ (t : Stream). t.unused) (stream_waits waiting waits) in
+      let whole : stream_of all.bytes ≡ record { questions = all.feeds.questions ++ []; ends = false; unused = waiting } =
+      ap stream_of (sym (append-nil all.bytes)) ∙ all.feeds.splits [] ∙ ap (λ l. behind all.feeds.questions (stream_of l)) (append-nil waiting) ∙ ap (behind all.feeds.questions) (stream_waits waiting waits) in
+      let asked : (stream_of all.bytes).questions ≡ all.feeds.questions = ap (λ (t : Stream). t.questions) whole ∙ append-nil all.feeds.questions in
+      let left : (stream_of all.bytes).unused ≡ waiting = ap (λ (t : Stream). t.unused) whole in
       record {
         bytes = all.bytes;
         read = all.read;
-        ran = λ rest. subst (λ w. Ran does (stream_of (all.bytes ++ rest)).questions (stream_of (w ++ rest)).questions [] a b x y) (sym left)
-            (subst (λ qs. Ran does qs (stream_of (waiting ++ rest)).questions [] a b x y) (sym (ap (λ (t : Stream). t.questions) (all.feeds.splits rest))) (Ran-rest all.feeds.questions (stream_of (waiting ++ rest)).questions a b x y all.feeds.does_them));
+        does_them = subst (λ qs. Does does qs a b x y) (sym asked) all.feeds.does_them;
+        goes_on = λ rest. all.feeds.splits rest ∙ ap (λ qs. behind qs (stream_of (waiting ++ rest))) (sym asked) ∙ ap (λ w. behind (stream_of all.bytes).questions (stream_of (w ++ rest))) (sym left);
       }

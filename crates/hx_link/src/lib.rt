@@ -9,5 +9,6 @@ mod link;
 mod service;
 mod writing;
 
+pub use buffers::empty;
 pub use link::{LinkEnd, serve_link};
 pub use service::Service;
