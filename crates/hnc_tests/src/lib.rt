@@ -14,6 +14,8 @@ mod forests;
 #[cfg(test)]
 mod graphs;
 #[cfg(test)]
+mod links;
+#[cfg(test)]
 mod made;
 #[cfg(test)]
 mod plans;
