@@ -37,12 +37,18 @@ pub of_serving : (P : Result ℕ DoorFault → Type 0) (served : Option Command)
     → HasServed P serving.links a door door' keeper' → IsSomeAnd served (λ c. LeavesLinks c P door door' keeper keeper')
 of_serving P served command serving door door' keeper keeper' a is task starts has =
     let Q : Option Command → Type 0 = λ o. IsSomeAnd o (λ c. LeavesLinks c P door door' keeper keeper') in
-    subst Q (sym is) (has.result, (has.is, subst (λ (t : Task). LeavesServedBy command t has.result door door' keeper keeper') (sym task) (record {
-      visits = has.serves.visits;
-      each = has.serves.each;
-      carries = carries command (visits_entries has.serves.visits) keeper keeper' a has.last starts has.keeper has.serves.simulates;
-      between = has.serves.between;
-      visited = has.serves.visited;
-      few = has.serves.few;
-      ends = has.serves.ends;
-    })))
+    subst Q (sym is) (
+      has.result,
+      (
+        has.is,
+        subst (λ (t : Task). LeavesServedBy command t has.result door door' keeper keeper') (sym task) (record {
+          visits = has.serves.visits;
+          each = has.serves.each;
+          carries = carries command (visits_entries has.serves.visits) keeper keeper' a has.last starts has.keeper has.serves.simulates;
+          between = has.serves.between;
+          visited = has.serves.visited;
+          few = has.serves.few;
+          ends = has.serves.ends;
+        }),
+      ),
+    )

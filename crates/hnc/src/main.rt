@@ -1,4 +1,4 @@
-//! `hnc`: the control service of hierarchical namespaces, as a program over scripts of requests, with reports on what they leave.
+//! `hnc`: the control service of hierarchical namespaces, as a program over scripts of requests and links of HTTP, with reports on what they leave.
 #![tactic(auto)]
 
 mod printing;
@@ -10,8 +10,11 @@ ghost use Rattle.std.specs.Prelude.{◌≡◌, false, [], None, Ok, map, IsSomeA
 ghost use Rattle.hx_words.specs.Words.{command_of, is_reading, reading_of};
 
 use crate::top::{DamagedRow, Ended, Status, top};
+use hx_door::{TcpDoor, TcpFault};
+use hx_link::LinkEnd;
 use hx_object::{List, NoMemory};
 use hx_ports::{Keeper, Meta, StdSink, StdSource, StreamFault, SureKeeper};
+use hx_serve::Notices;
 use hx_sqlite::{SqlFault, SqlKeeper};
 use hx_words::{Command, WordsFault, first_untaken, read_words};
 use std::alloc::Global;
@@ -56,6 +59,19 @@ struct Outcome {
     close_fault: Option<SqlFault>,
     read_fault: Option<StreamFault>,
     write_fault: Option<StreamFault>,
+    door: TcpDoor,
+}
+
+/// Says on standard error how links ended that weren't closed.
+#[derive(Clone, Copy)]
+struct LinkNotices {
+    rt: HostRuntime,
+}
+
+impl Notices for LinkNotices {
+    fn link_ended(&mut self, end: LinkEnd) {
+        let _ = eprintln!(self.rt; "hnc: a link ended: {end:?}");
+    }
 }
 
 /// How the rows of a command are had.
@@ -82,6 +98,7 @@ fn run(rt: &HostRuntime, words: &[String], keys: RandomState) -> Outcome {
             close_fault: None,
             read_fault: None,
             write_fault: None,
+            door: TcpDoor::new(rt),
         },
     }
 }
@@ -117,8 +134,19 @@ fn run_in_memory(rt: &HostRuntime, words: &[String], keys: RandomState) -> Outco
 {
     let mut source = StdSource::new(rt.stdin());
     let mut sink = StdSink::new(rt.stdout());
+    let mut door = TcpDoor::new(rt);
+    let mut notices = LinkNotices { rt: *rt };
     let keeper = SureKeeper::new(Vec::new(rt.alloc()), NO_ROWS, keys);
-    let ended = top(rt.alloc(), words, &mut source, &mut sink, keeper, keys);
+    let ended = top(
+        rt.alloc(),
+        words,
+        &mut source,
+        &mut sink,
+        &mut door,
+        &mut notices,
+        keeper,
+        keys,
+    );
     Outcome {
         status: ended.status,
         damaged: ended.damaged,
@@ -126,6 +154,7 @@ fn run_in_memory(rt: &HostRuntime, words: &[String], keys: RandomState) -> Outco
         close_fault: None,
         read_fault: source.last_fault(),
         write_fault: sink.last_fault(),
+        door,
     }
 }
 
@@ -142,11 +171,22 @@ fn run_over(rt: &HostRuntime, words: &[String], keys: RandomState, keeper: SqlKe
 {
     let mut source = StdSource::new(rt.stdin());
     let mut sink = StdSink::new(rt.stdout());
+    let mut door = TcpDoor::new(rt);
+    let mut notices = LinkNotices { rt: *rt };
     let Ended {
         status,
         damaged,
         keeper,
-    } = top(rt.alloc(), words, &mut source, &mut sink, keeper, keys);
+    } = top(
+        rt.alloc(),
+        words,
+        &mut source,
+        &mut sink,
+        &mut door,
+        &mut notices,
+        keeper,
+        keys,
+    );
     Outcome {
         status,
         damaged,
@@ -154,6 +194,7 @@ fn run_over(rt: &HostRuntime, words: &[String], keys: RandomState, keeper: SqlKe
         close_fault: close(status, keeper),
         read_fault: source.last_fault(),
         write_fault: sink.last_fault(),
+        door,
     }
 }
 
@@ -188,6 +229,7 @@ fn exit_with(rt: &HostRuntime, words: &[String], outcome: &Outcome) -> ExitCode 
         Status::WriteFault => exit_with_fault(rt, Status::WriteFault, outcome.write_fault),
         Status::KeeperFault => exit_with_keeper_fault(rt, outcome.database_fault),
         Status::Damaged => exit_with_damage(rt, outcome.damaged.as_ref()),
+        Status::DoorFault => exit_with_door_fault(rt, outcome.door.last_fault()),
         status => exit_with_status(rt, status),
     }
 }
@@ -205,6 +247,16 @@ fn exit_with_keeper_fault(rt: &HostRuntime, fault: Option<SqlFault>) -> ExitCode
     let status = Status::KeeperFault;
     let _ = match fault {
         Some(fault) => eprintln!(rt; "hnc: {status:?}: the database failed: {fault}"),
+        None => eprintln!(rt; "hnc: {status:?}"),
+    };
+    ExitCode::from(status.code())
+}
+
+/// Says why the door failed.
+fn exit_with_door_fault(rt: &HostRuntime, fault: Option<&TcpFault>) -> ExitCode {
+    let status = Status::DoorFault;
+    let _ = match fault {
+        Some(fault) => eprintln!(rt; "hnc: {status:?}: {fault}"),
         None => eprintln!(rt; "hnc: {status:?}"),
     };
     ExitCode::from(status.code())

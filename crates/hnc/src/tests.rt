@@ -2,10 +2,13 @@
 ghost use Rattle.std.specs.Prelude.{◌<◌};
 
 use crate::top::{Ended, Status, top};
+use hx_door::MemDoor;
+use hx_link::LinkEnd;
 use hx_object::{List, NoMemory, Text};
 use hx_ports::{
     FailCommit, MemKeeper, MemSink, MemSource, Meta, Row, SureKeeper, SureSink, SureSource,
 };
+use hx_serve::Notices;
 use std::alloc::{AllocError, Global};
 use std::hash::RandomState;
 use std::mem;
@@ -14,6 +17,7 @@ use std::test::Fail;
 mod ample;
 mod damage;
 mod reports;
+mod serving;
 
 // What the ports of a run do.
 #[derive(Drop)]
@@ -55,6 +59,23 @@ fn plain(keys: RandomState) -> Setting {
         },
         failing_keeper: 0,
     }
+}
+
+// Counts the links that ended otherwise than closed.
+#[derive(Clone, Copy)]
+struct Counted {
+    ended: u64,
+}
+
+impl Notices for Counted {
+    fn link_ended(&mut self, _end: LinkEnd) {
+        self.ended = self.ended.saturating_add(1);
+    }
+}
+
+// A door to which no link comes.
+fn no_door(alloc: Global) -> Result<MemDoor, NoMemory> {
+    MemDoor::new(Vec::new(alloc), Vec::new(alloc))
 }
 
 // What a run left.
@@ -147,12 +168,15 @@ fn run_on(
     let (commits, calls) = fails_of(alloc, setting)?;
     let words = split_words(alloc, words)?;
     let mut ports = ports_of(alloc, script, setting)?;
+    let mut door = no_door(alloc)?;
     let keeper = MemKeeper::new(rows, setting.meta, commits, calls, setting.keys);
     let mut ended = top(
         alloc,
         words.as_slice(),
         &mut ports.source,
         &mut ports.sink,
+        &mut door,
+        &mut Counted { ended: 0 },
         keeper,
         setting.keys,
     );
@@ -166,12 +190,15 @@ fn sure_answers(alloc: Global, keys: RandomState, script: &[u8]) -> Result<SureS
     let words = split_words(alloc, "run")?;
     let mut sink = SureSink::new(Vec::with_capacity(alloc, 8192)?);
     let mut source = SureSource::new(Vec::from_slice(alloc, script)?, 4096);
+    let mut door = no_door(alloc)?;
     let keeper = SureKeeper::new(Vec::new(alloc), NO_ROWS, keys);
     drop(top(
         alloc,
         words.as_slice(),
         &mut source,
         &mut sink,
+        &mut door,
+        &mut Counted { ended: 0 },
         keeper,
         keys,
     ));

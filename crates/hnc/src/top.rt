@@ -11,8 +11,8 @@ ghost use Rattle.hx_script.specs.Inside.{IsIdle};
 ghost use Rattle.hx_script.specs.Running.{IsCalm, most_bytes};
 
 use crate::printing::print;
-use hx_door::{Door, DoorFault};
 use hx_core::{Cluster, Damage, StartFault, Unstarted};
+use hx_door::{Door, DoorFault};
 use hx_object::List;
 use hx_ports::{KeepFault, Keeper, Sink, Source};
 use hx_script::{RunEnd, run_script};

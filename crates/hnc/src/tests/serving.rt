@@ -1,0 +1,101 @@
+// Links through the top call, over a door in memory.
+ghost use Rattle.std.specs.Prelude.{◌<◌};
+
+use super::{Counted, NO_ROWS, split_words};
+use crate::top::{Status, top};
+use hx_door::{MemDoor, MemLine};
+use hx_object::NoMemory;
+use hx_ports::{MemSink, MemSource, SureKeeper, SureSink, SureSource};
+use std::alloc::Global;
+use std::hash::RandomState;
+use std::test::Fail;
+
+// What the clients of two links send, and what is sent to them. The second link ends within a request.
+const SENT: [&str; 2] = [
+    "POST /api/v1/namespaces HTTP/1.1\r\nHost: x\r\nContent-Length: 65\r\n\r\n{\"apiVersion\":\"v1\",\"kind\":\"Namespace\",\"metadata\":{\"name\":\"acme\"}}GET /api/v1/namespaces/none HTTP/1.1\r\nConnection: close\r\n\r\nGET / HTTP/1.1\r\n\r\n",
+    "GET /api/v1/namespaces/acme HTTP/1.1\r\n\r\nGET /",
+];
+
+const ANSWERED: [&str; 2] = [
+    "HTTP/1.1 201 Created\r\ncontent-type: application/json\r\ncontent-length: 115\r\n\r\n{\"apiVersion\":\"v1\",\"kind\":\"Namespace\",\"metadata\":{\"name\":\"acme\",\"resourceVersion\":\"1\"},\"status\":{\"phase\":\"Active\"}}HTTP/1.1 404 Not Found\r\ncontent-type: application/json\r\ncontent-length: 141\r\nconnection: close\r\n\r\n{\"apiVersion\":\"v1\",\"code\":404,\"kind\":\"Status\",\"message\":\"namespaces \\\"none\\\" not found\",\"metadata\":{},\"reason\":\"NotFound\",\"status\":\"Failure\"}",
+    "HTTP/1.1 200 OK\r\ncontent-type: application/json\r\ncontent-length: 115\r\n\r\n",
+];
+
+// The piece that links read at a time, the call of the door that fails, and how it ends.
+const CASES: [(usize, u64, Status, usize, u64); 5] = [
+    (4096, 0, Status::Done, 2, 1),
+    (1, 0, Status::Done, 2, 1),
+    (7, 0, Status::Done, 2, 1),
+    (3, 1, Status::DoorFault, 0, 0),
+    (2, 3, Status::DoorFault, 1, 0),
+];
+
+// A link whose client sends a text, which comes in pieces.
+fn line(alloc: Global, text: &str, piece: usize) -> Result<MemLine, NoMemory>
+    requires { 0 < piece }
+{
+    let sent = Vec::from_slice(alloc, text.as_bytes())?;
+    let source = MemSource::new(sent, piece, Vec::new(alloc));
+    let sink = MemSink::new(Vec::with_capacity(alloc, 1024)?, 4096, Vec::new(alloc));
+    Ok(MemLine::new(source, sink))
+}
+
+// A door with both links, of which a call may fail.
+fn door(alloc: Global, piece: usize, fails: u64) -> Result<MemDoor, NoMemory>
+    requires { 0 < piece }
+{
+    let mut lines = Vec::new(alloc);
+    lines.push(line(alloc, SENT[0], piece)?)?;
+    lines.push(line(alloc, SENT[1], piece)?)?;
+    MemDoor::new(lines, vec![in alloc; fails; 1]?)
+}
+
+// Whether so many links were answered as they should be.
+fn are_answered(door: &MemDoor, links: usize) -> bool {
+    let sinks = door.sinks();
+    if sinks.len() != links {
+        return false;
+    }
+    for index in 0..links.min(2) {
+        if !sinks[index].bytes().starts_with(ANSWERED[index].as_bytes()) {
+            return false;
+        }
+    }
+    true
+}
+
+fn ends_so(
+    alloc: Global,
+    keys: RandomState,
+    (piece, fails, status, links, noticed): (usize, u64, Status, usize, u64),
+) -> Result<bool, NoMemory> {
+    if piece == 0 {
+        return Ok(false);
+    }
+    let words = split_words(alloc, "serve --listen 127.0.0.1:0 --links 2")?;
+    let mut door = door(alloc, piece, fails)?;
+    let mut notices = Counted { ended: 0 };
+    let keeper = SureKeeper::new(Vec::new(alloc), NO_ROWS, keys);
+    let ended = top(
+        alloc,
+        words.as_slice(),
+        &mut SureSource::new(Vec::new(alloc), 1),
+        &mut SureSink::new(Vec::new(alloc)),
+        &mut door,
+        &mut notices,
+        keeper,
+        keys,
+    );
+    let so = ended.status == status && notices.ended == noticed;
+    drop(ended);
+    Ok(so && are_answered(&door, links))
+}
+
+#[test]
+fn links_are_answered_in_order(rt: HostRuntime) -> Result<(), Fail> {
+    let keys = RandomState::new(&rt)?;
+    for (index, case) in CASES.into_iter().enumerate() {
+        assert!(rt; ends_so(rt.alloc(), keys, case)?, "case {index}");
+    }
+    Ok(())
+}
