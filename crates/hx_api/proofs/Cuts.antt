@@ -1,18 +1,11 @@
 -- Paths whose parts are cut off one after another.
-use Rattle.std.proofs.Common.{◌≡◌, ◌∙◌, ℕ, suc, ◌+◌, ◌-◌, ◌<◌, List, [], ◌∷◌, length, take, drop, Option, Some, None, Bool, true, false, ◌&&◌, cond, not, codes, refl, ap, arith}
-use Rattle.std.specs.Prelude.{bytes_eq}
+use Rattle.std.proofs.Common.{◌≡◌, ◌∙◌, ℕ, suc, ◌+◌, ◌-◌, ◌<◌, List, [], ◌∷◌, length, take, drop, Bool, true, false, cond, not, refl, ap, arith}
 use Rattle.std.specs.List.{onto_first, position_or_len, slice_range}
-use Rattle.std.proofs.lemmas.List.Splits.{slice_split_first}
-use Rattle.hx_model.specs.First.{so}
-use Rattle.hx_api.specs.Paths.{feed_resource, is_blank, is_namespaces, is_slash, parts_of, resource_of_parts, resource_under, root_resource}
-use Rattle.hx_api.specs.declared.resource_path.ResourcePath.{ResourcePath}
-use Rattle.hx_api.specs.declared.resource_path.ResourcePath.TheVariants.{Events}
-
-abbrev nowhere : Option (ResourcePath (List ℕ))
-nowhere = None
-
-abbrev feed : ResourcePath (List ℕ)
-feed = Events
+use Rattle.std.proofs.lemmas.List.Splits.{join_with_byte-slice_split, slice_split_first}
+use Rattle.hx_object.specs.Names.{slash}
+use Rattle.hx_api.specs.Paths.{cluster_object, collection, collection_in, is_slash, object_in, parts_of}
+use Rattle.hx_api.specs.InsideRoutes.{path_of_parts, resource_behind}
+use Rattle.hx_api.specs.declared.routes.Form.TheVariants.{Collection, Object, CollectionIn, ObjectIn}
 
 -- a path without a slash is one part
 pub uncut : (path : List ℕ) → position_or_len is_slash path ≡ length path → parts_of path ≡ path ∷ []
@@ -40,50 +33,31 @@ some_parts (byte ∷ path) = by (is_slash byte) (parts_of path)
     by false [] = omega arith
     by false (part ∷ parts) = omega arith
 
--- more parts than a place has
-pub too_long : (version : List (List ℕ)) (word ns plural name rest : List ℕ) → resource_under version (word ∷ ns ∷ plural ∷ name ∷ parts_of rest) ≡ None
-too_long version word ns plural name rest = by (parts_of rest) (some_parts rest)
-  where
-    by : (parts : List (List ℕ)) → 0 < length parts → resource_under version (word ∷ ns ∷ plural ∷ name ∷ parts) ≡ None
-    by [] some = absurd (omega arith)
-    by (part ∷ parts) some = refl
+-- the parts of a path stand for it
+whole : (path : List ℕ) → path_of_parts (parts_of path) ≡ path
+whole path = join_with_byte-slice_split slash path
 
--- three parts or more, of which the first isn't `namespaces`
-pub elsewhere : (version : List (List ℕ)) (word ns rest : List ℕ) → is_namespaces word ≡ false → resource_under version (word ∷ ns ∷ parts_of rest) ≡ None
-elsewhere version word ns rest other = by (parts_of rest) (some_parts rest)
+-- what is left behind the last slash that counts
+pub whole_object : (version : List (List ℕ)) (plural path : List ℕ) → resource_behind version Object (plural ∷ parts_of path) ≡ cluster_object version plural path
+whole_object version plural path = by (parts_of path) (some_parts path) (whole path)
   where
-    by : (parts : List (List ℕ)) → 0 < length parts → resource_under version (word ∷ ns ∷ parts) ≡ None
-    by [] some = absurd (omega arith)
-    by (plural ∷ []) some = rw other refl
-    by (plural ∷ name ∷ []) some = rw other refl
-    by (plural ∷ name ∷ more ∷ parts) some = refl
+    by : (parts : List (List ℕ)) → 0 < length parts → path_of_parts parts ≡ path → resource_behind version Object (plural ∷ parts) ≡ cluster_object version plural path
+    by [] some is = absurd (omega arith)
+    by (name ∷ parts) some is = rw is refl
 
--- more parts than the feed has
-pub no_feed : (version word rest : List ℕ) → feed_resource (version ∷ word ∷ parts_of rest) ≡ None
-no_feed version word rest = by (parts_of rest) (some_parts rest)
+pub whole_collection_in : (version : List (List ℕ)) (word ns path : List ℕ) → resource_behind version CollectionIn (word ∷ ns ∷ parts_of path) ≡ collection_in version ns path
+whole_collection_in version word ns path = by (parts_of path) (some_parts path) (whole path)
   where
-    tests : (u v : Bool) → so (u && (v && false)) feed ≡ nowhere
-    tests true true = refl
-    tests true false = refl
-    tests false v = refl
+    by : (parts : List (List ℕ)) → 0 < length parts → path_of_parts parts ≡ path → resource_behind version CollectionIn (word ∷ ns ∷ parts) ≡ collection_in version ns path
+    by [] some is = absurd (omega arith)
+    by (plural ∷ parts) some is = rw is refl
 
-    by : (parts : List (List ℕ)) → 0 < length parts → feed_resource (version ∷ word ∷ parts) ≡ None
-    by [] some = absurd (omega arith)
-    by (part ∷ parts) some = tests (bytes_eq version (codes "v1")) (bytes_eq word (codes "events"))
-
--- nothing stands behind the first word
-bare : (word : List ℕ) → root_resource word [] ≡ None
-bare word = by (bytes_eq word (codes "api")) (bytes_eq word (codes "apis")) (bytes_eq word (codes "hnc"))
+pub whole_object_in : (version : List (List ℕ)) (word ns plural path : List ℕ) → resource_behind version ObjectIn (word ∷ ns ∷ plural ∷ parts_of path) ≡ object_in version ns plural path
+whole_object_in version word ns plural path = by (parts_of path) (some_parts path) (whole path)
   where
-    by : (u v w : Bool) → cond u None (cond v None (cond w None None)) ≡ nowhere
-    by true v w = refl
-    by false true w = refl
-    by false false true = refl
-    by false false false = refl
+    by : (parts : List (List ℕ)) → 0 < length parts → path_of_parts parts ≡ path → resource_behind version ObjectIn (word ∷ ns ∷ plural ∷ parts) ≡ object_in version ns plural path
+    by [] some is = absurd (omega arith)
+    by (name ∷ parts) some is = rw is refl
 
-pub lone : (root word : List ℕ) → resource_of_parts (root ∷ word ∷ []) ≡ None
-lone root word = by (is_blank root)
-  where
-    by : (b : Bool) → cond b (root_resource word []) None ≡ nowhere
-    by true = bare word
-    by false = refl
+pub whole_collection : (version : List (List ℕ)) (path : List ℕ) → resource_behind version Collection (parts_of path) ≡ collection version path
+whole_collection version path = ap (collection version) (whole path)

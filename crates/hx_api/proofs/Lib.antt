@@ -4,4 +4,9 @@ pub mod Reading
 pub mod Scopes
 pub mod Cuts
 pub mod Said
+pub mod Fits
+pub mod Search
+pub mod Pieces
+pub mod Named
+pub mod Table
 pub mod Examples

@@ -4,3 +4,4 @@ pub mod Bodies
 pub mod Asks
 pub mod Replies
 pub mod Inside
+pub mod InsideRoutes

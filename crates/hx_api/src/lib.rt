@@ -9,6 +9,7 @@ mod query;
 mod reply;
 mod request;
 mod resource_path;
+mod routes;
 mod served;
 
 pub use hx_http::Method;

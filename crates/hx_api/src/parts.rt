@@ -1,9 +1,11 @@
-// What a path names, by its parts, which are cut off one after another.
-ghost use Rattle.std.specs.Prelude.{◌≡◌, [], ◌∷◌, MatchOption, codes, option_map};
-ghost use Rattle.hx_api.specs.Paths.{core_resource, feed_resource, group_resource, parts_of, resource_of, resource_under};
+// What a path names, by its route and by its parts, which are cut off one after another.
+ghost use Rattle.std.specs.Prelude.{◌≡◌, [], ◌∷◌, MatchOption, option_map};
+ghost use Rattle.hx_api.specs.Paths.{parts_of};
 ghost use Rattle.hx_api.specs.Inside.{as_sent, parts_of_version};
+ghost use Rattle.hx_api.specs.InsideRoutes.{core_resource_on, group_resource_on, resource_behind, resource_on};
 
 use crate::resource_path::ResourcePath;
+use crate::routes::{Form, Route};
 use crate::served::{Version, cluster_object, collection, collection_in, object_in};
 use memchr::memchr;
 
@@ -15,82 +17,60 @@ fn cut_part(path: &str) -> Option<(&str, &str)>
     Some((&path[..slash], &path[slash + 1..]))
 }
 
-/// What a path names, its segments as they were sent.
-#[tactic(auto, using(crate::proofs::Cuts::lone), unfolding(crate::specs::Paths::resource_of))]
-pub fn resource_of(path: &str) -> Option<ResourcePath<&str>>
-    ensures { option_map as_sent result ≡ resource_of path.now }
+/// What a path of this route names.
+pub fn resource_on(route: Route, path: &str) -> Option<ResourcePath<&str>>
+    ensures { option_map as_sent result ≡ resource_on route (parts_of path.now) }
 {
-    let (root, path) = cut_part(path)?;
-    let (word, path) = cut_part(path)?;
-    if !root.is_empty() {
-        return None;
-    }
-    match word {
-        "api" => core_resource(path),
-        "apis" => group_resource(path),
-        "hnc" => feed_resource(path),
-        _ => None,
+    match route {
+        Route::Core(form) => core_resource_on(form, path),
+        Route::Group(form) => group_resource_on(form, path),
+        Route::Events => Some(ResourcePath::Events),
     }
 }
 
-fn core_resource(path: &str) -> Option<ResourcePath<&str>>
-    ensures { option_map as_sent result ≡ core_resource (parts_of path.now) }
+fn core_resource_on(form: Form, path: &str) -> Option<ResourcePath<&str>>
+    ensures { option_map as_sent result ≡ core_resource_on form (parts_of path.now) }
 {
+    let (_, path) = cut_part(path)?;
+    let (_, path) = cut_part(path)?;
     let (version, path) = cut_part(path)?;
-    resource_under(Version::Core { version }, path)
+    resource_behind(Version::Core { version }, form, path)
 }
 
-fn group_resource(path: &str) -> Option<ResourcePath<&str>>
-    ensures { option_map as_sent result ≡ group_resource (parts_of path.now) }
+fn group_resource_on(form: Form, path: &str) -> Option<ResourcePath<&str>>
+    ensures { option_map as_sent result ≡ group_resource_on form (parts_of path.now) }
 {
+    let (_, path) = cut_part(path)?;
+    let (_, path) = cut_part(path)?;
     let (group, path) = cut_part(path)?;
     let (version, path) = cut_part(path)?;
-    resource_under(Version::Group { group, version }, path)
-}
-
-fn feed_resource(path: &str) -> Option<ResourcePath<&str>>
-    ensures { option_map as_sent result ≡ feed_resource (parts_of path.now) }
-{
-    let (version, word) = cut_part(path)?;
-    match cut_part(word) {
-        None => {
-            if version == "v1" && word == "events" {
-                Some(ResourcePath::Events)
-            } else {
-                None
-            }
-        }
-        Some(_) => None,
-    }
+    resource_behind(Version::Group { group, version }, form, path)
 }
 
 /// What the parts behind a version name.
-fn resource_under<'a>(version: Version<'a>, path: &'a str) -> Option<ResourcePath<&'a str>>
-    ensures { option_map as_sent result ≡ resource_under (parts_of_version version.entry) (parts_of path.now) }
-{
-    let Some((word, rest)) = cut_part(path) else {
-        return collection(version, path);
-    };
-    match cut_part(rest) {
-        None => cluster_object(version, word, rest),
-        Some((ns, rest)) if word == "namespaces" => resource_in(version, ns, rest),
-        Some(_) => None,
-    }
-}
-
-/// What the parts behind a namespace name.
-fn resource_in<'a>(
+fn resource_behind<'a>(
     version: Version<'a>,
-    ns: &'a str,
+    form: Form,
     path: &'a str,
 ) -> Option<ResourcePath<&'a str>>
-    ensures { option_map as_sent result ≡ resource_under (parts_of_version version.entry) (codes "namespaces" ∷ ns.now ∷ parts_of path.now) }
+    ensures { option_map as_sent result ≡ resource_behind (parts_of_version version.entry) form (parts_of path.now) }
 {
-    let Some((plural, name)) = cut_part(path) else {
-        return collection_in(version, ns, path);
-    };
-    match cut_part(name) {
-        None => object_in(version, ns, plural, name),
-        Some(_) => None,
+    match form {
+        Form::Collection => collection(version, path),
+        Form::Object => {
+            let (plural, name) = cut_part(path)?;
+            cluster_object(version, plural, name)
+        }
+        Form::CollectionIn => {
+            let (_, path) = cut_part(path)?;
+            let (ns, plural) = cut_part(path)?;
+            collection_in(version, ns, plural)
+        }
+        Form::ObjectIn => {
+            let (_, path) = cut_part(path)?;
+            let (ns, path) = cut_part(path)?;
+            let (plural, name) = cut_part(path)?;
+            object_in(version, ns, plural, name)
+        }
     }
 }

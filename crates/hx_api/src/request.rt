@@ -1,15 +1,15 @@
 // Requests as asks.
-ghost use Rattle.std.specs.Prelude.{◌≡◌, ◌⊎◌, Ok, Err, None, Some, true, IfOk, IfErr, OnOk, codes};
+ghost use Rattle.std.specs.Prelude.{◌≡◌, ◌⊎◌, Ok, Err, None, Some, true, IfOk, IfErr, OnOk, codes, option_map};
 ghost use Rattle.hx_model.specs.Serving.{IsServedAsk};
 ghost use Rattle.hx_api.specs.Asks.{ask_of, form_refusal, namespace, is_feed, is_served, resource_for, ask_at, selector_for, selector_in};
-ghost use Rattle.hx_api.specs.Inside.{FitsScope};
+ghost use Rattle.hx_api.specs.Inside.{FitsScope, as_sent};
 ghost use Rattle.hx_api.specs.Paths.{resource_of};
 
 use crate::Method;
 use crate::body::{create, replace};
-use crate::parts::resource_of;
 use crate::query::{Query, cut};
 use crate::resource_path::{ResourcePath, allows, decoded};
+use crate::routes::Routes;
 use hx_json::BodyReader;
 use hx_model::{Ask, Refusal};
 use hx_object::{Id, NoMemory, Text};
@@ -17,10 +17,11 @@ use hx_select::{SelectFault, Selector};
 use std::alloc::Global;
 use std::marker::Model;
 
-/// Reads requests, one after another. It keeps the room that reading a body takes.
+/// Reads requests, one after another. It keeps the room that reading a body takes, and the routes, which the first request makes.
 pub struct RequestReader {
     alloc: Global,
     bodies: BodyReader,
+    routes: Option<Routes>,
 }
 
 impl Drop for RequestReader {
@@ -28,6 +29,7 @@ impl Drop for RequestReader {
         let RequestReader {
             alloc: _,
             bodies: _,
+            routes: _,
         } = self;
     }
 }
@@ -44,6 +46,7 @@ impl RequestReader {
         RequestReader {
             alloc,
             bodies: BodyReader::new(alloc),
+            routes: None,
         }
     }
 
@@ -55,7 +58,7 @@ impl RequestReader {
         ensures served { IfOk result IsServedAsk }
     {
         let (path, query) = cut(target);
-        let resource = resource_for(self.alloc, method, path)?;
+        let resource = resource_for(&mut self.routes, self.alloc, method, path)?;
         let query = Query::read(self.alloc, query)?;
         let selector = selector_for(self.alloc, method, &resource, &query)?;
         check_form(self.alloc, method, &resource, &query)?;
@@ -73,11 +76,16 @@ impl RequestReader {
 }
 
 /// The resource of a request, its segments decoded, if the path is served and takes the method.
-fn resource_for(alloc: Global, method: Method, path: &str) -> Result<ResourcePath<Text>, Refusal>
+fn resource_for(
+    routes: &mut Option<Routes>,
+    alloc: Global,
+    method: Method,
+    path: &str,
+) -> Result<ResourcePath<Text>, Refusal>
     ensures ok { IfOk result (λ resource. resource_for method (resource_of path.now) ≡ Ok resource) }
     ensures refused { IfErr result (λ refusal. (refusal ≡ Refusal.NoMemory) ⊎ (resource_for method (resource_of path.now) ≡ Err refusal)) }
 {
-    let Some(resource) = resource_of(path) else {
+    let Some(resource) = resource_of(routes, alloc, path)? else {
         return Err(Refusal::NoPath);
     };
     if !allows(&resource, method) {
@@ -86,6 +94,20 @@ fn resource_for(alloc: Global, method: Method, path: &str) -> Result<ResourcePat
     match decoded(alloc, &resource)? {
         Some(resource) => Ok(resource),
         None => Err(Refusal::BadPath),
+    }
+}
+
+/// What a path names, its segments as they were sent, by the routes that are kept.
+fn resource_of<'a>(
+    routes: &mut Option<Routes>,
+    alloc: Global,
+    path: &'a str,
+) -> Result<Option<ResourcePath<&'a str>>, NoMemory>
+    ensures { IfOk result (λ resource. option_map as_sent resource ≡ resource_of path.now) }
+{
+    match routes {
+        Some(routes) => Ok(routes.resource_of(path)),
+        None => Ok(routes.insert(Routes::new(alloc)?).resource_of(path)),
     }
 }
 

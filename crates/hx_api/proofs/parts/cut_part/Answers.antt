@@ -1,5 +1,4 @@
-use Rattle.std.proofs.Common.{◌∙◌, sym, ap, Some, None, MatchOption, arith}
-use Rattle.hx_api.specs.Paths.{parts_of}
+use Rattle.std.proofs.Common.{arith}
 use Rattle.hx_api.proofs.Bytes.{cuts_at, first_at, first_nowhere}
 use Rattle.hx_api.proofs.Cuts.{cut_at, uncut}
 use Rattle.hx_api.proofs.parts.cut_part.Goals as goal

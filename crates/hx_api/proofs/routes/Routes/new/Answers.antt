@@ -1,0 +1,4 @@
+use Rattle.hx_api.proofs.routes.Routes.new.Goals as goal
+
+pub invariant_of-result : goal.invariant_of-result
+invariant_of-result c = rw (c.in_ok-add.ensures, c.in_ok-router.ensures)
