@@ -2,7 +2,6 @@
 ghost use Rattle.std.specs.Prelude.{◌≡◌};
 ghost use Rattle.hx_http.specs.Searches.{message_seen};
 ghost use Rattle.hx_model.specs.Serving.{IsLegalAnswer};
-ghost use Rattle.hx_api.specs.Asks.{ask_of};
 ghost use Rattle.hx_script.specs.Inside.{IsIdle};
 ghost use Rattle.hx_serve.specs.Exchanges.{HasSettled, reading_of};
 ghost use Rattle.hx_serve.specs.Inside.{IsCalled};
