@@ -7,7 +7,7 @@ use Rattle.std.specs.declared.result.Result.{Result}
 use Rattle.hx_ports.specs.Views.{KeeperView}
 use Rattle.hx_core.specs.Refinement.{ClusterView}
 use Rattle.hx_door.specs.Doors.{DoorView}
-use Rattle.hx_door.specs.declared.fault.DoorFault.{DoorFault}
+use Rattle.hx_door.specs.declared.door.DoorFault.{DoorFault}
 use Rattle.hx_serve.specs.Visits.{visits_entries}
 use Rattle.hx_words.specs.Words.{asked_if, is_reading, is_run, is_serving}
 use Rattle.hx_words.specs.declared.command.Command.{Command}

@@ -36,7 +36,7 @@ use Rattle.hnc.specs.declared.top.Status.{Status}
 use Rattle.hnc.specs.declared.top.Status.TheVariants.{Done, Usage, ReadFault, WriteFault, KeeperFault, Damaged, NoMemory, DoorFault, Unsettled, TooLong, NotFound}
 use Rattle.hnc.specs.Reports.{PrintsWhole, PrintsFront}
 use Rattle.hx_door.specs.Doors.{DoorView}
-use Rattle.hx_door.specs.declared.fault.DoorFault.{DoorFault as Fault}
+use Rattle.hx_door.specs.declared.door.DoorFault.{DoorFault as Fault}
 use Rattle.hx_serve.specs.Visits.{Visit, IsVisit, HaveVisited, EndsServing, visits_entries}
 use Rattle.hx_script.specs.Lines.{Line, script_lines, unended}
 use Rattle.hx_script.specs.Running.{LacksLast, OfScript, most_bytes}

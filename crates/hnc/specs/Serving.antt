@@ -5,7 +5,7 @@ use Rattle.std.specs.declared.result.Result.{Result}
 use Rattle.hx_ports.specs.Views.{KeeperView}
 use Rattle.hx_core.specs.Refinement.{ClusterView}
 use Rattle.hx_door.specs.Doors.{DoorView}
-use Rattle.hx_door.specs.declared.fault.DoorFault.{DoorFault}
+use Rattle.hx_door.specs.declared.door.DoorFault.{DoorFault}
 use Rattle.hx_serve.specs.Visits.{Serves}
 
 -- at most so many links were served over the cluster, with such a result, and its keeper was given back
