@@ -12,7 +12,7 @@ use hx_ports::{Batch, KeepFault, Keeper, Meta, Row};
 
 /// Keeps rows in an SQLite database, and tells nothing of what it holds. `attach` opens the file at a path, which it makes where there is none, or a database in memory for the empty path.
 ///
-/// A keeper for reading changes no byte of a file or its log: `attach` copies both into memory, and refuses a path at which no file is and a database without tables. It takes no batch.
+/// A keeper for reading changes no byte of a file or its log: both are only read, and what opening them writes lies in memory. `attach` refuses a path at which no file is and a database without tables. It takes no batch.
 ///
 /// A call before `attach` is a fault, and so is a value that isn't of its column's type. A number below 0 is told as one over 2^63 - 1, and a database without the row of `meta` has schema 0 and version 0.
 ///
@@ -167,7 +167,7 @@ impl Keeper for SqlKeeper {
     fn attach(&mut self, path: &str) -> Result<(), KeepFault>
         ensures place { OnOk result ((⟦<SqlKeeper as Keeper>⟧.shown self.new).place ≡ Some path.now) }
         ensures rows { OnOk result (IfSome (place_of self.new) (λ place. are_in_file place.rows ≡ names_a_file path.now)) }
-        ensures copied { reads_only self.old ≡ true → OnOk result (IfSome (place_of self.new) (λ place. are_on_disk place.rows ≡ false)) }
+        ensures overlaid { reads_only self.old ≡ true → OnOk result (IfSome (place_of self.new) (λ place. are_on_disk place.rows ≡ false)) }
         ensures nowhere { OnErr result (place_of self.new ≡ place_of self.old) }
         ensures access { reads_only self.new ≡ reads_only self.old }
         ensures same { (⟦<SqlKeeper as Keeper>⟧.shown self.new).kept ≡ (⟦<SqlKeeper as Keeper>⟧.shown self.old).kept }

@@ -6,7 +6,7 @@
 //!
 //! `attach` reads the whole file and checks each page and row. That takes about a second for each 100 MB, and the memory of the greatest table; the pages that are kept in memory later are 32 MB, and those of a batch under way as many. A file never shrinks. Where `attach` refuses what it finds, it may leave an empty log beside it. A keeper that is dropped without `close` leaves file and log as they are.
 //!
-//! A keeper for reading, of `SqlKeeper::for_reading`, leaves the bytes of a file and its log as they are: `attach` copies both into memory, and works on the copies. That takes twice the memory of both. It holds the lock while it copies, so that it is refused as busy where another has the file open, and a keeper that writes may open it right after. It opens the two as one that writes does: they have to be open to this user to write, and where no log is beside the file an empty one is made. A path at which no file is and a database without tables are refused.
+//! A keeper for reading, of `SqlKeeper::for_reading`, leaves the bytes of a file and its log as they are: both are only read, page by page, and the few bytes that the engine writes as it opens a log lie in memory (`hx_overlay`). It takes no more memory than one that writes. From `attach` until it is dropped it has the lock, as one that writes has: it is refused as busy where another has the file open, and so is one that opens it meanwhile. It opens the two as one that writes does: they have to be open to this user to write, and where no log is beside the file an empty one is made. A path at which no file is, a file in which no database is made yet and a database without tables are refused.
 //!
 //! The tables are made where a database has none, with schema 2 and version 0:
 //!
@@ -18,7 +18,6 @@
 
 mod asking;
 mod closing;
-mod copies;
 mod database;
 mod fault;
 mod keeper;

@@ -1,19 +1,24 @@
-// Where the rows are: in a file, in a copy of one, or in memory alone.
+// Where the rows are: in a file, in one that is only read, or in memory alone.
 ghost use Rattle.std.specs.Prelude.{◌≡◌, false, IfOk, IsTrue, string_bytes};
-ghost use Rattle.sqlite_disk.specs.Memory.{memory_is_usable};
+ghost use Rattle.sqlite_wal.specs.Reads.{OnlyReads};
 ghost use Rattle.hx_sqlite.specs.Seats.{are_in_file, are_on_disk, names_a_file};
 
 use crate::closing::close_files;
-use crate::copies::copy_files;
 use crate::database::{Ask, Database};
 use crate::fault::{Refusal, SqlFault};
+use hx_overlay::Overlay;
 use sqlite::{Connection, File, FileStore, Files, MemStore, Options, Unknown};
-use sqlite_disk::{Disk, Memory};
+use sqlite_disk::Disk;
+use sqlite_pool::probe_blank;
+use sqlite_wal::PageSize;
 use std::alloc::Global;
 use std::fs;
 use std::hash::{BuildHasher, RandomState};
 
-/// How many pages of 4 KiB are kept in memory, of those that were read and of those that a transaction wrote.
+/// How many bytes a page has.
+const PAGE_BYTES: usize = 4096;
+
+/// How many pages are kept in memory, of those that were read and of those that a transaction wrote.
 const PAGES: usize = 8_000;
 
 /// How many pages the log takes before it is copied into the database file.
@@ -40,7 +45,7 @@ impl Drop for Place {
 }
 
 impl Place {
-    /// Closes the database. All rows are then in its file, and its log is empty, unless they were copied from there.
+    /// Closes the database. All rows are then in its file, and its log is empty, unless they are only read.
     pub fn close(self) -> Result<(), SqlFault> {
         let Place { path: _, rows } = self;
         rows.close()
@@ -51,8 +56,8 @@ impl Place {
 pub enum Rows {
     Memory(Box<Database<MemStore>>),
     File(Box<Database<FileStore<File>>>),
-    /// As a file and its log had them, in copies of both.
-    Copied(Box<Database<FileStore<Memory>>>),
+    /// In a file and a log that are only read.
+    Overlaid(Box<Database<FileStore<Overlay<File>>>>),
 }
 
 impl Drop for Rows {
@@ -60,7 +65,7 @@ impl Drop for Rows {
         match self {
             Rows::Memory(_database) => {}
             Rows::File(_database) => {}
-            Rows::Copied(_database) => {}
+            Rows::Overlaid(_database) => {}
         }
     }
 }
@@ -75,7 +80,7 @@ impl Rows {
         match self {
             Rows::Memory(database) => ask.of(database),
             Rows::File(database) => ask.of(database),
-            Rows::Copied(database) => ask.of(database),
+            Rows::Overlaid(database) => ask.of(database),
         }
     }
 
@@ -86,15 +91,15 @@ impl Rows {
                 close_files(Box::into_inner(database).into_connection())?;
                 Ok(())
             },
-            Rows::Copied(_database) => Ok(()),
+            Rows::Overlaid(_database) => Ok(()),
         }
     }
 }
 
-/// To write, opens the file at the path, or makes it. To read, copies the file that is there with its log. The empty path opens a database in memory.
+/// To write, opens the file at the path, or makes it. To read, opens the file that is there with its log, and changes neither. The empty path opens a database in memory.
 pub fn open(rt: &HostRuntime, path: &str, access: Access) -> Result<Place, Refusal>
     ensures path { IfOk result (λ place. string_bytes place.path ≡ path.now) }
-    ensures copied { access ≡ Access.Read → IfOk result (λ place. are_on_disk place.rows ≡ false) }
+    ensures overlaid { access ≡ Access.Read → IfOk result (λ place. are_on_disk place.rows ≡ false) }
 {
     let copy = String::from_str(rt.alloc(), path)?;
     let rows = open_rows(rt, path, access)?;
@@ -103,14 +108,14 @@ pub fn open(rt: &HostRuntime, path: &str, access: Access) -> Result<Place, Refus
 
 fn open_rows(rt: &HostRuntime, path: &str, access: Access) -> Result<Rows, Refusal>
     ensures seat { IfOk result (λ rows. are_in_file rows ≡ names_a_file path.now) }
-    ensures copied { access ≡ Access.Read → IfOk result (λ rows. are_on_disk rows ≡ false) }
+    ensures overlaid { access ≡ Access.Read → IfOk result (λ rows. are_on_disk rows ≡ false) }
 {
     if path.is_empty() {
         return Ok(Rows::Memory(open_memory(rt.alloc())?));
     }
     match access {
         Access::Write => Ok(Rows::File(open_file(rt, path)?)),
-        Access::Read => Ok(Rows::Copied(open_copy(rt, path)?)),
+        Access::Read => Ok(Rows::Overlaid(open_overlay(rt, path)?)),
     }
 }
 
@@ -126,20 +131,63 @@ fn open_file(rt: &HostRuntime, path: &str) -> Result<Box<Database<FileStore<File
     Database::over(rt.alloc(), connection)
 }
 
-fn open_copy(rt: &HostRuntime, path: &str) -> Result<Box<Database<FileStore<Memory>>>, Refusal> {
-    let copies = read_files(rt, path)?;
-    let connection = connect(rt, copies)?;
+fn open_overlay(
+    rt: &HostRuntime,
+    path: &str,
+) -> Result<Box<Database<FileStore<Overlay<File>>>>, Refusal> {
+    expect_file(rt, path)?;
+    let files = sqlite_std_file::open(rt, path, Unknown)?;
+    let mut files = overlay_files(rt.alloc(), files)?;
+    expect_made(rt.alloc(), &mut files)?;
+    let connection = connect(rt, files)?;
     Database::found(rt.alloc(), connection)
 }
 
-/// Copies the file at the path and its log while no other process has them open.
-fn read_files(rt: &HostRuntime, path: &str) -> Result<Files<Memory>, Refusal>
-    ensures log { IfOk result (λ copies. IsTrue (memory_is_usable copies.log)) }
-    ensures db { IfOk result (λ copies. IsTrue (memory_is_usable copies.db)) }
+/// Refuses a file that is empty, or in which a database is half made: the engine would make one.
+fn expect_made<D: Disk>(alloc: Global, files: &mut Files<D>) -> Result<(), Refusal>
+    requires log { IsTrue (D.Disk.is_usable files.old.log) }
+    requires db { IsTrue (D.Disk.is_usable files.old.db) }
+    ensures log { OnlyReads D.Disk files.old.log files.new.log }
+    ensures db { OnlyReads D.Disk files.old.db files.new.db }
 {
-    expect_file(rt, path)?;
-    let mut files = sqlite_std_file::open(rt, path, Unknown)?;
-    copy_files(rt.alloc(), &mut files)
+    let size = PageSize::new(PAGE_BYTES).unwrap();
+    match probe_blank(alloc, files, size, false) {
+        Ok(false) => Ok(()),
+        Ok(true) => Err(Refusal::Fault(SqlFault::NoTables)),
+        Err(sqlite_wal::Error::OutOfMemory) => Err(Refusal::NoMemory),
+        Err(sqlite_wal::Error::Full) => Err(Refusal::Fault(SqlFault::Full)),
+        Err(_) => Err(Refusal::Fault(SqlFault::Io)),
+    }
+}
+
+/// Keeps what is written to a file and its log in memory, and both as they are.
+fn overlay_files<D: Disk + Drop>(
+    alloc: Global,
+    files: Files<D>,
+) -> Result<Files<Overlay<D>>, Refusal>
+    requires log { IsTrue (D.Disk.is_usable files.log) }
+    requires db { IsTrue (D.Disk.is_usable files.db) }
+    ensures log { IfOk result (λ overlaid. IsTrue (⟦<Overlay<D> as Disk>⟧.is_usable overlaid.log)) }
+    ensures db { IfOk result (λ overlaid. IsTrue (⟦<Overlay<D> as Disk>⟧.is_usable overlaid.db)) }
+    ensures log_seen { IfOk result (λ overlaid. ⟦<Overlay<D> as Disk>⟧.seen overlaid.log ≡ D.Disk.seen files.log) }
+    ensures db_seen { IfOk result (λ overlaid. ⟦<Overlay<D> as Disk>⟧.seen overlaid.db ≡ D.Disk.seen files.db) }
+{
+    let Files { log, db } = files;
+    Ok(Files {
+        log: overlay(alloc, log)?,
+        db: overlay(alloc, db)?,
+    })
+}
+
+fn overlay<D: Disk + Drop>(alloc: Global, file: D) -> Result<Overlay<D>, Refusal>
+    requires { IsTrue (D.Disk.is_usable file) }
+    ensures usable { IfOk result (λ overlaid. IsTrue (⟦<Overlay<D> as Disk>⟧.is_usable overlaid)) }
+    ensures seen { IfOk result (λ overlaid. ⟦<Overlay<D> as Disk>⟧.seen overlaid ≡ D.Disk.seen file) }
+{
+    match Overlay::new(alloc, file) {
+        Ok(overlaid) => Ok(overlaid),
+        Err(_) => Err(Refusal::Fault(SqlFault::Io)),
+    }
 }
 
 /// Refuses a path at which no file is.

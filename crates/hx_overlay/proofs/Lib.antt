@@ -1,0 +1,4 @@
+mod ByteByByte
+mod ChangedBy
+mod PartRead
+mod Passing

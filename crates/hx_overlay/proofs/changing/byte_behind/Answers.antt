@@ -1,0 +1,18 @@
+use Rattle.std.proofs.Common.{◌≡◌, ℕ, List, length, slice_index, take, ap, sym, ◌∙◌, arith}
+use Rattle.std.proofs.lemmas.List.{take_all}
+use Rattle.hx_overlay.specs.Changes.{changed, changed_by}
+use Rattle.hx_overlay.proofs.ChangedBy.{changed_by-more}
+use Rattle.hx_overlay.proofs.changing.byte_behind.Goals as goal
+
+pub loop-change-preserved : goal.loop-change-preserved
+loop-change-preserved c file was =
+    let changes = c.args.changes.now in
+    let i = c.loop-change.change-index in
+    c.byte-byte.ensures (changed_by (take i changes) file) (c.loop-change.invariant file was)
+    ∙ sym (ap (λ (new : List ℕ). slice_index new c.args.place) (changed_by-more changes i c.change-item.result file c.loop-change-test.true
+    ∙ ap (λ change. changed change (changed_by (take i changes) file)) (sym c.change-item.is)))
+
+pub returns : goal.returns
+returns c file was =
+    c.loop-change.invariant file was
+    ∙ ap (λ done. slice_index (changed_by done file) c.args.place) (take_all c.loop-change.change-index c.args.changes.now c.loop-change-test.false)
