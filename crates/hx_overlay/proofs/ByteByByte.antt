@@ -1,5 +1,5 @@
 -- What a change leaves of a file, byte by byte.
-use Rattle.std.proofs.Common.{refl, ◌≡◌, ◌<◌, ◌≤◌, ◌⊎◌, ◌+◌, ◌-◌, ◌∙◌, ℕ, List, ◌++◌, length, max, take, drop, replicate, slice_index, inl, inr, ap, sym, arith, length-append, length-drop, get_or-take, get_or-drop}
+use Rattle.std.proofs.Common.{refl, ◌≡◌, ◌<◌, ◌≤◌, ◌+◌, ◌-◌, ◌∙◌, ℕ, List, ◌++◌, length, max, drop, replicate, slice_index, inl, inr, ap, sym, arith, length-append, length-drop, get_or-take, get_or-drop}
 use Rattle.std.proofs.lemmas.Bool.{cases_lt}
 use Rattle.std.proofs.lemmas.List.{get_or_append_left, get_or-append_right, get_or_past, get_or-replicate, length-replicate}
 use Rattle.sqlite_disk.specs.Events.{overlaid, padded}

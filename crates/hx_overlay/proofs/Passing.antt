@@ -1,5 +1,5 @@
 -- A call that is passed on to a file, of which nothing was changed there.
-use Rattle.std.proofs.Common.{◌≡◌, ◌⊎◌, ◌+◌, ◌<◌, ◌≤◌, ◌∙◌, ℕ, List, length, take, drop, Result, Ok, Err, OnOk, OnErr, is_ok, false, true, refl, inl, inr, ap, sym, subst, arith, rules}
+use Rattle.std.proofs.Common.{◌≡◌, ◌⊎◌, ◌+◌, ◌<◌, ◌∙◌, ℕ, List, length, take, drop, Result, Ok, Err, OnOk, OnErr, is_ok, ap, sym, subst, arith, rules}
 use Rattle.std.proofs.lemmas.Bool.{false≢true}
 use Rattle.sqlite_disk.specs.Digest.{digest, Collide}
 use Rattle.sqlite_disk.specs.Disk.{Holds, Torn, Cut, CountsFaultIf}

@@ -1,4 +1,4 @@
-use Rattle.std.proofs.Common.{◌≡◌, ℕ, List, length, slice_index, take, ap, sym, ◌∙◌, arith}
+use Rattle.std.proofs.Common.{ℕ, List, slice_index, take, ap, sym, ◌∙◌}
 use Rattle.std.proofs.lemmas.List.{take_all}
 use Rattle.hx_overlay.specs.Changes.{changed, changed_by}
 use Rattle.hx_overlay.proofs.ChangedBy.{changed_by-more}

@@ -1,8 +1,7 @@
-use Rattle.std.proofs.Common.{◌≡◌, ◌≢◌, ◌+◌, ◌<◌, ◌≤◌, ◌∙◌, ℕ, List, length, slice_index, inl, inr, sym, ap, arith, get_or-set_other, get_or-set_same}
+use Rattle.std.proofs.Common.{◌≡◌, ◌≢◌, ◌+◌, ◌<◌, ◌∙◌, length, slice_index, inl, inr, sym, arith, get_or-set_other, get_or-set_same}
 use Rattle.std.proofs.lemmas.Bool.{cases_lt}
 use Rattle.std.proofs.lemmas.List.{get_or_past}
 use borrow.Author.Count.{below_more}
-use Rattle.hx_overlay.specs.Changes.{HasOf, changed_by}
 use Rattle.hx_overlay.proofs.changing.change_range.Goals as goal
 
 pub loop-i-preserved : goal.loop-i-preserved

@@ -1,4 +1,4 @@
-use Rattle.std.proofs.Common.{◌≡◌, ◌∙◌, ℕ, List, ap}
+use Rattle.std.proofs.Common.{◌∙◌, ap}
 use Rattle.sqlite_disk.specs.Events.{overlaid}
 use Rattle.hx_overlay.specs.Changes.{changed_by}
 use Rattle.hx_overlay.specs.declared.change.Change.TheVariants.{Written}

@@ -1,4 +1,4 @@
-use Rattle.std.proofs.Common.{◌≡◌, ◌<◌, ◌≤◌, ◌-◌, ℕ, length, drop, arith, rules}
+use Rattle.std.proofs.Common.{◌≡◌, ◌-◌, length, drop, arith, rules}
 use Rattle.std.proofs.lemmas.List.{places}
 use Rattle.hx_overlay.proofs.PartRead.{part_read}
 use Rattle.hx_overlay.proofs.changing.read_within.Goals as goal

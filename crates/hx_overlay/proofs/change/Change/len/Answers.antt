@@ -1,4 +1,4 @@
-use Rattle.std.proofs.Common.{◌∙◌, sym, arith}
+use Rattle.std.proofs.Common.{sym, arith}
 use Rattle.sqlite_disk.proofs.EventLemmas.{length-padded}
 use Rattle.hx_overlay.proofs.ByteByByte.{length-overlaid}
 use Rattle.hx_overlay.proofs.change.Change.len.Goals as goal

@@ -1,5 +1,4 @@
-use Rattle.std.proofs.Common.{◌≡◌, ◌≤◌, ◌+◌, length, sym, arith}
-use Rattle.hx_overlay.specs.Changes.{IsKeptBelow, changed_by}
+use Rattle.std.proofs.Common.{◌≡◌, ◌+◌, length, arith}
 use Rattle.hx_overlay.proofs.ChangedBy.{kept_below}
 use Rattle.hx_overlay.proofs.overlay.Overlay.is_unchanged.Goals as goal
 

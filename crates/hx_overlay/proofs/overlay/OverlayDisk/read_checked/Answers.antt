@@ -1,5 +1,5 @@
-use Rattle.std.proofs.Common.{◌≡◌, ◌<◌, ◌≤◌, ◌+◌, length, IsTrue, refl, arith}
-use Rattle.hx_overlay.specs.Changes.{IsKeptBelow, changed_by}
+use Rattle.std.proofs.Common.{length, refl}
+use Rattle.hx_overlay.specs.Changes.{changed_by}
 use Rattle.hx_overlay.proofs.Passing.{counted_on, detected_on, tested_on, wanted_on}
 use Rattle.hx_overlay.proofs.overlay.OverlayDisk.read_checked.Goals as goal
 

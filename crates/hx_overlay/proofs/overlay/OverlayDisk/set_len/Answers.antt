@@ -1,4 +1,4 @@
-use Rattle.std.proofs.Common.{◌≡◌, List, ℕ, refl, sym, subst}
+use Rattle.std.proofs.Common.{refl, sym, subst}
 use Rattle.sqlite_disk.specs.Disk.{Cut}
 use Rattle.hx_overlay.specs.Changes.{changed_by}
 use Rattle.hx_overlay.proofs.Passing.{cut_on, length_on}

@@ -1,4 +1,4 @@
-use Rattle.std.proofs.Common.{List, ℕ, length, refl, sym, subst}
+use Rattle.std.proofs.Common.{length, refl, sym, subst}
 use Rattle.sqlite_disk.specs.Disk.{Torn}
 use Rattle.hx_overlay.specs.Changes.{changed_by}
 use Rattle.hx_overlay.proofs.Passing.{torn_on, written_on}
