@@ -1,17 +1,7 @@
-pub mod Counting
 pub mod Sameness
-pub mod Homes
-pub mod Planting
-pub mod Owners
-pub mod Apart
-pub mod NameCounts
-pub mod Staging
-pub mod Loading
-pub mod Seen
 pub mod Refusing
 pub mod Reviewing
 pub mod Ruling
-pub mod Owned
 pub mod Ruled
 pub mod Families
 pub mod Removing

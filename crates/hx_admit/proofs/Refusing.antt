@@ -34,15 +34,15 @@ use Rattle.hx_model.specs.declared.refusal.Refusal.TheVariants as of
 use Rattle.hx_model.specs.declared.rule.Rule.TheVariants.{L1, L2, L3, L4}
 use Rattle.hx_model.proofs.Objects.{sum-put, sum-cut, ascends-put, ascends-cut}
 use Rattle.hx_model.proofs.Storing.{All-found}
-use Rattle.hx_admit.specs.Counting.{counts_of}
+use Rattle.hx_state.specs.Counting.{counts_of}
 use Rattle.hx_admit.specs.Inside.{IsReplacement, IsDeletion, place_refusals, growth_refusals, objects_with}
 use Rattle.hx_admit.specs.Limiting.{count_denials, growth_denials, rises_over}
 use Rattle.hx_model.specs.Denials.{refusal_by}
 use Rattle.hx_admit.specs.Refusing.{fault_in}
 use Rattle.hx_model.specs.declared.denial.Denial.{Denial}
 use Rattle.hx_model.specs.declared.denial.Denial.TheVariants.{Broken}
-use Rattle.hx_admit.specs.declared.limits.LimitCounts.{LimitCounts}
-use Rattle.hx_admit.proofs.Counting.{small_legal}
+use Rattle.hx_state.specs.declared.limits.LimitCounts.{LimitCounts}
+use Rattle.hx_state.proofs.Counting.{small_legal}
 use Rattle.hx_admit.proofs.Sameness.{same_object_is, differs}
 
 -- ---- the order of the refusals

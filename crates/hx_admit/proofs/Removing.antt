@@ -34,9 +34,9 @@ use Rattle.hx_model.proofs.Objects.{id_total, is_same_id, same_from_Equal, ascen
 use Rattle.hx_model.proofs.Planting.{namespace_is_homed}
 use Rattle.hx_admit.specs.Inside.{IsDeletion}
 use Rattle.hx_admit.specs.Removing.{ended_at, ended_found}
-use Rattle.hx_admit.proofs.Counting.{valid_served}
+use Rattle.hx_state.proofs.Counting.{valid_served}
 use Rattle.hx_admit.proofs.Reviewing.{may_none}
-use Rattle.hx_admit.proofs.Staging.{alone_distinct, alone_apart, alone_naming}
+use Rattle.hx_state.proofs.Alone.{alone_distinct, alone_apart, alone_naming}
 
 -- ---- each namespace is found
 

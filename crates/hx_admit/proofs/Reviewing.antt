@@ -1,6 +1,8 @@
 -- What a review promises, by how it ends.
 --     refused_by         what stands against an ask
 --     passed_on          an error that `?` passes on
+--     served_found       what is found is served
+--     listed_legal       what is listed is legal
 --     passes_get, passes_list, passes_unchanged    asks that write nothing
 --     may_none, may_one  no write, and one, may be made
 --     served_replacement     what a PUT gives is served
@@ -9,7 +11,7 @@
 --     may_put, may_replace      an object with the next version, and that of a PUT, may be put
 --     passes_create, passes_replace     asks of one write
 --     passes_delete      a DELETE
-use Rattle.std.proofs.Common.{◌≡◌, ◌<◌, ◌+◌, true≢false, ℕ, Bool, true, false, List, [], ◌∷◌, None, Some, Option, refl, sym, ap, subst, ◌∙◌, inl, inr, ◌⊎◌, nat_lt, le-ltb, arith}
+use Rattle.std.proofs.Common.{◌≡◌, ◌<◌, ◌+◌, true≢false, ℕ, Bool, true, false, cond, filter, List, [], ◌∷◌, None, Some, Option, refl, sym, ap, subst, ◌∙◌, inl, inr, ◌⊎◌, nat_lt, le-ltb, arith}
 use Rattle.std.specs.List.{AllByRecursion, IsDistinct}
 use Rattle.std.proofs.lemmas.Bool.{not-true}
 use Rattle.std.specs.Prelude.{Result, Ok, Err, IfErr, IsErrAnd}
@@ -20,11 +22,13 @@ use Rattle.hx_object.specs.declared.object.Id.{Id}
 use Rattle.hx_object.specs.declared.object.Object.{Object}
 use Rattle.hx_object.specs.declared.object.Payload.{Payload}
 use Rattle.hx_object.specs.declared.object.Payload.TheVariants.{Namespace as NamespaceOf, Hierarchy, Anchor, Quota}
-use Rattle.hx_model.specs.Answers.{refusal_of, writes_of, success, answer_found, selected, same_object, with_status, replaced_by}
+use Rattle.hx_model.specs.Answers.{refusal_of, writes_of, success, answer_found, is_listed, selected, same_object, with_status, replaced_by}
 use Rattle.hx_model.specs.Limits.{is_namespace, bytes_in, greatest_version}
 use Rattle.hx_model.specs.Serving.{IsServed, IsKept, IsLegalAnswer, is_given, is_kept, is_typed}
-use Rattle.hx_model.specs.State.{State, object_at, has_home, with_version, state_after}
+use Rattle.hx_model.specs.State.{State, Objects, object_at, has_home, with_version, state_after}
 use Rattle.hx_model.specs.Tree.{is_terminating}
+use Rattle.hx_model.specs.Valid.{IsStored, IsValid}
+use Rattle.hx_select.specs.Selectors.{selects}
 use Rattle.hx_select.specs.declared.selector.Selector.{Selector}
 use Rattle.hx_model.specs.declared.ask.Ask.{Ask}
 use Rattle.hx_model.specs.declared.ask.Ask.TheVariants.{Get, List as ListOf, Create, Replace, Delete}
@@ -43,11 +47,11 @@ use Rattle.hx_model.specs.Denials.{refusal_by}
 use Rattle.hx_admit.specs.Reviewing.{Passes}
 use Rattle.hx_model.specs.Writes.{MayPut, MayWrite, MayWriteAll, HasPlace, id_written}
 use Rattle.hx_model.specs.declared.denial.Denial.{Denial}
-use Rattle.hx_admit.proofs.Counting.{valid_served}
+use Rattle.hx_state.proofs.Counting.{valid_served}
 use Rattle.hx_admit.proofs.Refusing.{replace_unchanged}
 use Rattle.hx_admit.proofs.Ruled.{same_annotation}
 use Rattle.hx_admit.proofs.Sameness.{differs}
-use Rattle.hx_admit.proofs.Staging.{alone_distinct, alone_apart, alone_naming}
+use Rattle.hx_state.proofs.Alone.{alone_distinct, alone_apart, alone_naming}
 use Rattle.hx_model.proofs.Objects.{object_at-put_itself}
 
 -- ---- refusals
@@ -60,6 +64,25 @@ refused_by s ask id denial refusal e (inr is) = inl is
 pub passed_on : {A E : Type 0} (P : E → Type 0) (result : Result A E) (error : E) → IsErrAnd result (λ found. found ≡ error) → P error → IfErr result P
 passed_on P (Ok x) error is p = tt
 passed_on P (Err found) error is p = subst P (sym is) p
+
+-- ---- what is found, and what is listed
+
+-- what is found is served
+pub served_found : (s : State) (id : Id) (x : Object) → IsValid s → object_at s.objects id ≡ Some x → IsServed x
+served_found s id x valid there = (All-found (IsStored s.last) id x s.objects valid.stored there).served
+
+all_legal : (objects : Objects) → AllByRecursion IsServed objects → AllByRecursion IsLegal objects
+all_legal [] all = tt
+all_legal (x ∷ objects) all = (all.0.legal, all_legal objects all.1)
+
+-- those of legal objects that pass a test
+legal_among : (p : Object → Bool) (xs : Objects) → AllByRecursion IsLegal xs → AllByRecursion IsLegal (filter p xs)
+legal_among p [] all = tt
+legal_among p (x ∷ xs) all = elim (p x) as (λ b. AllByRecursion IsLegal (cond b (x ∷ filter p xs) (filter p xs))) [ true ↦ (all.0, legal_among p xs all.1) | false ↦ legal_among p xs all.1 ]
+
+-- what is listed is legal
+pub listed_legal : (s : State) → IsValid s → (kind : Kind) (ns : Option (List ℕ)) (selector : Selector) → AllByRecursion IsLegal (selected kind ns selector s.objects)
+listed_legal s valid kind ns selector = legal_among (λ (x : Object). selects selector x.labels) _ (legal_among (is_listed kind ns) s.objects (all_legal s.objects (valid_served s valid)))
 
 -- ---- asks that write nothing
 

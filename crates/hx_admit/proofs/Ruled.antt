@@ -39,11 +39,12 @@ use Rattle.hx_object.proofs.KindTests.{namespace_kind}
 use Rattle.hx_model.specs.declared.rule.Rule.TheVariants.{X1, N4, O1, N1, N2, N3, A1, A2, A3, A4, H1, H2, H3, H4, H5, H6, H8, O2, O3}
 use Rattle.hx_model.proofs.Planting.{hierarchy_kind, node_of-objects, there-objects}
 use Rattle.hx_model.proofs.Objects.{found_id}
-use Rattle.hx_admit.specs.Inside.{IsHomeOf, IsConfigFor, IsConflictFor}
+use Rattle.hx_state.specs.Homes.{IsHomeOf}
+use Rattle.hx_admit.specs.Inside.{IsConfigFor, IsConflictFor}
 use Rattle.hx_admit.specs.Families.{IsFamilyFor}
 use Rattle.hx_admit.specs.Ruling.{IsAtHome, family_in}
 use Rattle.hx_admit.specs.declared.case.Family as kin
-use Rattle.hx_admit.proofs.Owned.{same_there, same_owner, same_after, same_parent}
+use Rattle.hx_state.proofs.Owned.{same_there, same_owner, same_after, same_parent}
 use Rattle.hx_model.specs.Tree.{parent_with}
 use Rattle.hx_model.specs.declared.config.RunConfig.{RunConfig}
 

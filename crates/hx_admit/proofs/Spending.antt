@@ -1,24 +1,19 @@
 -- What quotas refuse, as code finds it.
 --     unrefused       no quota refuses a write that raises no charge and brings no Pod that asks for something else
---     used_seen       what is used is the sum over all objects of the subtree
 --     over_sides      a sum passes a limit where it did before, or where the rest is too small for the rise
-use Rattle.std.proofs.Common.{◌≡◌, ◌+◌, ◌-◌, ℕ, Bool, true, false, ◌&&◌, ◌||◌, nat_lt, List, [], ◌∷◌, None, Some, Option, refl, ap, ◌∙◌, inl, inr, ◌⊎◌, sum_by, arith, true≢false}
+use Rattle.std.proofs.Common.{◌≡◌, ◌+◌, ◌-◌, ℕ, Bool, true, false, ◌&&◌, ◌||◌, nat_lt, List, [], ◌∷◌, None, Some, Option, refl, ap, ◌∙◌, inl, inr, ◌⊎◌, arith, true≢false}
 use Rattle.std.proofs.lemmas.Bool.{ltb-true, lt-ltb, le-ltb}
 use Rattle.hx_object.specs.declared.object.Limit.{Limit}
 use Rattle.hx_object.specs.declared.object.Object.{Object}
 use Rattle.hx_model.specs.Charges.{hard_of, resource_named, charge_of}
 use Rattle.hx_model.specs.First.{so, or_else, first_of}
-use Rattle.hx_model.specs.Forest.{Forest}
-use Rattle.hx_model.specs.Quotas.{quotas_for, charge_below, used, charge_before, rise_of, asks_anew, is_lacking, over_limit, over_quota, first_over, refused_by_quotas}
-use Rattle.hx_model.specs.State.{State, Objects}
-use Rattle.hx_model.specs.Tree.{forest_in, forest_of}
-use Rattle.hx_model.specs.declared.config.RunConfig.{RunConfig}
+use Rattle.hx_model.specs.Quotas.{quotas_for, charge_before, rise_of, asks_anew, is_lacking, over_limit, over_quota, first_over, refused_by_quotas}
+use Rattle.hx_model.specs.State.{State}
 use Rattle.hx_model.specs.declared.refusal.Refusal.TheVariants.{Broken}
 use Rattle.hx_model.specs.declared.resource.Resource.{Resource}
 use Rattle.hx_model.specs.declared.rule.Rule.TheVariants.{Q2}
 use Rattle.hx_model.proofs.Charging.{uncharged}
 use Rattle.hx_admit.specs.Spending.{raises, may_refuse}
-use Rattle.hx_admit.specs.StateView.{state_in}
 
 -- ---- writes that no quota refuses
 
@@ -58,18 +53,6 @@ unrefused s old x quiet =
     let none : raises old x ≡ false = right (asks_anew old x) (raises old x) quiet in
     ap (λ b. or_else (so (b && is_lacking x (quotas_for s x.id.ns)) (Broken Q2)) (first_over s old x (quotas_for s x.id.ns))) eligible
     ∙ first_of_none (over_quota s old x) (λ q. first_of_none (over_limit s old x q) (within s old x q none) (hard_of q.payload)) (quotas_for s x.id.ns)
-
--- ---- what is used
-
-used_in : (s : State) (a : List ℕ) (r : Resource) → sum_by (charge_below (forest_of s) a r) s.objects ≡ used s a r
-unfolding used
-used_in s a r = refl
-
--- it is what all objects of the subtree are charged
-pub used_seen : (config : RunConfig) (objects : Objects) (last : ℕ) (s : State) (nodes : Forest) (a : List ℕ) (r : Resource) → state_in config objects last ≡ s → nodes ≡ forest_in config.excluded objects
-    → sum_by (charge_below nodes a r) objects ≡ used s a r
-used_seen config objects last s nodes a r same planted =
-    ap (λ f. sum_by (charge_below f a r) objects) planted ∙ used_in (state_in config objects last) a r ∙ ap (λ (t : State). used t a r) same
 
 -- ---- what passes a limit
 

@@ -1,6 +1,5 @@
 -- What the parts of a review promise one another.
 --     IsRefusal          why an ask is refused
---     IsHomeOf           the parent that the annotation of a HierarchyConfiguration's namespace names, where that is there. The rules look at no other object's
 --     IsConfigFor        the HNCConfiguration that is stored, where a copy is removed. The rules look at it nowhere else
 --     IsConflictFor      whether a write makes a conflict. The rules look at it where they aren't skipped, for a HierarchyConfiguration that closes no cycle, an HNCConfiguration, and an object that can be copied
 --     AreFindings        what is read of a write before the rules
@@ -11,7 +10,7 @@
 --     place_refusals     the refusals of a POST by its place
 --     growth_refusals    the refusals by the sum of sizes and by the versions
 --     objects_with       the objects once one stands in the place of another
-use Rattle.std.specs.Prelude.{◌≡◌, ◌⊎◌, ◌+◌, ◌<◌, ℕ, Bool, true, false, nat_le, is_some, List, [], ◌∷◌, Option, Some, None, IfSome, option_map}
+use Rattle.std.specs.Prelude.{◌≡◌, ◌⊎◌, ◌+◌, ◌<◌, ℕ, Bool, true, false, nat_le, is_some, List, [], ◌∷◌, Option, Some, None, IfSome}
 use Rattle.hx_object.specs.Kinds.{can_be_copied}
 use Rattle.hx_object.specs.declared.kind.Kind.TheVariants.{Namespace, HncConfiguration}
 use Rattle.hx_object.specs.declared.object.Id.{Id}
@@ -24,9 +23,8 @@ use Rattle.hx_model.specs.Limits.{is_hierarchy, is_copy, greatest_version}
 use Rattle.hx_model.specs.Modes.{config_id}
 use Rattle.hx_model.specs.RulesCopies.{misuses_exceptions}
 use Rattle.hx_model.specs.RulesHierarchy.{closes_cycle}
-use Rattle.hx_model.specs.State.{State, Objects, object_at, put, cut, with_version, has_home, home_in}
+use Rattle.hx_model.specs.State.{State, Objects, object_at, put, cut, with_version, has_home}
 use Rattle.hx_model.specs.Serving.{IsServed}
-use Rattle.hx_model.specs.Tree.{subnamespace_parent}
 use Rattle.hx_model.specs.Valid.{IsValid}
 use Rattle.hx_model.specs.declared.ask.Ask.{Ask}
 use Rattle.hx_model.specs.declared.ask.Ask.TheVariants.{Create, Replace, Delete}
@@ -40,10 +38,6 @@ use Rattle.hx_admit.specs.declared.findings.Findings.{Findings}
 -- no memory was left, or this refuses the ask
 abbrev pub IsRefusal : State → Ask → Refusal → Type 0
 IsRefusal s ask refusal = (refusal ≡ NoMemory) ⊎ (refusal_of s ask ≡ Some refusal)
-
--- the parent that the annotation of a HierarchyConfiguration's namespace names, where that is there
-abbrev pub IsHomeOf : State → Id → Option (Option (List ℕ)) → Type 0
-IsHomeOf s id owner = is_hierarchy id.kind ≡ true → owner ≡ option_map subnamespace_parent (home_in s.objects id)
 
 -- the HNCConfiguration that is stored, where a copy is removed
 abbrev pub IsConfigFor : State → Option Object → Option Object → Option Object → Type 0

@@ -8,7 +8,7 @@ use Rattle.hx_model.specs.Limits.{part_of, counted_size, most_names, most_object
 use Rattle.hx_model.specs.declared.rule.Rule.TheVariants.{L1, L2, L3, L4}
 use Rattle.hx_model.specs.declared.denial.Denial.{Denial}
 use Rattle.hx_model.specs.declared.denial.Denial.TheVariants.{Broken}
-use Rattle.hx_admit.specs.declared.limits.LimitCounts.{LimitCounts}
+use Rattle.hx_state.specs.declared.limits.LimitCounts.{LimitCounts}
 
 -- where more come than go, and what stays leaves no room for them
 abbrev pub rises_over : ℕ → ℕ → ℕ → Bool

@@ -1,14 +1,12 @@
 // What the rules look at.
-ghost use Rattle.std.specs.Prelude.{◌≡◌, option_copied, option_and_then};
+ghost use Rattle.std.specs.Prelude.{◌≡◌};
 ghost use Rattle.hx_model.specs.Cases.{is_write, subject_of};
-ghost use Rattle.hx_model.specs.First.{or_else};
-ghost use Rattle.hx_model.specs.Tree.{named_parent};
 ghost use Rattle.hx_admit.specs.Ruling.{case_of};
 
-use crate::tree::given_parent;
 use hx_forest::Forest;
 use hx_model::RunConfig;
 use hx_object::{Id, Object, Text};
+use hx_state::Home;
 
 /// What the rules look at: a write or a removal, and where it is made.
 #[derive(Drop)]
@@ -51,25 +49,6 @@ impl<'a> Case<'a> {
             &self.id.name
         } else {
             &self.id.ns
-        }
-    }
-}
-
-/// All that the rules on HierarchyConfigurations look at of a namespace.
-#[derive(Clone, Copy)]
-pub struct Home<'a> {
-    /// The parent that its annotation names.
-    pub owner: Option<&'a Text>,
-}
-
-impl<'a> Home<'a> {
-    /// The parent of the namespace, whose HierarchyConfiguration this is, or which has none.
-    pub fn parent_with(self, hierarchy: Option<&'a Object>) -> Option<&'a Text>
-        ensures { option_copied result ≡ or_else (option_copied self.entry.owner) (option_and_then named_parent (option_copied hierarchy.entry)) }
-    {
-        match self.owner {
-            Some(owner) => Some(owner),
-            None => given_parent(hierarchy),
         }
     }
 }

@@ -11,134 +11,129 @@ ghost use Rattle.hx_model.specs.Tree.{forest_of};
 ghost use Rattle.hx_admit.specs.Families.{IsFamilyFor, allows_cascade_in};
 
 use crate::case::Family;
-use crate::indexed_state::IndexedState;
-use crate::plan::object_in;
 use hx_forest::Ancestors;
 use hx_model::{allows_cascade, subnamespace_parent};
 use hx_object::well_known::HIERARCHY;
 use hx_object::{Id, Kind, Object, Text};
+use hx_state::{IndexedState, object_in};
 
-impl IndexedState {
-    /// What a rule looks at of the namespace that has a name, where one does.
-    pub(crate) fn family_for(&self, id: &Id, new: Option<&Object>, skip: bool) -> Family<'_>
-        ensures { IsFamilyFor self.now.state id.now (option_copied new.entry) skip result }
-    {
-        let removes = new.is_none();
-        if id.kind.is_namespace() && removes {
-            return self.removed_family(&id.name);
+/// What a rule looks at of the namespace that has a name, where one does.
+pub(crate) fn family_for<'a>(
+    state: &'a IndexedState,
+    id: &Id,
+    new: Option<&Object>,
+    skip: bool,
+) -> Family<'a>
+    ensures { IsFamilyFor state.now.state id.now (option_copied new.entry) skip result }
+{
+    let removes = new.is_none();
+    if id.kind.is_namespace() && removes {
+        return removed_family(state, &id.name);
+    }
+    if is_anchor(id.kind) && !skip {
+        return asked_family(state, &id.name, removes);
+    }
+    unasked_family()
+}
+
+/// Where a namespace is removed.
+fn removed_family<'a>(state: &'a IndexedState, name: &Text) -> Family<'a>
+    ensures anchored { result.anchored ≡ (family_of state.now.state name.now).anchored }
+    ensures followers { (result.has_followers && not result.cascades) ≡ (has_followers state.now.state name.now && not (cascades state.now.state name.now)) }
+{
+    let has_followers = has_followers(state, name);
+    Family {
+        named: None,
+        anchored: is_any_anchored(state, state.named(name)),
+        has_children: false,
+        has_followers,
+        cascades: has_followers && cascades(state, name),
+    }
+}
+
+/// Where an anchor is written or removed.
+fn asked_family<'a>(state: &'a IndexedState, name: &Text, removes: bool) -> Family<'a>
+    ensures named { option_copied result.named ≡ object_at state.now.state.objects (namespace_id name.now) }
+    ensures children { removes ≡ true → (result.has_children && not result.cascades) ≡ (has_children (forest_of state.now.state) name.now && not (cascades state.now.state name.now)) }
+{
+    let has_children = removes && has_children(state, name);
+    Family {
+        named: state.named(name),
+        anchored: false,
+        has_children,
+        has_followers: false,
+        cascades: has_children && cascades(state, name),
+    }
+}
+
+/// Whether there is a namespace, and the parent that its annotation names holds an anchor of its name.
+fn is_any_anchored(state: &IndexedState, namespace: Option<&Object>) -> bool
+    ensures { result ≡ any_of (is_anchored state.now.state.objects) (option_copied namespace.entry) }
+{
+    match namespace {
+        Some(namespace) => is_anchored(state, namespace),
+        None => false,
+    }
+}
+
+fn is_anchored(state: &IndexedState, namespace: &Object) -> bool
+    ensures { result ≡ is_anchored state.now.state.objects namespace.now }
+{
+    match subnamespace_parent(namespace) {
+        Some(parent) => {
+            let name = namespace.id.name.as_str();
+            let anchor = state
+                .store()
+                .find(Kind::SubnamespaceAnchor, parent.as_str(), name);
+            anchor.is_some()
         }
-        if is_anchor(id.kind) && !skip {
-            return self.asked_family(&id.name, removes);
-        }
-        unasked_family()
+        None => false,
     }
+}
 
-    /// Where a namespace is removed.
-    fn removed_family(&self, name: &Text) -> Family<'_>
-        ensures anchored { result.anchored ≡ (family_of self.now.state name.now).anchored }
-        ensures followers { (result.has_followers && not result.cascades) ≡ (has_followers self.now.state name.now && not (cascades self.now.state name.now)) }
-    {
-        let has_followers = self.has_followers(name);
-        Family {
-            named: None,
-            anchored: self.is_any_anchored(self.named(name)),
-            has_children: false,
-            has_followers,
-            cascades: has_followers && self.cascades(name),
-        }
-    }
+/// Whether some namespace names this one as its parent.
+fn has_children(state: &IndexedState, name: &Text) -> bool
+    ensures { result ≡ has_children (forest_of state.now.state) name.now }
+{
+    !state.forest().children(name).is_empty()
+}
 
-    /// Where an anchor is written or removed.
-    fn asked_family(&self, name: &Text, removes: bool) -> Family<'_>
-        ensures named { option_copied result.named ≡ object_at self.now.state.objects (namespace_id name.now) }
-        ensures children { removes ≡ true → (result.has_children && not result.cascades) ≡ (has_children (forest_of self.now.state) name.now && not (cascades self.now.state name.now)) }
-    {
-        let has_children = removes && self.has_children(name);
-        Family {
-            named: self.named(name),
-            anchored: false,
-            has_children,
-            has_followers: false,
-            cascades: has_children && self.cascades(name),
-        }
-    }
+/// Whether others go with a namespace: some other one has an annotation that names it.
+fn has_followers(state: &IndexedState, name: &Text) -> bool
+    ensures { result ≡ has_followers state.now.state name.now }
+{
+    state.owners().node(name).is_some() && has_other(state.owners().children(name), name)
+}
 
-    /// The namespace of a name.
-    pub(crate) fn named(&self, name: &Text) -> Option<&Object>
-        ensures { option_copied result ≡ object_at self.now.state.objects (namespace_id name.now) }
-    {
-        object_in(self.store.find(Kind::Namespace, "", name.as_str()))
-    }
+/// Whether a member of the chain of a namespace allows cascading deletion.
+fn cascades(state: &IndexedState, name: &Text) -> bool
+    ensures { result ≡ cascades state.now.state name.now }
+{
+    any_allows(state, state.forest().ancestors(name))
+}
 
-    /// Whether there is a namespace, and the parent that its annotation names holds an anchor of its name.
-    fn is_any_anchored(&self, namespace: Option<&Object>) -> bool
-        ensures { result ≡ any_of (is_anchored self.now.state.objects) (option_copied namespace.entry) }
-    {
-        match namespace {
-            Some(namespace) => self.is_anchored(namespace),
-            None => false,
+/// Whether one of some namespaces allows cascading deletion.
+fn any_allows(state: &IndexedState, members: Ancestors) -> bool
+    ensures { result ≡ list_any (allows_cascade_in state.now.state.objects) members.entry }
+{
+    for member in members {
+        if allows_cascade_in(state, member) {
+            return true;
         }
     }
+    false
+}
 
-    fn is_anchored(&self, namespace: &Object) -> bool
-        ensures { result ≡ is_anchored self.now.state.objects namespace.now }
-    {
-        match subnamespace_parent(namespace) {
-            Some(parent) => {
-                let name = namespace.id.name.as_str();
-                let anchor = self
-                    .store
-                    .find(Kind::SubnamespaceAnchor, parent.as_str(), name);
-                anchor.is_some()
-            }
-            None => false,
-        }
-    }
-
-    /// Whether some namespace names this one as its parent.
-    fn has_children(&self, name: &Text) -> bool
-        ensures { result ≡ has_children (forest_of self.now.state) name.now }
-    {
-        !self.forest.children(name).is_empty()
-    }
-
-    /// Whether others go with a namespace: some other one has an annotation that names it.
-    fn has_followers(&self, name: &Text) -> bool
-        ensures { result ≡ has_followers self.now.state name.now }
-    {
-        self.owners().node(name).is_some() && has_other(self.owners().children(name), name)
-    }
-
-    /// Whether a member of the chain of a namespace allows cascading deletion.
-    fn cascades(&self, name: &Text) -> bool
-        ensures { result ≡ cascades self.now.state name.now }
-    {
-        self.any_allows(self.forest.ancestors(name))
-    }
-
-    /// Whether one of some namespaces allows cascading deletion.
-    fn any_allows(&self, members: Ancestors) -> bool
-        ensures { result ≡ list_any (allows_cascade_in self.now.state.objects) members.entry }
-    {
-        for member in members {
-            if self.allows_cascade(member) {
-                return true;
-            }
-        }
-        false
-    }
-
-    /// Whether the HierarchyConfiguration of a namespace allows cascading deletion.
-    fn allows_cascade(&self, name: &Text) -> bool
-        ensures { result ≡ allows_cascade_in self.now.state.objects name.now }
-    {
-        let found = self
-            .store
-            .find(Kind::HierarchyConfiguration, name.as_str(), HIERARCHY);
-        match object_in(found) {
-            Some(hierarchy) => allows_cascade(&hierarchy.payload),
-            None => false,
-        }
+/// Whether the HierarchyConfiguration of a namespace allows cascading deletion.
+fn allows_cascade_in(state: &IndexedState, name: &Text) -> bool
+    ensures { result ≡ allows_cascade_in state.now.state.objects name.now }
+{
+    let found = state
+        .store()
+        .find(Kind::HierarchyConfiguration, name.as_str(), HIERARCHY);
+    match object_in(found) {
+        Some(hierarchy) => allows_cascade(&hierarchy.payload),
+        None => false,
     }
 }
 

@@ -13,33 +13,32 @@ ghost use Rattle.hx_model.specs.TreeLabels.{prescribed_labels};
 ghost use Rattle.hx_admit.specs.Moves.{open_way, is_later, is_gone_to, CanMove, IsMovedBy};
 
 use crate::conflicts::{goes_to, is_propagated, looks_at_labels};
-use crate::indexed_state::IndexedState;
-use crate::plan::object_in;
 use hx_forest::Forest;
 use hx_model::{COPIED_KINDS, is_same_name, is_source, mode_in};
 use hx_object::well_known::CONFIG;
 use hx_object::{Kind, Mode, NoMemory, Object, Pairs, Shared, Text};
 use hx_reconcile::prescribed_labels;
+use hx_state::{IndexedState, object_in};
 use hx_store::Store;
 use std::alloc::Global;
 
-impl IndexedState {
-    /// Whether a namespace that gets another parent makes a conflict: some source of its subtree lies where a source from above is copied to then, and wasn't before (HNC user guide, "Propagating policies").
-    ///
-    /// It looks at nothing but the subtree, the namespaces above it, and the objects there of kinds that are propagated, and walks none of them where no such kind may have objects. It walks no chain for an object whose name no source of its kind has in another namespace.
-    pub(crate) fn overwrites_by_move(
-        &self,
-        namespace: &Text,
-        parent: Option<&Text>,
-    ) -> Result<bool, NoMemory>
-        requires moves { same_name (parent_of (forest_of self.now.state) namespace.now) (option_copied parent) ≡ false → CanMove (forest_of self.now.state) namespace.now (option_copied parent) }
-        ensures { IfOk result (λ makes. (id : id_of) (new : Option object_of) → IsMovedBy self.now.state namespace.now (option_copied parent.entry) id new → makes ≡ makes_conflict self.now.state (with_written self.now.state id new)) }
-    {
-        if is_same_name(self.forest.parent(namespace), parent) {
-            return Ok(false);
-        }
-        overwrites_below(&self.store, &self.forest, namespace, parent)
+/// Whether a namespace that gets another parent makes a conflict: some source of its subtree lies where a source from above is copied to then, and wasn't before (HNC user guide, "Propagating policies").
+///
+/// It looks at nothing but the subtree, the namespaces above it, and the objects there of kinds that are propagated, and walks none of them where no such kind may have objects. It walks no chain for an object whose name no source of its kind has in another namespace.
+pub(crate) fn overwrites_by_move(
+    state: &IndexedState,
+    namespace: &Text,
+    parent: Option<&Text>,
+) -> Result<bool, NoMemory>
+    requires moves { same_name (parent_of (forest_of state.now.state) namespace.now) (option_copied parent) ≡ false → CanMove (forest_of state.now.state) namespace.now (option_copied parent) }
+    ensures { IfOk result (λ makes. (id : id_of) (new : Option object_of) → IsMovedBy state.now.state namespace.now (option_copied parent.entry) id new → makes ≡ makes_conflict state.now.state (with_written state.now.state id new)) }
+{
+    state.law_of_validity();
+    let forest = state.forest();
+    if is_same_name(forest.parent(namespace), parent) {
+        return Ok(false);
     }
+    overwrites_below(state.store(), forest, namespace, parent)
 }
 
 /// Whether a source in the subtree of a namespace is overwritten once this has another parent, and isn't now.

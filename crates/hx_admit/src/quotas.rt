@@ -6,131 +6,122 @@ ghost use Rattle.hx_model.specs.First.{first_of};
 ghost use Rattle.hx_model.specs.Quotas.{quotas_in, quotas_for, used, rise_of, same_need, keeps_need, asks_anew, is_left_open, is_lacking_in, is_lacking, over_by, over_limit, over_quota, first_over, refused_by, refused_by_quotas};
 ghost use Rattle.hx_admit.specs.Spending.{raises, may_refuse};
 
-use crate::indexed_state::IndexedState;
 use hx_charge::{charge, charge_before, hard_of, is_running, is_unstated, resources_for};
 use hx_forest::Ancestors;
 use hx_model::{Refusal, Resource, Rule};
 use hx_object::{Id, Kind, Limit, NoMemory, Object, Payload, Shared, Text};
+use hx_state::IndexedState;
 
-impl IndexedState {
-    /// Finds why the quotas that hold refuse that `new` is written in the place of `old` (HNC user guide, "Limit resources over parent-child relationships").
-    ///
-    /// A write that raises no charge, and brings no Pod that asks for something else, looks at no quota.
-    pub(crate) fn quota_refusal(
-        &self,
-        old: Option<&Object>,
-        new: &Object,
-    ) -> Result<Option<Refusal>, NoMemory>
-        ensures { IfOk result (λ found. found ≡ refused_by_quotas self.now.state (option_copied old.entry) new.now) }
-    {
-        if !may_refuse(old, new) {
-            return Ok(None);
+/// Finds why the quotas that hold refuse that `new` is written in the place of `old` (HNC user guide, "Limit resources over parent-child relationships").
+///
+/// A write that raises no charge, and brings no Pod that asks for something else, looks at no quota.
+pub(crate) fn quota_refusal(
+    state: &IndexedState,
+    old: Option<&Object>,
+    new: &Object,
+) -> Result<Option<Refusal>, NoMemory>
+    ensures { IfOk result (λ found. found ≡ refused_by_quotas state.now.state (option_copied old.entry) new.now) }
+{
+    if !may_refuse(old, new) {
+        return Ok(None);
+    }
+    let quotas = quotas_for(state, &new.id.ns)?;
+    refused_by(state, old, new, &quotas)
+}
+
+/// The quotas that hold for what lies in a namespace, its own first.
+fn quotas_for(state: &IndexedState, ns: &Text) -> Result<Vec<Shared>, NoMemory>
+    ensures { IfOk result (λ quotas. quotas.items ≡ quotas_for state.now.state ns.now) }
+{
+    if !state.store().may_have(Kind::HierarchicalResourceQuota) {
+        return Ok(Vec::new(state.allocator()));
+    }
+    quotas_of(state, state.forest().ancestors(ns))
+}
+
+/// The quotas of some namespaces.
+fn quotas_of(state: &IndexedState, members: Ancestors) -> Result<Vec<Shared>, NoMemory>
+    ensures { IfOk result (λ quotas. quotas.items ≡ flat_map (quotas_in state.now.state.objects) members.entry) }
+{
+    let mut quotas = Vec::new(state.allocator());
+    for member in members {
+        let mut listed = state
+            .store()
+            .list(Kind::HierarchicalResourceQuota, Some(member))?;
+        quotas.append(&mut listed)?;
+    }
+    Ok(quotas)
+}
+
+/// Finds why some quotas refuse a write.
+fn refused_by(
+    state: &IndexedState,
+    old: Option<&Object>,
+    new: &Object,
+    quotas: &[Shared],
+) -> Result<Option<Refusal>, NoMemory>
+    ensures { IfOk result (λ found. found ≡ refused_by state.now.state (option_copied old.entry) new.now quotas.now) }
+{
+    if asks_anew(old, new) && is_lacking(new, quotas) {
+        return Ok(Some(Refusal::Broken { rule: Rule::Q2 }));
+    }
+    first_over(state, old, new, quotas)
+}
+
+/// The first limit of some quotas that a write passes.
+fn first_over(
+    state: &IndexedState,
+    old: Option<&Object>,
+    new: &Object,
+    quotas: &[Shared],
+) -> Result<Option<Refusal>, NoMemory>
+    ensures { IfOk result (λ found. found ≡ first_over state.now.state (option_copied old.entry) new.now quotas.now) }
+{
+    for quota in quotas {
+        if let Some(refusal) = over_quota(state, old, new, quota.object())? {
+            return Ok(Some(refusal));
         }
-        let quotas = self.quotas_for(&new.id.ns)?;
-        self.refused_by(old, new, &quotas)
     }
+    Ok(None)
+}
 
-    /// The quotas that hold for what lies in a namespace, its own first.
-    fn quotas_for(&self, ns: &Text) -> Result<Vec<Shared>, NoMemory>
-        ensures { IfOk result (λ quotas. quotas.items ≡ quotas_for self.now.state ns.now) }
-    {
-        if !self.store.may_have(Kind::HierarchicalResourceQuota) {
-            return Ok(Vec::new(self.store.allocator()));
+/// The first limit of a quota that a write passes.
+fn over_quota(
+    state: &IndexedState,
+    old: Option<&Object>,
+    new: &Object,
+    quota: &Object,
+) -> Result<Option<Refusal>, NoMemory>
+    ensures { IfOk result (λ found. found ≡ over_quota state.now.state (option_copied old.entry) new.now quota.now) }
+{
+    let hard = hard_of(&quota.payload);
+    for limit in hard {
+        if let Some(refusal) = over_limit(state, old, new, quota, limit)? {
+            return Ok(Some(refusal));
         }
-        self.quotas_of(self.forest.ancestors(ns))
     }
+    Ok(None)
+}
 
-    /// The quotas of some namespaces.
-    fn quotas_of(&self, members: Ancestors) -> Result<Vec<Shared>, NoMemory>
-        ensures { IfOk result (λ quotas. quotas.items ≡ flat_map (quotas_in self.now.state.objects) members.entry) }
-    {
-        let mut quotas = Vec::new(self.store.allocator());
-        for member in members {
-            let mut listed = self
-                .store
-                .list(Kind::HierarchicalResourceQuota, Some(member))?;
-            quotas.append(&mut listed)?;
-        }
-        Ok(quotas)
+/// Whether a write passes a limit of a quota. What is used is summed up only where the charge rises.
+fn over_limit(
+    state: &IndexedState,
+    old: Option<&Object>,
+    new: &Object,
+    quota: &Object,
+    limit: &Limit,
+) -> Result<Option<Refusal>, NoMemory>
+    ensures { IfOk result (λ found. found ≡ over_limit state.now.state (option_copied old.entry) new.now quota.now limit.now) }
+{
+    let Some(resource) = Resource::of_name(limit.resource.as_str()) else {
+        return Ok(None);
+    };
+    let rise = rise_of(old, new, resource);
+    if rise == 0 {
+        return Ok(None);
     }
-
-    /// Finds why some quotas refuse a write.
-    fn refused_by(
-        &self,
-        old: Option<&Object>,
-        new: &Object,
-        quotas: &[Shared],
-    ) -> Result<Option<Refusal>, NoMemory>
-        ensures { IfOk result (λ found. found ≡ refused_by self.now.state (option_copied old.entry) new.now quotas.now) }
-    {
-        if asks_anew(old, new) && is_lacking(new, quotas) {
-            return Ok(Some(Refusal::Broken { rule: Rule::Q2 }));
-        }
-        self.first_over(old, new, quotas)
-    }
-
-    /// The first limit of some quotas that a write passes.
-    fn first_over(
-        &self,
-        old: Option<&Object>,
-        new: &Object,
-        quotas: &[Shared],
-    ) -> Result<Option<Refusal>, NoMemory>
-        ensures { IfOk result (λ found. found ≡ first_over self.now.state (option_copied old.entry) new.now quotas.now) }
-    {
-        for quota in quotas {
-            if let Some(refusal) = self.over_quota(old, new, quota.object())? {
-                return Ok(Some(refusal));
-            }
-        }
-        Ok(None)
-    }
-
-    /// The first limit of a quota that a write passes.
-    fn over_quota(
-        &self,
-        old: Option<&Object>,
-        new: &Object,
-        quota: &Object,
-    ) -> Result<Option<Refusal>, NoMemory>
-        ensures { IfOk result (λ found. found ≡ over_quota self.now.state (option_copied old.entry) new.now quota.now) }
-    {
-        let hard = hard_of(&quota.payload);
-        for limit in hard {
-            if let Some(refusal) = self.over_limit(old, new, quota, limit)? {
-                return Ok(Some(refusal));
-            }
-        }
-        Ok(None)
-    }
-
-    /// Whether a write passes a limit of a quota. What is used is summed up only where the charge rises.
-    fn over_limit(
-        &self,
-        old: Option<&Object>,
-        new: &Object,
-        quota: &Object,
-        limit: &Limit,
-    ) -> Result<Option<Refusal>, NoMemory>
-        ensures { IfOk result (λ found. found ≡ over_limit self.now.state (option_copied old.entry) new.now quota.now limit.now) }
-    {
-        let Some(resource) = Resource::of_name(limit.resource.as_str()) else {
-            return Ok(None);
-        };
-        let rise = rise_of(old, new, resource);
-        if rise == 0 {
-            return Ok(None);
-        }
-        let sum = self.used(&quota.id.ns, resource)?;
-        over_by(sum, rise, &quota.id, limit)
-    }
-
-    /// What all objects of a subtree are charged for a resource, in thousandths. A sum that doesn't fit 128 bits fits no memory, either.
-    fn used(&self, ns: &Text, resource: Resource) -> Result<u128, NoMemory>
-        ensures { IfOk result (λ sum. sum ≡ used self.now.state ns.now resource) }
-    {
-        self.usage.used(&self.store, &self.forest, ns, resource)
-    }
+    let sum = state.used(&quota.id.ns, resource)?;
+    over_by(sum, rise, &quota.id, limit)
 }
 
 /// Whether some quota may refuse a write: a charge rises, or a Pod asks for something else.

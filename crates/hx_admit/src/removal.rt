@@ -7,72 +7,80 @@ ghost use Rattle.hx_model.specs.Valid.{IsValid};
 ghost use Rattle.hx_admit.specs.Removing.{ended_at};
 
 use crate::family::is_anchor;
-use crate::indexed_state::IndexedState;
 use hx_model::{is_owned_by, is_terminating};
 use hx_object::{Id, NoMemory, Object, Payload, Shared, Text};
+use hx_state::IndexedState;
 use hx_store::Change;
 
-impl IndexedState {
-    /// What a DELETE of an object that is there changes. A namespace begins to leave, and all that go with it, unless it does already. An anchor goes at once, and its subnamespace begins to leave.
-    pub(crate) fn removal(&self, id: &Id, old: &Object, skip: bool) -> Result<Vec<Change>, NoMemory>
-        requires valid { IsValid self.now.state }
-        requires there { object_at self.now.state.objects id.now ≡ Some old.now }
-        ensures { IfOk result (λ writes. writes.items ≡ deleting self.now.state id.now skip) }
-    {
-        let mut writes = Vec::new(self.store.allocator());
-        if id.kind.is_namespace() {
-            if !is_terminating(old) {
-                self.push_ending(&mut writes, &id.name)?;
-            }
-            return Ok(writes);
+/// What a DELETE of an object that is there changes. A namespace begins to leave, and all that go with it, unless it does already. An anchor goes at once, and its subnamespace begins to leave.
+pub(crate) fn removal(
+    state: &IndexedState,
+    id: &Id,
+    old: &Object,
+    skip: bool,
+) -> Result<Vec<Change>, NoMemory>
+    requires valid { IsValid state.now.state }
+    requires there { object_at state.now.state.objects id.now ≡ Some old.now }
+    ensures { IfOk result (λ writes. writes.items ≡ deleting state.now.state id.now skip) }
+{
+    let mut writes = Vec::new(state.allocator());
+    if id.kind.is_namespace() {
+        if !is_terminating(old) {
+            push_ending(state, &mut writes, &id.name)?;
         }
-        writes.push(Change::cut(id.clone()?))?;
-        if is_anchor(id.kind) && !skip && self.owns_named(id) {
-            self.push_ending(&mut writes, &id.name)?;
-        }
-        Ok(writes)
+        return Ok(writes);
     }
-
-    /// Whether the namespace that an anchor asks for is there, and is a subnamespace of the anchor's namespace.
-    fn owns_named(&self, id: &Id) -> bool
-        ensures { result ≡ owns_named self.now.state id.now }
-    {
-        match self.named(&id.name) {
-            Some(namespace) => is_owned_by(namespace, &id.ns),
-            None => false,
-        }
+    writes.push(Change::cut(id.clone()?))?;
+    if is_anchor(id.kind) && !skip && owns_named(state, id) {
+        push_ending(state, &mut writes, &id.name)?;
     }
+    Ok(writes)
+}
 
-    /// Adds the writes by which those that go with a namespace begin to leave, in ascending order.
-    fn push_ending(&self, writes: &mut Vec<Change>, name: &Text) -> Result<(), NoMemory>
-        requires { IsValid self.now.state }
-        ensures { OnOk result (writes.new.items ≡ writes.old.items ++ ending self.now.state name.now) }
-    {
-        let members = self.owners().below(name)?;
-        self.push_each_ended(writes, &members)
+/// Whether the namespace that an anchor asks for is there, and is a subnamespace of the anchor's namespace.
+fn owns_named(state: &IndexedState, id: &Id) -> bool
+    ensures { result ≡ owns_named state.now.state id.now }
+{
+    match state.named(&id.name) {
+        Some(namespace) => is_owned_by(namespace, &id.ns),
+        None => false,
     }
+}
 
-    fn push_each_ended(&self, writes: &mut Vec<Change>, members: &[Text]) -> Result<(), NoMemory>
-        ensures { OnOk result (writes.new.items ≡ writes.old.items ++ flat_map (ended_at self.now.state) members.now) }
-    {
-        for member in members {
-            self.push_ended(writes, member)?;
-        }
-        Ok(())
+/// Adds the writes by which those that go with a namespace begin to leave, in ascending order.
+fn push_ending(state: &IndexedState, writes: &mut Vec<Change>, name: &Text) -> Result<(), NoMemory>
+    requires { IsValid state.now.state }
+    ensures { OnOk result (writes.new.items ≡ writes.old.items ++ ending state.now.state name.now) }
+{
+    let members = state.owners().below(name)?;
+    push_each_ended(state, writes, &members)
+}
+
+fn push_each_ended(
+    state: &IndexedState,
+    writes: &mut Vec<Change>,
+    members: &[Text],
+) -> Result<(), NoMemory>
+    ensures { OnOk result (writes.new.items ≡ writes.old.items ++ flat_map (ended_at state.now.state) members.now) }
+{
+    for member in members {
+        push_ended(state, writes, member)?;
     }
+    Ok(())
+}
 
-    /// Adds the write by which a namespace begins to leave, where it is there and doesn't yet.
-    fn push_ended(&self, writes: &mut Vec<Change>, member: &Text) -> Result<(), NoMemory>
-        ensures { OnOk result (writes.new.items ≡ writes.old.items ++ ended_at self.now.state member.now) }
-    {
-        match self.named(member) {
-            Some(namespace) if !is_terminating(namespace) => {
-                let leaving = ended(namespace, self.store.version() + 1)?;
-                let stored = Shared::new(self.store.allocator(), leaving)?;
-                Ok(writes.push(Change::put(stored)?)?)
-            }
-            _ => Ok(()),
+/// Adds the write by which a namespace begins to leave, where it is there and doesn't yet.
+fn push_ended(state: &IndexedState, writes: &mut Vec<Change>, member: &Text) -> Result<(), NoMemory>
+    ensures { OnOk result (writes.new.items ≡ writes.old.items ++ ended_at state.now.state member.now) }
+{
+    match state.named(member) {
+        Some(namespace) if !is_terminating(namespace) => {
+            state.law_of_validity();
+            let leaving = ended(namespace, state.version() + 1)?;
+            let stored = Shared::new(state.allocator(), leaving)?;
+            Ok(writes.push(Change::put(stored)?)?)
         }
+        _ => Ok(()),
     }
 }
 

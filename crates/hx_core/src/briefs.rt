@@ -3,10 +3,10 @@ ghost use Rattle.std.specs.Prelude.{◌≡◌, ◌<◌, ◌^◌, IfOk, length};
 ghost use Rattle.hx_reconcile.specs.Briefs.{IsShort, StandsFor, planned_by};
 ghost use Rattle.hx_core.specs.Working.{chain_in, sums_in};
 
-use hx_admit::IndexedState;
 use hx_model::Key;
 use hx_object::{NoMemory, Text};
 use hx_reconcile::{Brief, Facts, SharedBrief, law_of_sums};
+use hx_state::IndexedState;
 
 /// The brief of a key, as the state is.
 pub fn brief_of(state: &IndexedState, key: &Key) -> Result<Brief, NoMemory>

@@ -24,11 +24,12 @@ ghost use Rattle.hx_core.specs.Starting.{IsDamagedAt, IsDamageOf, key_at, IfDama
 use crate::commit::{CommitFault, write_marked};
 use crate::marking::mark_wanting;
 use crate::start::{StartFault, load_state};
-use hx_admit::{IndexedState, Reviewed};
+use hx_admit::{Reviewed, review};
 use hx_model::{Answer, Ask, Key, Refusal, RunConfig};
 use hx_object::{List, NoMemory};
 use hx_ports::Keeper;
 use hx_queue::Workers;
+use hx_state::IndexedState;
 use hx_store::Change;
 use std::alloc::Global;
 use std::hash::RandomState;
@@ -123,7 +124,7 @@ impl<K: Keeper> Cluster<K> {
         ensures idle { (Mutates self.old.state ask → ⊥) → self.new ≡ self.old }
         ensures marked { HasMarked self.old.state (writes_in self.old.state (request_entry ask result)) self.old.workers self.new.workers }
     {
-        match self.state.review(ask) {
+        match review(&self.state, ask) {
             Err(refusal) => Answer::Refused(refusal),
             Ok(Reviewed { writes, answer }) => {
                 if writes.is_empty() {

@@ -10,11 +10,11 @@ ghost use Rattle.hx_queue.specs.Workers.{IsMarkedBy};
 
 use crate::rows::batch_of;
 use crate::touched::{Marks, mark, marks_of};
-use hx_admit::IndexedState;
 use hx_model::Key;
 use hx_object::NoMemory;
 use hx_ports::{Batch, KeepFault, Keeper};
 use hx_queue::Workers;
+use hx_state::IndexedState;
 use hx_store::Change;
 
 /// Writes that are ready: they are staged in the state, and this is what is made for others of them.

@@ -16,11 +16,11 @@ ghost use Rattle.hx_core.specs.Working.{IsFinish, IsTried, is_removal, is_writte
 use crate::cluster::Cluster;
 use crate::commit::CommitFault;
 use crate::wanted::is_wanted;
-use hx_admit::{GREATEST_VERSION, IndexedState};
 use hx_model::{Finish, Guard, Key, Write, is_source};
 use hx_object::{Id, NoMemory, Object, Shared};
 use hx_ports::Keeper;
 use hx_reconcile::{Brief, Plan};
+use hx_state::{GREATEST_VERSION, IndexedState};
 use hx_store::Change;
 use std::alloc::Global;
 

@@ -6,9 +6,9 @@ ghost use Rattle.hx_model.specs.Valid.{IsValid};
 ghost use Rattle.hx_model.specs.declared.key.Key.{Key as key_of};
 ghost use Rattle.hx_queue.specs.Workers.{no_work};
 
-use hx_admit::IndexedState;
 use hx_object::NoMemory;
 use hx_queue::Workers;
+use hx_state::IndexedState;
 
 /// Marks each key that wants a write, and no other one.
 pub fn mark_wanting(state: &IndexedState, workers: &mut Workers) -> Result<(), NoMemory>

@@ -10,11 +10,11 @@ ghost use Rattle.hx_core.specs.Starting.{IfDamage, IfDamaged, IfWhole, IsUndamag
 
 use crate::damage::Damage;
 use crate::rows::SCHEMA;
-use hx_admit::{GREATEST_VERSION, IndexedState};
 use hx_json::{BodyReader, RowFault};
 use hx_model::RunConfig;
 use hx_object::{List, NoMemory, Object};
 use hx_ports::{KeepFault, Keeper, Meta, Row};
+use hx_state::{GREATEST_VERSION, IndexedState};
 use std::alloc::Global;
 use std::hash::RandomState;
 

@@ -13,11 +13,11 @@ ghost use Rattle.hx_queue.specs.Workers.{IsMarkedBy};
 ghost use Rattle.hx_core.specs.Committing.{marks_but};
 ghost use Rattle.hx_core.specs.Reaching.{HasRoot, IsScopeOf, IsReady, IsSpreadable, MayMark, whole_keys};
 
-use hx_admit::IndexedState;
 use hx_marks::{SpreadMarks, keeps_tree, marks, open_below, spread_marks};
 use hx_model::Key;
 use hx_object::{Id, NoMemory, Text};
 use hx_queue::Workers;
+use hx_state::IndexedState;
 use hx_store::Change;
 
 /// What writes mark.

@@ -8,10 +8,10 @@ ghost use Rattle.hx_model.specs.Valid.{IsValid};
 ghost use Rattle.hx_model.specs.Wanted.{wanted_write};
 
 use crate::briefs::brief_now;
-use hx_admit::IndexedState;
 use hx_model::{Key, Write};
 use hx_object::{Id, NoMemory, Object};
 use hx_reconcile::{Plan, plan};
+use hx_state::IndexedState;
 
 /// Whether a write is the one that its key wants, as the state is.
 pub fn is_wanted(state: &IndexedState, key: &Key, write: &Write) -> Result<bool, NoMemory>

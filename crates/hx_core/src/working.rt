@@ -14,12 +14,12 @@ use crate::briefs::job_of;
 use crate::cluster::Cluster;
 use crate::objects::all_objects;
 use crate::turns::Take;
-use hx_admit::IndexedState;
 use hx_model::{Finish, Key};
 use hx_object::{NoMemory, Shared};
 use hx_ports::Keeper;
 use hx_queue::Workers;
 use hx_reconcile::{Plan, SharedBrief, plan};
+use hx_state::IndexedState;
 use std::alloc::Global;
 
 impl<K: Keeper> Cluster<K> {

@@ -9,11 +9,11 @@ ghost use Rattle.hx_admit.specs.Ruling.{case_of, IsAtHome};
 
 use super::check_rule;
 use crate::case::Case;
-use crate::tree::given_parent;
 use hx_forest::{Forest, Halt};
 use hx_model::{Denial, Rule, is_same_name};
 use hx_object::Text;
 use hx_object::well_known::HIERARCHY;
+use hx_state::given_parent;
 
 /// No namespace comes to a greater depth. A root is at depth 0.
 pub const GREATEST_DEPTH: usize = 64;

@@ -9,10 +9,10 @@ ghost use Rattle.hx_admit.specs.Ruling.{case_of};
 
 use super::check_rule;
 use crate::case::Case;
-use crate::tree::annotated_parent;
 use hx_forest::Forest;
 use hx_model::{Denial, Rule, is_same_name, is_terminating};
 use hx_object::{Object, Text};
+use hx_state::annotated_parent;
 
 pub fn check_rules(case: &Case) -> Result<(), Denial>
     ensures { fault_in result ≡ first (namespace_rules (case_of case.now)) }

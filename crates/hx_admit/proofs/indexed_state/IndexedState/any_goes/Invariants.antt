@@ -1,8 +1,0 @@
-use Rattle.std.proofs.Common.{◌≡◌}
-use Rattle.std.specs.List.{list_any}
-use Rattle.hx_admit.specs.Conflicting.{goes_down}
-use Rattle.hx_admit.proofs.indexed_state.IndexedState.any_goes.Given as goal
-
--- those that are left tell what all do
-abbrev pub invariant-loop-ancestor : goal.invariant-loop-ancestor
-invariant-loop-ancestor l = list_any (goes_down l.self.state l.mode l.ns l.kind l.name) l.ancestor-iterator ≡ list_any (goes_down l.self.state l.mode l.ns l.kind l.name) l.fn.above

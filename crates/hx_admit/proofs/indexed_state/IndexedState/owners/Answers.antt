@@ -1,5 +1,0 @@
-use Rattle.hx_admit.proofs.Seen.{told_seen}
-use Rattle.hx_admit.proofs.indexed_state.IndexedState.owners.Goals as goal
-
-pub returns-clause-tells : goal.returns-clause-tells
-returns-clause-tells c = told_seen c.self.view_is c.self.invariant.now

@@ -1,7 +1,0 @@
-use Rattle.std.proofs.Common.{take}
-use Rattle.hx_admit.specs.Planning.{IsPlan}
-use Rattle.hx_admit.proofs.indexed_state.IndexedState.plan.Given as goal
-
--- the numbers, and the changes of the tree and of the owners, of the first writes
-abbrev pub invariant-loop-write : goal.invariant-loop-write
-invariant-loop-write l = IsPlan l.self.state (take l.write-index l.writes) l.counts l.tree.items l.owners.items

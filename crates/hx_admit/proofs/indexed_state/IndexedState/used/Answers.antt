@@ -1,9 +1,0 @@
-use Rattle.std.proofs.Common.{◌≡◌, ℕ, ap, subst, IfOk}
-use Rattle.hx_admit.specs.StateView.{StateView}
-use Rattle.hx_admit.proofs.Spending.{used_seen}
-use Rattle.hx_admit.proofs.indexed_state.IndexedState.used.Goals as goal
-
-pub returns : goal.returns
-returns c =
-    subst (λ (k : ℕ). IfOk c.used.result (λ sum. sum ≡ k)) (used_seen c.self.inside.config c.self.inside.store.objects c.self.inside.store.version c.args.self.now.state c.self.inside.forest.nodes c.args.ns.now c.args.resource
-    (ap (λ (v : StateView). v.state) c.self.view_is) c.self.invariant.now.planted) c.used.ensures

@@ -1,0 +1,12 @@
+pub mod Counting
+pub mod Homes
+pub mod Planting
+pub mod Owners
+pub mod Apart
+pub mod NameCounts
+pub mod Alone
+pub mod Staging
+pub mod Loading
+pub mod Seen
+pub mod Owned
+pub mod Using

@@ -1,0 +1,4 @@
+pub mod Counting
+pub mod Homes
+pub mod Planning
+pub mod StateView
