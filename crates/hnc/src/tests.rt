@@ -1,14 +1,12 @@
 // Scripts through the top call, over ports in memory that fail where a row says so.
 ghost use Rattle.std.specs.Prelude.{◌<◌};
 
+use self::serving::{Counted, no_door};
 use crate::top::{Ended, Status, top};
-use hx_door::MemDoor;
-use hx_link::LinkEnd;
 use hx_object::{List, NoMemory, Text};
 use hx_ports::{
     FailCommit, MemKeeper, MemSink, MemSource, Meta, Row, SureKeeper, SureSink, SureSource,
 };
-use hx_serve::Notices;
 use std::alloc::{AllocError, Global};
 use std::hash::RandomState;
 use std::mem;
@@ -59,23 +57,6 @@ fn plain(keys: RandomState) -> Setting {
         },
         failing_keeper: 0,
     }
-}
-
-// Counts the links that ended otherwise than closed.
-#[derive(Clone, Copy)]
-struct Counted {
-    ended: u64,
-}
-
-impl Notices for Counted {
-    fn link_ended(&mut self, _end: LinkEnd) {
-        self.ended = self.ended.saturating_add(1);
-    }
-}
-
-// A door to which no link comes.
-fn no_door(alloc: Global) -> Result<MemDoor, NoMemory> {
-    MemDoor::new(Vec::new(alloc), Vec::new(alloc))
 }
 
 // What a run left.

@@ -10,6 +10,8 @@ mod charges;
 #[cfg(test)]
 mod counters;
 #[cfg(test)]
+mod doors;
+#[cfg(test)]
 mod forests;
 #[cfg(test)]
 mod graphs;

@@ -8,8 +8,6 @@
 mod door;
 mod mem;
 mod tcp;
-#[cfg(test)]
-mod tests;
 
 pub use door::{Door, DoorFault, Link};
 pub use mem::{MemDoor, MemLine};

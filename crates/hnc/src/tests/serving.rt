@@ -1,11 +1,13 @@
 // Links through the top call, over a door in memory.
 ghost use Rattle.std.specs.Prelude.{◌<◌};
 
-use super::{Counted, NO_ROWS, split_words};
+use super::{NO_ROWS, split_words};
 use crate::top::{Status, top};
 use hx_door::{MemDoor, MemLine};
+use hx_link::LinkEnd;
 use hx_object::NoMemory;
 use hx_ports::{MemSink, MemSource, SureKeeper, SureSink, SureSource};
+use hx_serve::Notices;
 use std::alloc::Global;
 use std::hash::RandomState;
 use std::test::Fail;
@@ -29,6 +31,23 @@ const CASES: [(usize, u64, Status, usize, u64); 5] = [
     (3, 1, Status::DoorFault, 0, 0),
     (2, 3, Status::DoorFault, 1, 0),
 ];
+
+// Counts the links that ended otherwise than closed.
+#[derive(Clone, Copy)]
+pub(super) struct Counted {
+    pub(super) ended: u64,
+}
+
+impl Notices for Counted {
+    fn link_ended(&mut self, _end: LinkEnd) {
+        self.ended = self.ended.saturating_add(1);
+    }
+}
+
+// A door to which no link comes.
+pub(super) fn no_door(alloc: Global) -> Result<MemDoor, NoMemory> {
+    MemDoor::new(Vec::new(alloc), Vec::new(alloc))
+}
 
 // A link whose client sends a text, which comes in pieces.
 fn line(alloc: Global, text: &str, piece: usize) -> Result<MemLine, NoMemory>

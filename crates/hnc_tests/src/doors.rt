@@ -2,7 +2,7 @@
 ghost use Rattle.std.specs.Prelude.{◌≡◌, ◌<◌, true, false, OnErr, Ok};
 ghost use Rattle.hx_ports.specs.Calls.{next_number};
 
-use crate::{Door, DoorFault, Link, MemDoor, MemLine, TcpDoor, TcpFault};
+use hx_door::{Door, DoorFault, Link, MemDoor, MemLine, TcpDoor, TcpFault};
 use hx_object::NoMemory;
 use hx_ports::{MemSink, MemSource, Sink, Source};
 use std::alloc::Global;
