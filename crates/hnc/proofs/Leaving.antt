@@ -217,6 +217,7 @@ never_cut ending.WriteFault told cut = true≢false (sym told)
 never_cut ending.KeeperFault told cut = true≢false (sym cut)
 never_cut ending.Damaged told cut = true≢false (sym cut)
 never_cut ending.NoMemory told cut = true≢false (sym cut)
+never_cut ending.DoorFault told cut = true≢false (sym told)
 never_cut ending.Unsettled told cut = true≢false (sym cut)
 never_cut ending.TooLong told cut = true≢false (sym told)
 never_cut ending.NotFound told cut = true≢false (sym cut)
@@ -233,6 +234,7 @@ told_complete ending.Usage told = absurd (true≢false (sym told))
 told_complete ending.ReadFault told = absurd (true≢false (sym told))
 told_complete ending.WriteFault told = absurd (true≢false (sym told))
 told_complete ending.KeeperFault told = absurd (true≢false (sym told))
+told_complete ending.DoorFault told = absurd (true≢false (sym told))
 told_complete ending.Damaged told = absurd (true≢false (sym told))
 told_complete ending.NoMemory told = refl
 told_complete ending.Unsettled told = refl
@@ -287,14 +289,15 @@ of_report-front words command report sink sink' keeper keeper' a is starts task 
 -- ---- ends without a fault
 
 -- a run that began, and met no fault of reading or writing, was read to its end, was too long, or wanted memory
-pub ends_unharmed : (status : Status) (Read Write : Type 0) → has_not_begun status ≡ false → (status ≡ ending.ReadFault → Read) → (status ≡ ending.WriteFault → Write) → (Read → ⊥) → (Write → ⊥) → is_complete status ≡ true
-ends_unharmed ending.Done Read Write begun read write unread unwritten = refl
-ends_unharmed ending.Usage Read Write begun read write unread unwritten = absurd (true≢false begun)
-ends_unharmed ending.ReadFault Read Write begun read write unread unwritten = absurd (unread (read refl))
-ends_unharmed ending.WriteFault Read Write begun read write unread unwritten = absurd (unwritten (write refl))
-ends_unharmed ending.KeeperFault Read Write begun read write unread unwritten = absurd (true≢false begun)
-ends_unharmed ending.Damaged Read Write begun read write unread unwritten = absurd (true≢false begun)
-ends_unharmed ending.NoMemory Read Write begun read write unread unwritten = refl
-ends_unharmed ending.Unsettled Read Write begun read write unread unwritten = refl
-ends_unharmed ending.TooLong Read Write begun read write unread unwritten = refl
-ends_unharmed ending.NotFound Read Write begun read write unread unwritten = refl
+pub ends_unharmed : (status : Status) (Read Write : Type 0) → has_not_begun status ≡ false → (status ≢ ending.DoorFault) → (status ≡ ending.ReadFault → Read) → (status ≡ ending.WriteFault → Write) → (Read → ⊥) → (Write → ⊥) → is_complete status ≡ true
+ends_unharmed ending.Done Read Write begun other read write unread unwritten = refl
+ends_unharmed ending.Usage Read Write begun other read write unread unwritten = absurd (true≢false begun)
+ends_unharmed ending.ReadFault Read Write begun other read write unread unwritten = absurd (unread (read refl))
+ends_unharmed ending.WriteFault Read Write begun other read write unread unwritten = absurd (unwritten (write refl))
+ends_unharmed ending.KeeperFault Read Write begun other read write unread unwritten = absurd (true≢false begun)
+ends_unharmed ending.Damaged Read Write begun other read write unread unwritten = absurd (true≢false begun)
+ends_unharmed ending.NoMemory Read Write begun other read write unread unwritten = refl
+ends_unharmed ending.DoorFault Read Write begun other read write unread unwritten = absurd (other refl)
+ends_unharmed ending.Unsettled Read Write begun other read write unread unwritten = refl
+ends_unharmed ending.TooLong Read Write begun other read write unread unwritten = refl
+ends_unharmed ending.NotFound Read Write begun other read write unread unwritten = refl

@@ -265,7 +265,7 @@ fn status_of_end(end: RunEnd) -> Status
     ensures writes { end ≡ RunEnd.WriteFault → result ≡ Status.WriteFault }
     ensures too_long { result ≡ Status.TooLong → end ≡ RunEnd.TooLong }
     ensures memory { result ≡ Status.NoMemory → end ≡ RunEnd.NoMemory }
-    ensures scripted { (result ≢ Status.Unsettled) × (result ≢ Status.NotFound) }
+    ensures scripted { (result ≢ Status.Unsettled) × (result ≢ Status.NotFound) × (result ≢ Status.DoorFault) }
 {
     match end {
         RunEnd::Done => Status::Done,

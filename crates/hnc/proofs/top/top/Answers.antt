@@ -1,5 +1,7 @@
 use Rattle.std.proofs.Common.{◌≡◌, ◌∙◌, ◌⊎◌, Some, true, ap, inl, inr, refl, subst, sym}
 use Rattle.hnc.proofs.Leaving.{Starts, cut_by_fault, ends_unharmed, nothing_printed, of_report, of_report-front, of_run-front, of_run-long, of_run-read, of_run-whole, reads_of, report_ends, runs_of, starts_on, not_done, still_ok, told_as, wants_memory}
+use Rattle.std.specs.Prelude.{IsErr, IsOk}
+use Rattle.hnc.proofs.Serving.{of_serving, serves_of, serving_ends}
 use Rattle.hnc.specs.Headline.{is_complete, is_cut_short}
 use Rattle.hnc.specs.declared.top.Status.{Status}
 use Rattle.hnc.specs.declared.top.Status.TheVariants as ending
@@ -21,7 +23,7 @@ begun_to_read g c =
     starts_on c.in-Ok.command (g.K.Keeper.shown c.args.keeper) (g.K.Keeper.shown c.attach.new.self) c.in-Ok-start.cluster (attached.place ∙ ap Some c.as_str.ensures.value) attached.same attached.whole _ attached.cause begun.keeper begun.opens begun.config begun.valid begun.holds begun.undamaged
 
 pub returns-in-Err-start-clause-complete : goal.returns-in-Err-start-clause-complete
-returns-in-Err-start-clause-complete g c = λ _ _ _ calm sound.
+returns-in-Err-start-clause-complete g c = λ _ _ _ calm _ sound.
     ap is_complete (wants_memory c.status_of_start.result c.in-Err-start.field-0.fault (g.K.Keeper.shown c.args.keeper) (g.K.Keeper.shown c.attach.new.self) (g.K.Keeper.shown c.in-Err-start.field-0.keeper).faults c.status_of_start.ensures.unbegun c.status_of_start.ensures.keeper_fault
     c.status_of_start.ensures.damaged (still_ok (g.K.Keeper.shown c.args.keeper).faults (g.K.Keeper.shown c.attach.new.self).faults _ c.in_default.ensures.cause) c.in-Err-start.ensures.failed calm c.in_default.ensures.same sound c.in-Err-start.ensures.damaged)
 
@@ -58,9 +60,9 @@ returns-in-Run-clause-too_long g c = λ e.
 
 pub returns-clause-done : goal.returns-clause-done
 returns-clause-done g c = λ e.
-    inr (of_report _ c.in-Ok.command c.in-Print.report ending.Done (g.W.Sink.shown c.args.sink.now) (g.W.Sink.shown c.print-status.new.sink) (g.K.Keeper.shown c.args.keeper) (g.K.Keeper.shown c.end_with-in-Print.result.keeper) c.in-Ok-start.cluster
+    inr (inl (of_report _ c.in-Ok.command c.in-Print.report ending.Done (g.W.Sink.shown c.args.sink.now) (g.W.Sink.shown c.print-status.new.sink) (g.K.Keeper.shown c.args.keeper) (g.K.Keeper.shown c.end_with-in-Print.result.keeper) c.in-Ok-start.cluster
     (reads_of _ c.in-Ok.command _ c.in-Ok.ensures.words c.in-Print.is) (begun_to_read g c) c.in-Print.is (ap g.K.Keeper.shown c.end_with-in-Print.ensures.1 ∙ c.close-in-Print.ensures.keeper)
-    (told_as c.in-Print.report c.print-status.result ending.Done c.in-Ok-start.cluster.state (g.W.Sink.shown c.args.sink.now) (g.W.Sink.shown c.print-status.new.sink) (sym c.end_with-in-Print.ensures.0 ∙ e) refl c.print-status.ensures.told))
+    (told_as c.in-Print.report c.print-status.result ending.Done c.in-Ok-start.cluster.state (g.W.Sink.shown c.args.sink.now) (g.W.Sink.shown c.print-status.new.sink) (sym c.end_with-in-Print.ensures.0 ∙ e) refl c.print-status.ensures.told)))
 
 pub returns-clause-cut : goal.returns-clause-cut
 returns-clause-cut g c = λ e.
@@ -84,9 +86,9 @@ pub returns-in-Run-clause-write_calm : goal.returns-in-Run-clause-write_calm
 returns-in-Run-clause-write_calm g c = λ other. c.run_script-end.ensures.write_calm (λ e. other (c.end_with-in-Run.ensures.0 ∙ c.status_of_end.ensures.writes e))
 
 pub returns-in-Run-clause-complete : goal.returns-in-Run-clause-complete
-returns-in-Run-clause-complete g c = λ _ unread unwritten _ _.
+returns-in-Run-clause-complete g c = λ _ unread unwritten _ _ _.
     subst (λ (status : Status). is_complete status ≡ true) (sym c.end_with-in-Run.ensures.0)
-    (ends_unharmed c.status_of_end.result _ _ c.status_of_end.ensures.begun (λ e. c.run_script-end.ensures.read_fault (c.status_of_end.ensures.read_fault e)) (λ e. c.run_script-end.ensures.write_fault (c.status_of_end.ensures.write_fault e)) unread unwritten)
+    (ends_unharmed c.status_of_end.result _ _ c.status_of_end.ensures.begun c.status_of_end.ensures.scripted.2 (λ e. c.run_script-end.ensures.read_fault (c.status_of_end.ensures.read_fault e)) (λ e. c.run_script-end.ensures.write_fault (c.status_of_end.ensures.write_fault e)) unread unwritten)
 
 pub returns-clause-memory : goal.returns-clause-memory
 returns-clause-memory g c = λ e.
@@ -103,6 +105,31 @@ pub returns-clause-write_fault : goal.returns-clause-write_fault
 returns-clause-write_fault g c = λ e. c.print-status.ensures.write_fault (sym c.end_with-in-Print.ensures.0 ∙ e)
 
 pub returns-clause-complete : goal.returns-clause-complete
-returns-clause-complete g c = λ _ _ unwritten _ _.
+returns-clause-complete g c = λ _ _ unwritten _ _ _.
     subst (λ (status : Status). is_complete status ≡ true) (sym c.end_with-in-Print.ensures.0)
     (report_ends c.print-status.result _ c.print-status.ensures.ends c.print-status.ensures.write_fault unwritten)
+
+pub returns-in-Run-clause-left : goal.returns-in-Run-clause-left
+returns-in-Run-clause-left g c = λ e. absurd (c.status_of_end.ensures.scripted.2 (sym c.end_with-in-Run.ensures.0 ∙ e))
+
+pub returns-in-Run-clause-door_fault : goal.returns-in-Run-clause-door_fault
+returns-in-Run-clause-door_fault g c = λ e. absurd (c.status_of_end.ensures.scripted.2 (sym c.end_with-in-Run.ensures.0 ∙ e))
+
+-- what serving stands on
+serving_started : (g : Over) (c : goal.After-drop-task-in-Serve g) → Starts c.in-Ok.command (g.K.Keeper.shown c.args.keeper) c.in-Ok-start.cluster
+serving_started g c =
+    let attached = c.in_default.ensures in
+    let begun = c.in-Ok-start.ensures in
+    starts_on c.in-Ok.command (g.K.Keeper.shown c.args.keeper) (g.K.Keeper.shown c.attach.new.self) c.in-Ok-start.cluster (attached.place ∙ ap Some c.as_str.ensures.value) attached.same attached.whole _ attached.cause begun.keeper begun.opens begun.config begun.valid begun.holds begun.undamaged
+
+pub returns-in-Serve-clause-done : goal.returns-in-Serve-clause-done
+returns-in-Serve-clause-done g c = λ e.
+    inr (inr (of_serving IsOk _ c.in-Ok.command c.in-Serve.serving (g.D.Door.shown c.args.door.now) (g.D.Door.shown c.serve_at.new.door) (g.K.Keeper.shown c.args.keeper) (g.K.Keeper.shown c.serve_at.result.keeper) c.in-Ok-start.cluster
+    (serves_of _ c.in-Ok.command c.in-Serve.serving c.in-Ok.ensures.words c.in-Serve.is) c.in-Serve.is (serving_started g c) (c.serve_at.ensures.served e)))
+
+pub returns-in-Serve-clause-left : goal.returns-in-Serve-clause-left
+returns-in-Serve-clause-left g c = λ e. elim (c.serve_at.ensures.left e) [
+  | inl kept ↦ inl (nothing_printed _ c.in-Ok.command _ _ _ (g.K.Keeper.shown c.args.keeper) (g.K.Keeper.shown c.serve_at.result.keeper) c.in-Ok-start.cluster c.in-Ok.ensures.words (serving_started g c) kept refl)
+  | inr has ↦ inr (of_serving IsErr _ c.in-Ok.command c.in-Serve.serving (g.D.Door.shown c.args.door.now) (g.D.Door.shown c.serve_at.new.door) (g.K.Keeper.shown c.args.keeper) (g.K.Keeper.shown c.serve_at.result.keeper) c.in-Ok-start.cluster
+      (serves_of _ c.in-Ok.command c.in-Serve.serving c.in-Ok.ensures.words c.in-Serve.is) c.in-Serve.is (serving_started g c) has)
+]
