@@ -12,16 +12,17 @@ use std::alloc::Global;
 use std::hash::RandomState;
 use std::test::Fail;
 
-// What the clients of two links send, and what is sent to them. The second link ends within a request.
-const SENT: [&str; 2] = [
-    "POST /api/v1/namespaces HTTP/1.1\r\nHost: x\r\nContent-Length: 65\r\n\r\n{\"apiVersion\":\"v1\",\"kind\":\"Namespace\",\"metadata\":{\"name\":\"acme\"}}GET /api/v1/namespaces/none HTTP/1.1\r\nConnection: close\r\n\r\nGET / HTTP/1.1\r\n\r\n",
-    "GET /api/v1/namespaces/acme HTTP/1.1\r\n\r\nGET /",
-];
+// What the clients of two links send, and what is sent to them, of the second how it begins: behind the first link the tree's labels were written. The second link ends within a request.
+const FIRST_SENT: &str =
+    "POST /api/v1/namespaces HTTP/1.1\r\nHost: x\r\nContent-Length: 65\r\n\r\n{\"apiVersion\":\"v1\",\"kind\":\"Namespace\",\"metadata\":{\"name\":\"acme\"}}GET /api/v1/namespaces/none HTTP/1.1\r\nConnection: close\r\n\r\nGET / HTTP/1.1\r\n\r\n";
 
-const ANSWERED: [&str; 2] = [
-    "HTTP/1.1 201 Created\r\ncontent-type: application/json\r\ncontent-length: 115\r\n\r\n{\"apiVersion\":\"v1\",\"kind\":\"Namespace\",\"metadata\":{\"name\":\"acme\",\"resourceVersion\":\"1\"},\"status\":{\"phase\":\"Active\"}}HTTP/1.1 404 Not Found\r\ncontent-type: application/json\r\ncontent-length: 141\r\nconnection: close\r\n\r\n{\"apiVersion\":\"v1\",\"code\":404,\"kind\":\"Status\",\"message\":\"namespaces \\\"none\\\" not found\",\"metadata\":{},\"reason\":\"NotFound\",\"status\":\"Failure\"}",
-    "HTTP/1.1 200 OK\r\ncontent-type: application/json\r\ncontent-length: 115\r\n\r\n",
-];
+const SECOND_SENT: &str = "GET /api/v1/namespaces/acme HTTP/1.1\r\n\r\nGET /";
+
+const FIRST_ANSWERS: &str =
+    "HTTP/1.1 201 Created\r\ncontent-type: application/json\r\ncontent-length: 115\r\n\r\n{\"apiVersion\":\"v1\",\"kind\":\"Namespace\",\"metadata\":{\"name\":\"acme\",\"resourceVersion\":\"1\"},\"status\":{\"phase\":\"Active\"}}HTTP/1.1 404 Not Found\r\ncontent-type: application/json\r\ncontent-length: 141\r\nconnection: close\r\n\r\n{\"apiVersion\":\"v1\",\"code\":404,\"kind\":\"Status\",\"message\":\"namespaces \\\"none\\\" not found\",\"metadata\":{},\"reason\":\"NotFound\",\"status\":\"Failure\"}";
+
+const SECOND_ANSWER: &str =
+    "HTTP/1.1 200 OK\r\ncontent-type: application/json\r\ncontent-length: 202\r\n\r\n";
 
 // The piece that links read at a time, the call of the door that fails, and how it ends.
 const CASES: [(usize, u64, Status, usize, u64); 5] = [
@@ -64,23 +65,25 @@ fn door(alloc: Global, piece: usize, fails: u64) -> Result<MemDoor, NoMemory>
     requires { 0 < piece }
 {
     let mut lines = Vec::new(alloc);
-    lines.push(line(alloc, SENT[0], piece)?)?;
-    lines.push(line(alloc, SENT[1], piece)?)?;
+    lines.push(line(alloc, FIRST_SENT, piece)?)?;
+    lines.push(line(alloc, SECOND_SENT, piece)?)?;
     MemDoor::new(lines, vec![in alloc; fails; 1]?)
+}
+
+// Whether what was written to a link begins so, if there was one.
+fn begins(sink: Option<&MemSink>, text: &str) -> bool {
+    match sink {
+        Some(sink) => sink.bytes().starts_with(text.as_bytes()),
+        None => true,
+    }
 }
 
 // Whether so many links were answered as they should be.
 fn are_answered(door: &MemDoor, links: usize) -> bool {
     let sinks = door.sinks();
-    if sinks.len() != links {
-        return false;
-    }
-    for index in 0..links.min(2) {
-        if !sinks[index].bytes().starts_with(ANSWERED[index].as_bytes()) {
-            return false;
-        }
-    }
-    true
+    sinks.len() == links
+        && begins(sinks.first(), FIRST_ANSWERS)
+        && begins(sinks.get(1), SECOND_ANSWER)
 }
 
 fn ends_so(
@@ -113,8 +116,9 @@ fn ends_so(
 #[test]
 fn links_are_answered_in_order(rt: HostRuntime) -> Result<(), Fail> {
     let keys = RandomState::new(&rt)?;
-    for (index, case) in CASES.into_iter().enumerate() {
-        assert!(rt; ends_so(rt.alloc(), keys, case)?, "case {index}");
+    for row in CASES {
+        let ends_so = ends_so(rt.alloc(), keys, row)?;
+        assert!(rt; ends_so, "{} {}", row.0, row.1);
     }
     Ok(())
 }
