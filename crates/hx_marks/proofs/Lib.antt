@@ -70,3 +70,4 @@ pub mod Regular
 pub mod Sending
 pub mod Unlimited
 pub mod SpreadLaw
+pub mod Linking

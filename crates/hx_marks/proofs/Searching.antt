@@ -1,8 +1,9 @@
--- A search among the names of namespaces that begin to leave.
+-- A search among names in order, as of namespaces that begin to leave.
 --     searched          it finds a name exactly if the name is among them
 --     same_members      in another order they are the same
+--     same_apart        so are the names that aren't among them
 --     marks_alike       what a write marks among others depends on who is among them alone
-use Rattle.std.proofs.Common.{◌≡◌, ℕ, Bool, false, not, ◌&&◌, ◌||◌, Option, Some, None, List, [], ◌∷◌, ◌++◌, length, Result, Ok, Err, refl, sym, ap, ◌∙◌}
+use Rattle.std.proofs.Common.{◌≡◌, ℕ, Bool, false, cond, not, ◌&&◌, ◌||◌, Option, Some, None, List, [], ◌∷◌, ◌++◌, length, Result, Ok, Err, refl, sym, ap, ◌∙◌}
 use Rattle.std.specs.Prelude.{flat_map, is_ok, if◌then◌else◌}
 use Rattle.std.specs.List.Sorted.{IsSorted, IsPermutation, IsSearchInRange, IsBinarySearchResult}
 use Rattle.std.specs.Option.{option_map_or}
@@ -18,7 +19,7 @@ use Rattle.hx_model.proofs.Climbing.{same_itself}
 use Rattle.hx_forest.proofs.Ascending.{found_has, missed_has}
 use Rattle.hx_forest.proofs.Named.{name_total}
 use Rattle.hx_marks.specs.Before.{marks_before, marks_before_among}
-use Rattle.hx_marks.specs.Law.{follows, begins_by, following_marks, object_written}
+use Rattle.hx_marks.specs.Law.{apart, follows, begins_by, following_marks, object_written}
 use Rattle.hx_object.specs.Kinds.{is_namespace}
 
 -- ---- the search
@@ -33,6 +34,10 @@ searched xs n (Err at) up within missed =
 
 pub same_members : (xs ys : List (List ℕ)) → IsPermutation xs ys → (q : List ℕ) → is_in q ys ≡ is_in q xs
 same_members xs ys moved q = sym (list_any-IsPermutation (bytes_eq q) xs ys moved)
+
+pub same_apart : (names xs ys : List (List ℕ)) → ((q : List ℕ) → is_in q xs ≡ is_in q ys) → apart names xs ≡ apart names ys
+same_apart [] xs ys same = refl
+same_apart (n ∷ names) xs ys same = λ i. cond (not (same n i)) (n ∷ same_apart names xs ys same i) (same_apart names xs ys same i)
 
 follows_alike : (f : Forest) (names others : List (List ℕ)) (n : List ℕ) → ((q : List ℕ) → is_in q names ≡ is_in q others) → follows f names n ≡ follows f others n
 follows_alike f names others n same = by (parent_of f n)

@@ -1,6 +1,6 @@
 -- What the chain of a namespace sends is what those of it send that send something.
 --     same_sent      of a kind
---     same_wants     so a namespace wants the same
+--     wants_by_senders, same_wants     so a namespace wants the same
 --     wanted         so a call that has the senders above marks it
 --     next_senders   those of a chain, and of the chain of its first member's parent
 --     come_up        so where a call puts the first member before those of that chain
@@ -100,11 +100,15 @@ kinds_want objects senders m names (k ∷ kinds) quiet =
     λ i. kind_wants objects senders m names k (λ a e. (or_out (is_propagated (mode_at objects k) && sends_kind objects a k) _ (quiet a e)).0) i
     ++ kinds_want objects senders m names kinds (λ a e. (or_out (is_propagated (mode_at objects k) && sends_kind objects a k) _ (quiet a e)).1) i
 
+-- so a namespace of a chain wants what it wants by the senders above it
+pub wants_by_senders : (objects : Objects) (m : List ℕ) (names : List (List ℕ)) → all_of objects (m ∷ senders_of objects (sent_kinds objects) names) m ≡ all_of objects (m ∷ names) m
+wants_by_senders objects m names = ap (λ keys. key.Tree m ∷ (keys ++ child_keys objects m)) (kinds_want objects (sent_kinds objects) m names copied_kinds (λ a. quiet_kinds objects a copied_kinds))
+
 pub same_wants : (objects : Objects) (f : Forest) (kinds : List Kind) (m : List ℕ) (senders : List (List ℕ)) → kinds ≡ sent_kinds objects → is_open f m ≡ true → senders ≡ senders_of objects kinds (chain_from f (parent_of f m))
     → all_of objects (m ∷ senders) m ≡ all_of objects (chain_of f m) m
 same_wants objects f kinds m senders are takes is =
     ap (λ xs. all_of objects (m ∷ xs) m) (is ∙ ap (λ ks. senders_of objects ks (chain_from f (parent_of f m))) are)
-    ∙ ap (λ keys. key.Tree m ∷ (keys ++ child_keys objects m)) (kinds_want objects (sent_kinds objects) m (chain_from f (parent_of f m)) copied_kinds (λ a. quiet_kinds objects a copied_kinds))
+    ∙ wants_by_senders objects m (chain_from f (parent_of f m))
     ∙ ap (λ chain. all_of objects chain m) (sym (open_chain f m takes))
 
 -- so a call that has the senders above marks what it wants

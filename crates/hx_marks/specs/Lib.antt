@@ -10,3 +10,4 @@ pub mod Owners
 pub mod Moving
 pub mod Spread
 pub mod Settling
+pub mod Links

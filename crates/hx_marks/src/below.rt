@@ -1,16 +1,17 @@
 // Which namespaces take part, and what lies below them.
 ghost use Rattle.std.specs.Prelude.{◌≡◌, ◌++◌, true, IfOk, OnOk, filter, flat_map, option_copied};
-ghost use Rattle.std.specs.List.{list_all, IsDistinct};
+ghost use Rattle.std.specs.List.{IsDistinct};
 ghost use Rattle.std.specs.Str.{bytes_eq};
-ghost use Rattle.hx_model.specs.Forest.{chain_of, subtree_of};
-ghost use Rattle.hx_model.specs.Moves.{up_to, chain_from, is_eligible, is_open_above};
+ghost use Rattle.hx_model.specs.Forest.{subtree_of};
+ghost use Rattle.hx_model.specs.Moves.{chain_from, is_open_above};
 ghost use Rattle.hx_model.specs.State.{State};
 ghost use Rattle.hx_model.specs.Tree.{forest_of};
 ghost use Rattle.hx_model.specs.TreeLabels.{is_open};
 ghost use Rattle.hx_model.specs.Valid.{IsValid};
 ghost use Rattle.hx_marks.specs.Law.{live_below, open_below};
 
-use hx_forest::{Ancestors, Forest};
+use crate::live::Live;
+use hx_forest::Forest;
 use hx_model::is_same_name;
 use hx_object::{NoMemory, Text};
 use std::alloc::Global;
@@ -71,34 +72,44 @@ fn is_open_beside(forest: &Forest, above: Option<&Text>, last: Option<&Text>, me
 pub(crate) fn live_below(forest: &Forest, name: &Text) -> Result<Vec<Text>, NoMemory>
     ensures { IfOk result (λ names. names.items ≡ live_below forest.now.nodes name.now) }
 {
-    let mut names = forest.below(name)?;
+    let below = forest.below(name)?;
     if !forest.may_be_restless() {
-        return Ok(names);
+        return Ok(below);
     }
-    names.retain(|member| is_live_under(forest, name, member));
+    let alloc = *below.allocator();
+    let order = walk_down(alloc, forest, name)?;
+    let live = Live::below(alloc, forest, name, &order)?;
+    let mut names = Vec::new(alloc);
+    live.push_live(&mut names, forest, name, &below)?;
     Ok(names)
 }
 
-/// Whether a namespace takes part whenever the one above it does: all from it up to that one are there, not on their way out, and included.
-fn is_live_under(forest: &Forest, name: &Text, member: &Text) -> bool
-    ensures { result ≡ list_all (is_eligible forest.now.nodes) (up_to name.now (chain_of forest.now.nodes member.now)) }
-{
-    are_eligible_up_to(forest, name, forest.ancestors(member))
+/// The namespaces below one in an order to go over them, each behind its parent. Nothing but time rests on it: what it leaves out is found by its whole chain.
+pub(crate) fn walk_down(
+    alloc: Global,
+    forest: &Forest,
+    name: &Text,
+) -> Result<Vec<Text>, NoMemory> {
+    let mut names = Vec::new(alloc);
+    names.push(name.clone()?)?;
+    for at in 0..forest.len() {
+        if at >= names.len() {
+            return Ok(names);
+        }
+        let children = forest.children(&names[at]);
+        push_others(&mut names, children, name)?;
+    }
+    Ok(names)
 }
 
-/// Whether all before a namespace are eligible.
-fn are_eligible_up_to(forest: &Forest, name: &Text, members: Ancestors) -> bool
-    ensures { result ≡ list_all (is_eligible forest.now.nodes) (up_to name.now members.entry) }
-{
-    for member in members {
-        if name.as_str() == member.as_str() {
-            return true;
-        }
-        if !forest.is_eligible(member) {
-            return false;
+/// Adds the children, but for one that the way down has come from.
+fn push_others(names: &mut Vec<Text>, children: &[Text], top: &Text) -> Result<(), NoMemory> {
+    for child in children {
+        if child.as_str() != top.as_str() {
+            names.push(child.clone()?)?;
         }
     }
-    true
+    Ok(())
 }
 
 /// The chain of a parent, and none where there is no parent.

@@ -5,6 +5,7 @@ ghost use Rattle.hx_marks.specs.Law.{begins_by, ending_name, ending_names, ends_
 
 use crate::kinds::begins_to_end;
 use crate::lookups::object_in;
+use crate::name_set::NameSet;
 use hx_forest::Forest;
 use hx_model::is_terminating;
 use hx_object::{Id, NoMemory, Object, Text};
@@ -12,22 +13,18 @@ use hx_store::Change;
 use std::alloc::Global;
 use std::marker::Model;
 
-/// The names of the namespaces that writes put as on their way out, in ascending order.
+/// The names of the namespaces that writes put as on their way out.
 #[derive(Drop)]
 pub(crate) struct Endings {
-    names: Vec<Text>,
+    names: NameSet,
 }
 
 impl Model for Endings {
     ghost use Rattle.std.specs.Prelude.{List, ℕ};
-    ghost use Rattle.std.specs.List.Sorted.{IsSorted};
-    ghost use Rattle.hx_object.specs.Texts.{bytes_cmp};
 
     ghost Value = { List (List ℕ) };
 
-    ghost view = { λ e. e.names.items };
-
-    ghost invariant = { λ e. IsSorted bytes_cmp e.names.items };
+    ghost view = { λ e. e.names };
 }
 
 impl Endings {
@@ -35,9 +32,9 @@ impl Endings {
     pub(crate) fn of(alloc: Global, writes: &[Change]) -> Result<Endings, NoMemory>
         ensures { IfOk result (λ endings. (q : List ℕ) → is_in q endings ≡ is_in q (ending_names writes.now)) }
     {
-        let mut names = Vec::new(alloc);
-        push_endings(&mut names, writes)?;
-        names.sort_unstable();
+        let mut endings = Vec::new(alloc);
+        push_endings(&mut endings, writes)?;
+        let names = NameSet::new(endings);
         Ok(Endings { names })
     }
 
@@ -45,7 +42,7 @@ impl Endings {
     fn has(&self, name: &Text) -> bool
         ensures { result ≡ is_in name.now self.now }
     {
-        self.names.as_slice().binary_search(name).is_ok()
+        self.names.has(name)
     }
 
     /// Whether the parent of a namespace is another, and among them.

@@ -1,20 +1,24 @@
 // Namespaces get other parents.
-ghost use Rattle.std.specs.Prelude.{◌≡◌, ◌++◌, ◌∷◌, true, false, not, None, IfOk, OnOk, filter, flat_map, option_copied};
-ghost use Rattle.hx_model.specs.Forest.{chain_of, is_in};
+ghost use Rattle.std.specs.Prelude.{◌≡◌, ◌++◌, true, false, not, None, IfOk, OnOk, flat_map, option_copied};
+ghost use Rattle.hx_model.specs.Forest.{is_in};
 ghost use Rattle.hx_model.specs.Moves.{chain_from, is_open_above, up_to};
 ghost use Rattle.hx_model.specs.TreeLabels.{is_open};
 ghost use Rattle.hx_marks.specs.Before.{comes_back_by, opens_under};
 ghost use Rattle.hx_marks.specs.Reads.{state_in};
-ghost use Rattle.hx_marks.specs.Law.{all_of, all_sent, apart, in_one, moved_by, sent_marks};
+ghost use Rattle.hx_marks.specs.Law.{all_sent, apart, in_one, moved_by, sent_marks};
 
-use crate::below::{chain_from, live_below, push_names};
+use crate::below::{chain_from, live_below};
 use crate::current::Current;
-use crate::senders::all_by_chains;
-use crate::wants::{all_of, all_sent, keys_for, may_send};
+use crate::links::all_by_ways;
+use crate::name_set::NameSet;
+use crate::wants::{all_sent, keys_for, may_send};
 use hx_forest::Forest;
 use hx_model::Key;
 use hx_object::{NoMemory, Shared, Text};
 use std::alloc::Global;
+
+/// How many names are looked through one after the other.
+const FEW: usize = 16;
 
 /// Marks what a namespace and those below it may want which gets another parent. It takes part before it moves, or after it.
 pub(crate) fn move_marks(
@@ -77,8 +81,10 @@ fn closing_marks(current: &Current, name: &Text, keys: &mut Vec<Key>) -> Result<
     requires part { is_open current.now.forest.now.nodes name.now ≡ true }
     ensures { OnOk result (keys.new.items ≡ keys.old.items ++ moved_by (state_in current.now) name.now None None true false) }
 {
+    let parent = current.forest.parent(name);
+    let above = chain_from(current.store.allocator(), current.forest, parent)?;
     let members = live_below(current.forest, name)?;
-    all_by_chains(current, &members, keys)
+    all_by_ways(current, name, &above, &members, keys)
 }
 
 /// Marks all that a subtree may want which begins to take part.
@@ -108,27 +114,6 @@ fn sent_marks(sent: &[Shared], members: &[Text], keys: &mut Vec<Key>) -> Result<
     Ok(())
 }
 
-/// Marks all that some namespaces may want below one whose chain goes on with `above`.
-fn all_by_ways(
-    current: &Current,
-    name: &Text,
-    above: &[Text],
-    members: &[Text],
-    keys: &mut Vec<Key>,
-) -> Result<(), NoMemory>
-    ensures { OnOk result (keys.new.items ≡ keys.old.items ++ flat_map (λ m. all_of current.now.store.now.objects (up_to name.now (chain_of current.now.forest.now.nodes m) ++ name.now ∷ above.now) m) members.now) }
-{
-    for member in members {
-        let mut way = Vec::new(current.store.allocator());
-        let chain = current.forest.chain(member)?;
-        push_up_to(&mut way, name, &chain)?;
-        way.push(name.clone()?)?;
-        push_names(&mut way, above)?;
-        all_of(current.store, &way, member, keys)?;
-    }
-    Ok(())
-}
-
 /// Adds the names before that of a namespace.
 pub(crate) fn push_up_to(list: &mut Vec<Text>, name: &Text, names: &[Text]) -> Result<(), NoMemory>
     ensures { OnOk result (list.new.items ≡ list.old.items ++ up_to name.now names.now) }
@@ -152,12 +137,35 @@ pub(crate) fn in_one(alloc: Global, a: &[Text], b: &[Text]) -> Result<Vec<Text>,
     Ok(names)
 }
 
-/// Adds the names that aren't among others.
+/// Adds the names that aren't among others. A few of those are looked through, and more are searched in order.
 fn push_apart(list: &mut Vec<Text>, names: &[Text], others: &[Text]) -> Result<(), NoMemory>
+    ensures { OnOk result (list.new.items ≡ list.old.items ++ apart names.now others.now) }
+{
+    if others.len() <= FEW {
+        return push_unlike(list, names, others);
+    }
+    let set = NameSet::of(*list.allocator(), others)?;
+    push_missing(list, names, &set)
+}
+
+/// Adds the names that aren't among a few others.
+fn push_unlike(list: &mut Vec<Text>, names: &[Text], others: &[Text]) -> Result<(), NoMemory>
     ensures { OnOk result (list.new.items ≡ list.old.items ++ apart names.now others.now) }
 {
     for name in names {
         if !is_in(name, others) {
+            list.push(name.clone()?)?;
+        }
+    }
+    Ok(())
+}
+
+/// Adds the names that a set doesn't have.
+fn push_missing(list: &mut Vec<Text>, names: &[Text], others: &NameSet) -> Result<(), NoMemory>
+    ensures { OnOk result (list.new.items ≡ list.old.items ++ apart names.now others.now) }
+{
+    for name in names {
+        if !others.has(name) {
             list.push(name.clone()?)?;
         }
     }

@@ -34,7 +34,7 @@ pub(crate) fn all_by_chains(
 }
 
 /// The kinds that are propagated.
-fn sent_kinds(store: &Store) -> Result<Vec<Kind>, NoMemory>
+pub(crate) fn sent_kinds(store: &Store) -> Result<Vec<Kind>, NoMemory>
     ensures { IfOk result (λ kinds. kinds.items ≡ sent_kinds store.now.objects) }
 {
     let mut kinds = Vec::new(store.allocator());
@@ -144,8 +144,25 @@ fn push_senders(
     Ok(())
 }
 
+/// The same of a list.
+pub(crate) fn push_sending(
+    store: &Store,
+    kinds: &[Kind],
+    names: &[Text],
+    senders: &mut Vec<Text>,
+) -> Result<(), NoMemory>
+    ensures { OnOk result (senders.new.items ≡ senders.old.items ++ senders_of store.now.objects kinds.now names.now) }
+{
+    for name in names {
+        if is_sender(store, kinds, name)? {
+            senders.push(name.clone()?)?;
+        }
+    }
+    Ok(())
+}
+
 /// Puts a namespace before the others, where it sends something.
-fn put_first(
+pub(crate) fn put_first(
     store: &Store,
     kinds: &[Kind],
     name: &Text,

@@ -3,7 +3,7 @@ use Rattle.std.specs.List.Sorted.{IsSorted}
 use Rattle.hx_object.specs.Texts.{bytes_cmp}
 use Rattle.hx_model.specs.Forest.{is_in}
 use Rattle.hx_marks.proofs.Searching.{searched}
-use Rattle.hx_marks.proofs.endings.Endings.has.Goals as goal
+use Rattle.hx_marks.proofs.name_set.NameSet.has.Goals as goal
 
 pub returns : goal.returns
 returns c =

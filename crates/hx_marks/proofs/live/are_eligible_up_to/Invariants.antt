@@ -1,7 +1,7 @@
 use Rattle.std.proofs.Common.{◌≡◌}
 use Rattle.std.specs.List.{list_all}
 use Rattle.hx_model.specs.Moves.{up_to, is_eligible}
-use Rattle.hx_marks.proofs.below.are_eligible_up_to.Given as goal
+use Rattle.hx_marks.proofs.live.are_eligible_up_to.Given as goal
 
 -- those that are left tell what all do
 abbrev pub invariant-loop-member : goal.invariant-loop-member

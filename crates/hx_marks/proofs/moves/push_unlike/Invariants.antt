@@ -1,6 +1,6 @@
 use Rattle.std.proofs.Common.{◌≡◌, ◌++◌, drop}
 use Rattle.hx_marks.specs.Law.{apart}
-use Rattle.hx_marks.proofs.moves.push_apart.Given as goal
+use Rattle.hx_marks.proofs.moves.push_unlike.Given as goal
 
 -- the names so far, and those of the rest
 abbrev pub invariant-loop-name : goal.invariant-loop-name
