@@ -1,15 +1,16 @@
 -- Exactly the keys that want a write are marked.
 --     among_filter     a key among those that pass
 --     wanting_waits    the keys that want a write, of the namespaces
---     marked           where they are marked, and nothing else was, they alone wait
-use Rattle.std.proofs.Common.{◌≡◌, ℕ, Bool, true, false, cond, ◌&&◌, ◌||◌, Option, Some, None, List, [], ◌∷◌, filter, refl, sym, ap, ◌∙◌, true≢false}
+--     marked_alone     where they are marked, and nothing else was, exactly they wait
+--     none_held, none_again    and no worker holds anything
+use Rattle.std.proofs.Common.{◌≡◌, Bool, true, false, cond, ◌&&◌, ◌||◌, Option, Some, None, List, [], ◌∷◌, filter, refl, sym, ap, ◌∙◌, true≢false}
 use Rattle.std.specs.Prelude.{is_some, not}
 use Rattle.std.specs.List.{list_any}
 use Rattle.hx_object.specs.declared.object.Object.{Object}
-use Rattle.hx_model.specs.Forest.{Forest}
 use Rattle.hx_model.specs.Hands.{is_held}
 use Rattle.hx_model.specs.Keys.{same_key, is_among}
-use Rattle.hx_model.specs.State.{State, Objects}
+use Rattle.hx_model.specs.Machine.{wants}
+use Rattle.hx_model.specs.State.{State}
 use Rattle.hx_model.specs.Tree.{forest_of}
 use Rattle.hx_model.specs.Wanted.{wanted_write}
 use Rattle.hx_model.specs.declared.key.Key.{Key}
@@ -17,8 +18,8 @@ use Rattle.hx_model.specs.declared.key.Write.{Write}
 use Rattle.hx_marks.specs.Law.{known_of}
 use Rattle.hx_marks.proofs.Among.{same_key_is, same_key_itself, among_append}
 use Rattle.hx_queue.specs.Workers.{WorkersView, IsMarkedBy, no_work}
-use Rattle.hx_briefs.specs.Wants.{HasTree, AreMarked, namespaces, wants_by, wanting_of, wanting_in}
-use Rattle.hx_briefs.proofs.Wanting.{known_listed, wants_in}
+use Rattle.hx_briefs.specs.Wants.{namespaces, wanting_of, wanting_in}
+use Rattle.hx_briefs.proofs.Wanting.{known_listed}
 
 and_none : (a : Bool) → (a && false) ≡ false
 and_none true = refl
@@ -49,25 +50,22 @@ pub among_filter : (k : Key) (p : Key → Bool) (xs : List Key) → is_among k (
 among_filter k p [] = sym (and_none (p k))
 among_filter k p (x ∷ xs) = step k x (filter p xs) (p k && is_among k xs) (p x) (among_filter k p xs) ∙ like k x p (is_among k xs) (same_key k x) (p x) refl refl
 
-among_wanting : (excluded : List (List ℕ)) (objects : Objects) (f : Forest) (k : Key) (xs : List Object) → is_among k (wanting_in excluded objects f xs) ≡ (wants_by excluded objects f k && list_any (λ (x : Object). is_among k (known_of objects f x.id.name)) xs)
-among_wanting excluded objects f k [] = sym (and_none (wants_by excluded objects f k))
-among_wanting excluded objects f k (x ∷ xs) =
-    among_append k (wanting_of excluded objects f x.id.name) (wanting_in excluded objects f xs)
-    ∙ (λ i. among_filter k (wants_by excluded objects f) (known_of objects f x.id.name) i || among_wanting excluded objects f k xs i)
-    ∙ both_or (wants_by excluded objects f k) (is_among k (known_of objects f x.id.name)) (list_any (λ (y : Object). is_among k (known_of objects f y.id.name)) xs)
+among_wanting : (s : State) (k : Key) (xs : List Object) → is_among k (wanting_in s xs) ≡ (wants s k && list_any (λ (x : Object). is_among k (known_of s.objects (forest_of s) x.id.name)) xs)
+among_wanting s k [] = sym (and_none (wants s k))
+among_wanting s k (x ∷ xs) =
+    among_append k (wanting_of s x.id.name) (wanting_in s xs)
+    ∙ (λ i. among_filter k (wants s) (known_of s.objects (forest_of s) x.id.name) i || among_wanting s k xs i)
+    ∙ both_or (wants s k) (is_among k (known_of s.objects (forest_of s) x.id.name)) (list_any (λ (y : Object). is_among k (known_of s.objects (forest_of s) y.id.name)) xs)
 
-pub wanting_waits : (excluded : List (List ℕ)) (objects : Objects) (f : Forest) (s : State) → HasTree excluded objects f s → (k : Key) → is_among k (wanting_in excluded objects f (namespaces objects)) ≡ is_some (wanted_write s k)
-wanting_waits excluded objects f s has k = among_wanting excluded objects f k (namespaces objects) ∙ ap (λ b. b && known) (wants_in excluded objects f s k has) ∙ by (wanted_write s k) refl
+pub wanting_waits : (s : State) (k : Key) → is_among k (wanting_in s (namespaces s.objects)) ≡ wants s k
+wanting_waits s k = among_wanting s k (namespaces s.objects) ∙ by (wanted_write s k) refl
   where
     known : Bool
-    known = list_any (λ (x : Object). is_among k (known_of objects f x.id.name)) (namespaces objects)
-
-    same : list_any (λ (x : Object). is_among k (known_of s.objects (forest_of s) x.id.name)) (namespaces s.objects) ≡ known
-    same i = list_any (λ (x : Object). is_among k (known_of (has.objects i) (has.tree i) x.id.name)) (namespaces (has.objects i))
+    known = list_any (λ (x : Object). is_among k (known_of s.objects (forest_of s) x.id.name)) (namespaces s.objects)
 
     by : (o : Option Write) → wanted_write s k ≡ o → (is_some o && known) ≡ is_some o
     by None is = refl
-    by (Some write) is = sym same ∙ known_listed s k (λ none. true≢false (ap is_some (sym is ∙ none)))
+    by (Some write) is = known_listed s k (λ none. true≢false (ap is_some (sym is ∙ none)))
 
 -- ---- marks
 
@@ -76,17 +74,20 @@ none_there : (keys : List Key) → ((k : Key) → is_among k keys ≡ false) →
 none_there [] none = refl
 none_there (k ∷ keys) none = absurd (true≢false (sym (ap (λ b. b || is_among k keys) (same_key_itself k)) ∙ none k))
 
-pub marked : (excluded : List (List ℕ)) (objects : Objects) (f : Forest) (s : State) (keys : List Key) (old new : WorkersView) → HasTree excluded objects f s → old ≡ no_work → keys ≡ wanting_in excluded objects f (namespaces objects) → IsMarkedBy keys old new → AreMarked s new
-marked excluded objects f s keys old new has fresh are m = record {
-  hands = m.hands ∙ ap (λ (v : WorkersView). v.hands) fresh;
-  waiting = λ k.
+module _ (keys : List Key) (old new : WorkersView) (fresh : old ≡ no_work) (m : IsMarkedBy keys old new) where
+  pub marked_alone : (s : State) → keys ≡ wanting_in s (namespaces s.objects) → (k : Key) → is_among k new.waiting ≡ wants s k
+  marked_alone s are k =
       m.waiting k
       ∙ ap (λ (v : WorkersView). is_among k v.waiting || (is_among k keys && not (is_held k v.hands))) fresh
       ∙ and_all (is_among k keys)
       ∙ ap (is_among k) are
-      ∙ wanting_waits excluded objects f s has k;
-  again = none_there new.again (λ k.
+      ∙ wanting_waits s k
+
+  pub none_held : new.hands ≡ []
+  none_held = m.hands ∙ ap (λ (v : WorkersView). v.hands) fresh
+
+  pub none_again : new.again ≡ []
+  none_again = none_there new.again (λ k.
       m.again k
       ∙ ap (λ (v : WorkersView). is_among k v.again || (is_among k keys && is_held k v.hands)) fresh
-      ∙ and_none (is_among k keys));
-}
+      ∙ and_none (is_among k keys))

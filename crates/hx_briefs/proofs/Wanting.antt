@@ -1,10 +1,8 @@
--- Which keys want a write: by objects and their tree, as in a state.
---     facts_same, guards_same   what is copied out of objects and their tree is copied out of a state
---     stands_for                a brief of them stands for the state
---     planned_for               what is planned for a brief of a key
---     wanted_in, wants_in       the write of a key is the wanted one of the state
---     wants_told                whether there is one
---     known_listed              a key that wants a write is known of a namespace that is listed
+-- Which keys want a write.
+--     stands_for           a brief of the parts of a state stands for it
+--     wanted_here          the write of a key is planned by the facts of the state
+--     wanted_by            what is planned for a brief of a key is the wanted write
+--     known_listed         a key that wants a write is known of a namespace that is listed
 use Rattle.std.proofs.Common.{◌≡◌, ◌≢◌, ℕ, Bool, true, false, cond, ◌&&◌, ◌||◌, ◌==◌, Option, Some, None, List, [], ◌∷◌, ◌++◌, map, filter, refl, sym, ap, ◌∙◌, subst, true≢false}
 use Rattle.std.specs.Prelude.{is_some, is_none, not, if◌then◌else◌}
 use Rattle.std.specs.List.{list_any}
@@ -19,11 +17,10 @@ use Rattle.hx_model.specs.Cases.{is_leaving}
 use Rattle.hx_model.specs.Forest.{Forest, node_of, is_live, is_excluded, halt_of, chain_of}
 use Rattle.hx_model.specs.Keys.{is_among}
 use Rattle.hx_model.specs.Moves.{is_eligible}
-use Rattle.hx_model.specs.Quotas.{used}
-use Rattle.hx_model.specs.State.{State, Objects, object_at}
+use Rattle.hx_model.specs.State.{State, Objects}
 use Rattle.hx_model.specs.Tree.{forest_of, namespaces_in, node_in}
 use Rattle.hx_model.specs.TreeLabels.{is_open}
-use Rattle.hx_model.specs.Wanted.{wanted_write, guards_of, quota_id, sums_of}
+use Rattle.hx_model.specs.Wanted.{wanted_write, guards_of}
 use Rattle.hx_model.specs.declared.key.Key.{Key}
 use Rattle.hx_model.specs.declared.key.Key.TheVariants as key
 use Rattle.hx_model.specs.declared.key.Write.{Write}
@@ -37,54 +34,17 @@ use Rattle.hx_marks.specs.Reports.{report_keys}
 use Rattle.hx_marks.specs.Usage.{usage_keys}
 use Rattle.hx_reconcile.specs.Briefs.{StandsFor, facts_of, planned, planned_by}
 use Rattle.hx_reconcile.specs.declared.brief.Brief.{Brief}
-use Rattle.hx_reconcile.specs.declared.brief.Facts.{Facts}
-use Rattle.hx_reconcile.specs.declared.brief.Facts.TheVariants as found
-use Rattle.hx_briefs.specs.Briefing.{facts_by, guards_by, sums_by}
-use Rattle.hx_briefs.specs.Wants.{HasTree, namespaces, wants_by}
+use Rattle.hx_briefs.specs.Briefing.{AreParts}
+use Rattle.hx_briefs.specs.Wants.{namespaces}
 
 -- ---- what is copied out
 
--- the sums of a quota
-sums_here : (s : State) (n : List ℕ) (quota : Option Object) → sums_by s.objects (forest_of s) n quota ≡ sums_of s n quota
-unfolding used
-sums_here s n None = refl
-sums_here s n (Some x) = refl
-
-facts_here : (s : State) (k : Key) → facts_by s.config.excluded s.objects (forest_of s) k ≡ facts_of s k
-facts_here s (key.Copy n kind name) = refl
-facts_here s (key.Tree n) = refl
-facts_here s (key.Report n) = refl
-facts_here s (key.Child n name) = refl
-facts_here s (key.Anchor n name) = refl
-facts_here s (key.Used n name) = ap (found.Used (is_live (forest_of s) n) (object_at s.objects (quota_id n name))) (sums_here s n (object_at s.objects (quota_id n name)))
-facts_here s (key.Purge n) = refl
-
-guards_here : (s : State) (k : Key) → guards_by s.objects k ≡ guards_of s k
-guards_here s (key.Copy n kind name) = refl
-guards_here s (key.Tree n) = refl
-guards_here s (key.Report n) = refl
-guards_here s (key.Child n name) = refl
-guards_here s (key.Anchor n name) = refl
-guards_here s (key.Used n name) = refl
-guards_here s (key.Purge n) = refl
-
-pub facts_same : (excluded : List (List ℕ)) (objects : Objects) (f : Forest) (s : State) (k : Key) → HasTree excluded objects f s → facts_by excluded objects f k ≡ facts_of s k
-facts_same excluded objects f s k has = sym (λ i. facts_by (has.excludes i) (has.objects i) (has.tree i) k) ∙ facts_here s k
-
-pub guards_same : (objects : Objects) (s : State) (k : Key) → s.objects ≡ objects → guards_by objects k ≡ guards_of s k
-guards_same objects s k same = sym (ap (λ (o : Objects). guards_by o k) same) ∙ guards_here s k
-
-pub stands_for : (excluded : List (List ℕ)) (objects : Objects) (version : ℕ) (f : Forest) (s : State) (k : Key) (b : Brief) → HasTree excluded objects f s → s.last ≡ version
-    → b.key ≡ k → b.seen ≡ version → b.guards ≡ guards_by objects k → b.facts ≡ facts_by excluded objects f k → StandsFor b s
-stands_for excluded objects version f s k b has last key seen guards facts = record {
-  seen = seen ∙ sym last;
-  guards = guards ∙ guards_same objects s k has.objects ∙ ap (guards_of s) (sym key);
-  facts = facts ∙ facts_same excluded objects f s k has ∙ ap (facts_of s) (sym key);
-}
+pub stands_for : (s : State) (k : Key) (brief : Brief) → AreParts s k brief → StandsFor brief s
+stands_for s k brief parts = record { seen = parts.1; guards = parts.2 ∙ ap (guards_of s) (sym parts.0); facts = parts.3 ∙ ap (facts_of s) (sym parts.0) }
 
 -- ---- what is wanted
 
-wanted_here : (s : State) (k : Key) → planned k (facts_of s k) ≡ wanted_write s k
+pub wanted_here : (s : State) (k : Key) → planned k (facts_of s k) ≡ wanted_write s k
 wanted_here s (key.Copy n kind name) = refl
 wanted_here s (key.Tree n) = refl
 wanted_here s (key.Report n) = refl
@@ -94,19 +54,8 @@ wanted_here s (key.Used n name) = refl
 wanted_here s (key.Purge n) = refl
 
 -- what is planned for a brief of a key
-pub planned_for : (bare given : Brief) (k : Key) (facts : Facts) (write : Option Write) → write ≡ planned_by given → given ≡ bare → bare.key ≡ k → bare.facts ≡ facts → write ≡ planned k facts
-planned_for bare given k facts write planned_so same key found = planned_so ∙ ap planned_by same ∙ (λ i. planned (key i) (found i))
-
-pub wanted_in : (excluded : List (List ℕ)) (objects : Objects) (f : Forest) (s : State) (k : Key) → HasTree excluded objects f s → planned k (facts_by excluded objects f k) ≡ wanted_write s k
-wanted_in excluded objects f s k has = ap (planned k) (facts_same excluded objects f s k has) ∙ wanted_here s k
-
-pub wants_in : (excluded : List (List ℕ)) (objects : Objects) (f : Forest) (s : State) (k : Key) → HasTree excluded objects f s → wants_by excluded objects f k ≡ is_some (wanted_write s k)
-unfolding wants_by
-wants_in excluded objects f s k has = ap is_some (wanted_in excluded objects f s k has)
-
-pub wants_told : (excluded : List (List ℕ)) (objects : Objects) (f : Forest) (k : Key) (r : Bool) (write : Option Write) → r ≡ is_some write → write ≡ planned k (facts_by excluded objects f k) → r ≡ wants_by excluded objects f k
-unfolding wants_by
-wants_told excluded objects f k r write told is = told ∙ ap is_some is
+pub wanted_by : (s : State) (k : Key) (bare given : Brief) (write : Option Write) → write ≡ planned_by given → given ≡ bare → bare.key ≡ k → bare.facts ≡ facts_of s k → write ≡ wanted_write s k
+wanted_by s k bare given write planned_so same key found = planned_so ∙ ap planned_by same ∙ (λ i. planned (key i) (found i)) ∙ wanted_here s k
 
 -- ---- namespaces that are listed
 

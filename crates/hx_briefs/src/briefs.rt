@@ -1,55 +1,50 @@
 // What plans are made from, copied out of a state.
 ghost use Rattle.std.specs.Prelude.{◌≡◌, IfOk};
 ghost use Rattle.hx_model.specs.declared.key.Key.TheVariants as key;
-ghost use Rattle.hx_quota.specs.SubtreeUsage.{IsCounted};
-ghost use Rattle.hx_briefs.specs.Briefing.{facts_by, guards_by};
+ghost use Rattle.hx_reconcile.specs.Briefs.{StandsFor};
+ghost use Rattle.hx_briefs.specs.Briefing.{AreParts};
 
 use crate::facts::{facts_of, purge_facts};
 use crate::guards::{guards_of, purge_guards};
-use hx_forest::Forest;
-use hx_model::{Key, RunConfig};
+use hx_model::Key;
 use hx_object::{NoMemory, Text};
-use hx_quota::Usage;
 use hx_reconcile::Brief;
-use hx_store::Store;
+use hx_state::IndexedState;
 
-/// What the plan of a key is made from.
-pub fn brief_of(
-    store: &Store,
-    forest: &Forest,
-    usage: &Usage,
-    config: &RunConfig,
-    key: &Key,
-) -> Result<Brief, NoMemory>
-    requires counted { IsCounted store.now.objects forest.now.nodes usage.now.now }
-    ensures { IfOk result (λ b. (b.key ≡ key.now) × (b.seen ≡ store.now.version) × (b.guards ≡ guards_by store.now.objects key.now) × (b.facts ≡ facts_by config.now.excluded store.now.objects forest.now.nodes key.now)) }
+/// What the plan of a key is made from, as a state is.
+#[tactic(auto, using(crate::proofs::Wanting::stands_for))]
+pub fn brief_of(state: &IndexedState, key: &Key) -> Result<Brief, NoMemory>
+    ensures key { IfOk result (λ brief. brief.key ≡ key.now) }
+    ensures stands { IfOk result (λ brief. StandsFor brief state.now.state) }
+{
+    let brief = parts_of(state, key)?;
+    Ok(brief)
+}
+
+fn parts_of(state: &IndexedState, key: &Key) -> Result<Brief, NoMemory>
+    ensures { IfOk result (AreParts state.now.state key.now) }
 {
     if let Key::Purge { ns } = key {
-        return purge_brief(store, forest, config, ns);
+        return purge_brief(state, ns);
     }
     Ok(Brief {
         key: copy_of(key)?,
-        seen: store.version(),
-        guards: guards_of(store, key)?,
-        facts: facts_of(store, forest, usage, config, key)?,
+        seen: state.version(),
+        guards: guards_of(state, key)?,
+        facts: facts_of(state, key)?,
     })
 }
 
 /// What the plan of a removal is made from. Its guards and its facts tell of the same object, which is looked for once.
-fn purge_brief(
-    store: &Store,
-    forest: &Forest,
-    config: &RunConfig,
-    ns: &Text,
-) -> Result<Brief, NoMemory>
-    ensures { IfOk result (λ b. (b.key ≡ key.Purge ns.now) × (b.seen ≡ store.now.version) × (b.guards ≡ guards_by store.now.objects (key.Purge ns.now)) × (b.facts ≡ facts_by config.now.excluded store.now.objects forest.now.nodes (key.Purge ns.now))) }
+fn purge_brief(state: &IndexedState, ns: &Text) -> Result<Brief, NoMemory>
+    ensures { IfOk result (AreParts state.now.state (key.Purge ns.now)) }
 {
-    let least = store.least(ns);
+    let least = state.store().least(ns);
     Ok(Brief {
         key: Key::Purge { ns: ns.clone()? },
-        seen: store.version(),
-        guards: purge_guards(store, least, ns)?,
-        facts: purge_facts(forest, least, ns)?,
+        seen: state.version(),
+        guards: purge_guards(state, least, ns)?,
+        facts: purge_facts(state, least, ns)?,
     })
 }
 

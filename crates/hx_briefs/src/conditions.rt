@@ -2,25 +2,20 @@
 ghost use Rattle.std.specs.Prelude.{◌≡◌, ◌++◌, false, IfOk, OnOk, option_copied, option_map};
 ghost use Rattle.std.specs.Option.{option_map_or};
 ghost use Rattle.hx_model.specs.Propagation.{as_list};
-ghost use Rattle.hx_model.specs.Reports.{condition_of, conditions_in, misses_anchor};
+ghost use Rattle.hx_model.specs.Reports.{condition_of, conditions_of, misses_anchor};
 
 use crate::lookups::{anchor, namespace};
-use hx_forest::Forest;
 use hx_model::{Halt, subnamespace_parent};
 use hx_object::{Condition, NoMemory, Object, Shared, Text};
-use hx_store::Store;
+use hx_state::IndexedState;
 
 /// Why a namespace is halted, and that it misses its anchor.
-pub(crate) fn conditions_of(
-    store: &Store,
-    forest: &Forest,
-    ns: &Text,
-) -> Result<Vec<Condition>, NoMemory>
-    ensures { IfOk result (λ told. told.items ≡ conditions_in store.now.objects forest.now.nodes ns.now) }
+pub(crate) fn conditions_of(state: &IndexedState, ns: &Text) -> Result<Vec<Condition>, NoMemory>
+    ensures { IfOk result (λ told. told.items ≡ conditions_of state.now.state ns.now) }
 {
-    let mut told = Vec::new(store.allocator());
-    push_reason(forest.halt(ns), &mut told)?;
-    if lacks_anchor(store, ns, namespace(store, ns)) {
+    let mut told = Vec::new(state.allocator());
+    push_reason(state.forest().halt(ns), &mut told)?;
+    if lacks_anchor(state, ns, namespace(state, ns)) {
         told.push(Condition::AnchorMissing)?;
     }
     Ok(told)
@@ -48,21 +43,21 @@ fn condition_of(halt: Halt) -> Condition
 }
 
 /// Whether a namespace is found that misses its anchor.
-fn lacks_anchor(store: &Store, ns: &Text, found: Option<&Shared>) -> bool
-    ensures { result ≡ option_map_or (misses_anchor store.now.objects ns.now) (option_copied found.entry) false }
+fn lacks_anchor(state: &IndexedState, ns: &Text, found: Option<&Shared>) -> bool
+    ensures { result ≡ option_map_or (misses_anchor state.now.state.objects ns.now) (option_copied found.entry) false }
 {
     match found {
-        Some(shared) => misses_anchor(store, ns, shared.object()),
+        Some(shared) => misses_anchor(state, ns, shared.object()),
         None => false,
     }
 }
 
 /// Whether the parent of a subnamespace is there and holds no anchor of its name.
-fn misses_anchor(store: &Store, ns: &Text, found: &Object) -> bool
-    ensures { result ≡ misses_anchor store.now.objects ns.now found.now }
+fn misses_anchor(state: &IndexedState, ns: &Text, found: &Object) -> bool
+    ensures { result ≡ misses_anchor state.now.state.objects ns.now found.now }
 {
     match subnamespace_parent(found) {
-        Some(parent) => namespace(store, parent).is_some() && anchor(store, parent, ns).is_none(),
+        Some(parent) => namespace(state, parent).is_some() && anchor(state, parent, ns).is_none(),
         None => false,
     }
 }

@@ -1,145 +1,119 @@
 // What the writes of keys depend on.
-ghost use Rattle.std.specs.Prelude.{◌≡◌, ◌||◌, IfOk, option_copied};
-ghost use Rattle.hx_model.specs.Forest.{is_in};
-ghost use Rattle.hx_model.specs.State.{object_at, namespace_id};
-ghost use Rattle.hx_model.specs.Wanted.{status_by};
-ghost use Rattle.hx_quota.specs.SubtreeUsage.{IsCounted};
-ghost use Rattle.hx_briefs.specs.Briefing.{anchor_facts, child_facts, copy_facts, facts_by, id_found, purge_facts, report_facts, tree_facts, used_facts};
+ghost use Rattle.std.specs.Prelude.{◌≡◌, IfOk, option_copied};
+ghost use Rattle.hx_model.specs.Cases.{is_leaving};
+ghost use Rattle.hx_model.specs.Tree.{forest_of};
+ghost use Rattle.hx_model.specs.Wanted.{anchor_status};
+ghost use Rattle.hx_model.specs.declared.key.Key.TheVariants as key;
+ghost use Rattle.hx_reconcile.specs.Briefs.{facts_of};
+ghost use Rattle.hx_reconcile.specs.declared.brief.Facts.TheVariants as facts;
+ghost use Rattle.hx_briefs.specs.Briefing.{id_found};
 
 use crate::conditions::conditions_of;
-use crate::lookups::{anchor, hierarchy, mode_of, namespace, quota, share};
+use crate::lookups::{anchor, hierarchy, inner, mode_of, namespace, quota, share};
 use crate::sources::sources_above;
-use crate::usage::sums_of;
-use hx_forest::Forest;
-use hx_model::{Key, RunConfig, is_owned_by};
+use crate::sums::sums_of;
+use hx_model::{Key, is_owned_by};
 use hx_object::{AnchorStatus, Id, Kind, List, NoMemory, Shared, Text};
-use hx_quota::Usage;
 use hx_reconcile::Facts;
-use hx_store::Store;
+use hx_state::IndexedState;
 use std::alloc::Global;
 
 /// What the write of a key depends on.
-pub fn facts_of(
-    store: &Store,
-    forest: &Forest,
-    usage: &Usage,
-    config: &RunConfig,
-    key: &Key,
-) -> Result<Facts, NoMemory>
-    requires counted { IsCounted store.now.objects forest.now.nodes usage.now.now }
-    ensures { IfOk result (λ facts. facts ≡ facts_by config.now.excluded store.now.objects forest.now.nodes key.now) }
+pub(crate) fn facts_of(state: &IndexedState, key: &Key) -> Result<Facts, NoMemory>
+    ensures { IfOk result (λ made. made ≡ facts_of state.now.state key.now) }
 {
     match key {
-        Key::Copy { ns, kind, name } => copy_facts(store, forest, ns, *kind, name),
-        Key::Tree { ns } => tree_facts(store, forest, ns),
-        Key::Report { ns } => report_facts(store, forest, ns),
-        Key::Child { ns, name } => Ok(child_facts(store, forest, config, ns, name)),
-        Key::Anchor { ns, name } => anchor_facts(store, forest, config, ns, name),
-        Key::Used { ns, name } => used_facts(store, forest, usage, ns, name),
-        Key::Purge { ns } => purge_facts(forest, store.least(ns), ns),
+        Key::Copy { ns, kind, name } => copy_facts(state, ns, *kind, name),
+        Key::Tree { ns } => tree_facts(state, ns),
+        Key::Report { ns } => report_facts(state, ns),
+        Key::Child { ns, name } => Ok(child_facts(state, ns, name)),
+        Key::Anchor { ns, name } => anchor_facts(state, ns, name),
+        Key::Used { ns, name } => used_facts(state, ns, name),
+        Key::Purge { ns } => purge_facts(state, state.store().least(ns), ns),
     }
 }
 
 /// What the copy of a kind and name in a namespace depends on.
-fn copy_facts(
-    store: &Store,
-    forest: &Forest,
-    ns: &Text,
-    kind: Kind,
-    name: &Text,
-) -> Result<Facts, NoMemory>
-    ensures { IfOk result (λ made. made ≡ copy_facts store.now.objects forest.now.nodes ns.now kind name.now) }
+fn copy_facts(state: &IndexedState, ns: &Text, kind: Kind, name: &Text) -> Result<Facts, NoMemory>
+    ensures { IfOk result (λ made. made ≡ facts_of state.now.state (key.Copy ns.now kind name.now)) }
 {
     Ok(Facts::Copy {
-        ns: share(namespace(store, ns))?,
-        is_open: forest.is_open(ns),
-        place: share(store.find(kind, ns.as_str(), name.as_str()))?,
-        mode: mode_of(store, kind),
-        sources: List::of(sources_above(store, forest, ns, kind, name)?),
+        ns: share(namespace(state, ns))?,
+        is_open: state.forest().is_open(ns),
+        place: share(inner(state, kind, ns, name))?,
+        mode: mode_of(state, kind),
+        sources: List::of(sources_above(state, ns, kind, name)?),
     })
 }
 
 /// What a namespace's tree labels depend on.
-fn tree_facts(store: &Store, forest: &Forest, ns: &Text) -> Result<Facts, NoMemory>
-    ensures { IfOk result (λ made. made ≡ tree_facts store.now.objects forest.now.nodes ns.now) }
+fn tree_facts(state: &IndexedState, ns: &Text) -> Result<Facts, NoMemory>
+    ensures { IfOk result (λ made. made ≡ facts_of state.now.state (key.Tree ns.now)) }
 {
     Ok(Facts::Tree {
-        ns: share(namespace(store, ns))?,
-        is_open: forest.is_open(ns),
-        chain: List::of(forest.chain(ns)?),
+        ns: share(namespace(state, ns))?,
+        is_open: state.forest().is_open(ns),
+        chain: List::of(state.forest().chain(ns)?),
     })
 }
 
 /// What the report of a namespace depends on.
-fn report_facts(store: &Store, forest: &Forest, ns: &Text) -> Result<Facts, NoMemory>
-    ensures { IfOk result (λ made. made ≡ report_facts store.now.objects forest.now.nodes ns.now) }
+fn report_facts(state: &IndexedState, ns: &Text) -> Result<Facts, NoMemory>
+    ensures { IfOk result (λ made. made ≡ facts_of state.now.state (key.Report ns.now)) }
 {
     Ok(Facts::Report {
-        is_eligible: forest.is_eligible(ns),
-        hierarchy: share(hierarchy(store, ns))?,
-        children: List::of(copies_of(store.allocator(), forest.children(ns))?),
-        conditions: List::of(conditions_of(store, forest, ns)?),
+        is_eligible: state.forest().is_eligible(ns),
+        hierarchy: share(hierarchy(state, ns))?,
+        children: List::of(copies_of(state.allocator(), state.forest().children(ns))?),
+        conditions: List::of(conditions_of(state, ns)?),
     })
 }
 
 /// What the subnamespace that an anchor asks for depends on.
-fn child_facts(store: &Store, forest: &Forest, config: &RunConfig, ns: &Text, name: &Text) -> Facts
-    ensures { result ≡ child_facts config.now.excluded store.now.objects forest.now.nodes ns.now name.now }
+fn child_facts(state: &IndexedState, ns: &Text, name: &Text) -> Facts
+    ensures { result ≡ facts_of state.now.state (key.Child ns.now name.now) }
 {
     Facts::Child {
-        is_open: forest.is_open(ns),
-        is_anchored: anchor(store, ns, name).is_some(),
-        is_excluded: config.excludes(name),
-        is_taken: namespace(store, name).is_some(),
+        is_open: state.forest().is_open(ns),
+        is_anchored: anchor(state, ns, name).is_some(),
+        is_excluded: state.config().excludes(name),
+        is_taken: namespace(state, name).is_some(),
     }
 }
 
 /// What the status of an anchor depends on.
-fn anchor_facts(
-    store: &Store,
-    forest: &Forest,
-    config: &RunConfig,
-    ns: &Text,
-    name: &Text,
-) -> Result<Facts, NoMemory>
-    ensures { IfOk result (λ made. made ≡ anchor_facts config.now.excluded store.now.objects forest.now.nodes ns.now name.now) }
+fn anchor_facts(state: &IndexedState, ns: &Text, name: &Text) -> Result<Facts, NoMemory>
+    ensures { IfOk result (λ made. made ≡ facts_of state.now.state (key.Anchor ns.now name.now)) }
 {
     Ok(Facts::Anchor {
-        is_live: forest.is_live(ns),
-        anchor: share(anchor(store, ns, name))?,
-        status: status_of(store, config, ns, name),
+        is_live: state.forest().is_live(ns),
+        anchor: share(anchor(state, ns, name))?,
+        status: status_of(state, ns, name),
     })
 }
 
 /// What the status of a quota depends on.
-fn used_facts(
-    store: &Store,
-    forest: &Forest,
-    usage: &Usage,
-    ns: &Text,
-    name: &Text,
-) -> Result<Facts, NoMemory>
-    requires counted { IsCounted store.now.objects forest.now.nodes usage.now.now }
-    ensures { IfOk result (λ made. made ≡ used_facts store.now.objects forest.now.nodes ns.now name.now) }
+fn used_facts(state: &IndexedState, ns: &Text, name: &Text) -> Result<Facts, NoMemory>
+    ensures { IfOk result (λ made. made ≡ facts_of state.now.state (key.Used ns.now name.now)) }
 {
-    let found = quota(store, ns, name);
+    let found = quota(state, ns, name);
     Ok(Facts::Used {
-        is_live: forest.is_live(ns),
+        is_live: state.forest().is_live(ns),
         quota: share(found)?,
-        sums: List::of(sums_of(store, forest, usage, ns, found)?),
+        sums: List::of(sums_of(state, ns, found)?),
     })
 }
 
 /// What the removal of a namespace depends on, by the first object that lies in it.
 pub(crate) fn purge_facts(
-    forest: &Forest,
+    state: &IndexedState,
     least: Option<&Shared>,
     ns: &Text,
 ) -> Result<Facts, NoMemory>
-    ensures { IfOk result (λ made. made ≡ purge_facts forest.now.nodes (id_found (option_copied least.entry)) ns.now) }
+    ensures { IfOk result (λ made. made ≡ facts.Purge (is_leaving (forest_of state.now.state) ns.now) (id_found (option_copied least.entry))) }
 {
     Ok(Facts::Purge {
-        is_leaving: forest.is_leaving(ns),
+        is_leaving: state.forest().is_leaving(ns),
         least: id_of(least)?,
     })
 }
@@ -155,13 +129,14 @@ fn id_of(found: Option<&Shared>) -> Result<Option<Id>, NoMemory>
 }
 
 /// The status that an anchor is to have.
-fn status_of(store: &Store, config: &RunConfig, ns: &Text, name: &Text) -> AnchorStatus
-    ensures { result ≡ status_by (is_in ns.now config.now.excluded || is_in name.now config.now.excluded) ns.now (object_at store.now.objects (namespace_id name.now)) }
+fn status_of(state: &IndexedState, ns: &Text, name: &Text) -> AnchorStatus
+    ensures { result ≡ anchor_status state.now.state ns.now name.now }
 {
+    let config = state.config();
     if config.excludes(ns) || config.excludes(name) {
         return AnchorStatus::Forbidden;
     }
-    match namespace(store, name) {
+    match namespace(state, name) {
         None => AnchorStatus::Missing,
         Some(found) if is_owned_by(found.object(), ns) => AnchorStatus::Ok,
         Some(_) => AnchorStatus::Conflict,

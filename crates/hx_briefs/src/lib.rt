@@ -8,9 +8,7 @@ mod guards;
 mod lookups;
 mod marking;
 mod sources;
-mod usage;
+mod sums;
 
 pub use briefs::brief_of;
-pub use facts::facts_of;
-pub use guards::guards_of;
-pub use marking::{mark_wanting, wants};
+pub use marking::mark_wanting;

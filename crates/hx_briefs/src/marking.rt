@@ -1,121 +1,78 @@
 // The keys that want a write are marked.
-ghost use Rattle.std.specs.Prelude.{◌≡◌, ◌++◌, OnOk, IfOk, filter, is_some};
-ghost use Rattle.hx_model.specs.State.{State};
+ghost use Rattle.std.specs.Prelude.{◌≡◌, ◌++◌, [], OnOk, IfOk, filter, is_some};
+ghost use Rattle.hx_model.specs.Keys.{is_among};
+ghost use Rattle.hx_model.specs.Machine.{wants};
 ghost use Rattle.hx_model.specs.Wanted.{wanted_write};
+ghost use Rattle.hx_model.specs.declared.key.Key.{Key as key_of};
 ghost use Rattle.hx_queue.specs.Workers.{no_work};
-ghost use Rattle.hx_quota.specs.SubtreeUsage.{IsCounted};
-ghost use Rattle.hx_reconcile.specs.Briefs.{planned};
-ghost use Rattle.hx_briefs.specs.Briefing.{facts_by};
-ghost use Rattle.hx_briefs.specs.Wants.{HasTree, AreMarked, namespaces, wants_by, wanting_of, wanting_in};
+ghost use Rattle.hx_reconcile.specs.Briefs.{facts_of};
+ghost use Rattle.hx_briefs.specs.Wants.{namespaces, wanting_of, wanting_in};
 
 use crate::briefs::copy_of;
 use crate::facts::facts_of;
-use hx_forest::Forest;
 use hx_marks::keys_of;
-use hx_model::{Key, RunConfig};
+use hx_model::Key;
 use hx_object::{Kind, List, NoMemory, Shared, Text};
 use hx_queue::Workers;
-use hx_quota::Usage;
 use hx_reconcile::{Brief, Plan, SharedBrief, plan};
-use hx_store::Store;
+use hx_state::IndexedState;
 
 /// Marks the keys that want a write one by one, and no other ones.
-pub fn mark_wanting(
-    store: &Store,
-    forest: &Forest,
-    usage: &Usage,
-    config: &RunConfig,
-    workers: &mut Workers,
-) -> Result<(), NoMemory>
+pub fn mark_wanting(state: &IndexedState, workers: &mut Workers) -> Result<(), NoMemory>
     requires idle { workers.old.seen ≡ no_work }
-    requires counted { IsCounted store.now.objects forest.now.nodes usage.now.now }
-    ensures marked { OnOk result ((s : State) → HasTree config.now.excluded store.now.objects forest.now.nodes s → AreMarked s workers.new.seen) }
+    ensures waiting { OnOk result ((k : key_of) → is_among k workers.new.seen.waiting ≡ wants state.now.state k) }
+    ensures hands { OnOk result (workers.new.seen.hands ≡ []) }
+    ensures again { OnOk result (workers.new.seen.again ≡ []) }
     ensures scope { workers.new.scope ≡ workers.old.scope }
 {
-    let wanting = wanting_keys(store, forest, usage, config)?;
+    let wanting = wanting_keys(state)?;
     workers.reserve(wanting.len())?;
     workers.mark_all(wanting);
     Ok(())
 }
 
 /// The keys that want a write.
-fn wanting_keys(
-    store: &Store,
-    forest: &Forest,
-    usage: &Usage,
-    config: &RunConfig,
-) -> Result<Vec<Key>, NoMemory>
-    requires counted { IsCounted store.now.objects forest.now.nodes usage.now.now }
-    ensures { IfOk result (λ keys. keys.items ≡ wanting_in config.now.excluded store.now.objects forest.now.nodes (namespaces store.now.objects)) }
+fn wanting_keys(state: &IndexedState) -> Result<Vec<Key>, NoMemory>
+    ensures { IfOk result (λ keys. keys.items ≡ wanting_in state.now.state (namespaces state.now.state.objects)) }
 {
-    let mut wanting = Vec::new(store.allocator());
-    let namespaces = store.list(Kind::Namespace, None)?;
-    push_all(
-        &mut wanting,
-        store,
-        forest,
-        usage,
-        config,
-        namespaces.as_slice(),
-    )?;
+    let mut wanting = Vec::new(state.allocator());
+    let namespaces = state.store().list(Kind::Namespace, None)?;
+    push_all(&mut wanting, state, namespaces.as_slice())?;
     Ok(wanting)
 }
 
 /// Adds the keys of some namespaces that want a write.
 fn push_all(
     wanting: &mut Vec<Key>,
-    store: &Store,
-    forest: &Forest,
-    usage: &Usage,
-    config: &RunConfig,
+    state: &IndexedState,
     namespaces: &[Shared],
 ) -> Result<(), NoMemory>
-    requires counted { IsCounted store.now.objects forest.now.nodes usage.now.now }
-    ensures { OnOk result (wanting.new.items ≡ wanting.old.items ++ wanting_in config.now.excluded store.now.objects forest.now.nodes namespaces.now) }
+    ensures { OnOk result (wanting.new.items ≡ wanting.old.items ++ wanting_in state.now.state namespaces.now) }
 {
     for namespace in namespaces {
-        push_wanting(
-            wanting,
-            store,
-            forest,
-            usage,
-            config,
-            &namespace.object().id.name,
-        )?;
+        push_wanting(wanting, state, &namespace.object().id.name)?;
     }
     Ok(())
 }
 
 /// Adds the keys of a namespace that want a write.
-fn push_wanting(
-    wanting: &mut Vec<Key>,
-    store: &Store,
-    forest: &Forest,
-    usage: &Usage,
-    config: &RunConfig,
-    name: &Text,
-) -> Result<(), NoMemory>
-    requires counted { IsCounted store.now.objects forest.now.nodes usage.now.now }
-    ensures { OnOk result (wanting.new.items ≡ wanting.old.items ++ wanting_of config.now.excluded store.now.objects forest.now.nodes name.now) }
+fn push_wanting(wanting: &mut Vec<Key>, state: &IndexedState, name: &Text) -> Result<(), NoMemory>
+    ensures { OnOk result (wanting.new.items ≡ wanting.old.items ++ wanting_of state.now.state name.now) }
 {
-    let known = keys_of(store, forest, name)?;
-    keep_wanting(wanting, store, forest, usage, config, known)
+    let known = keys_of(state, name)?;
+    keep_wanting(wanting, state, known)
 }
 
 /// Adds those of some keys that want a write.
 fn keep_wanting(
     wanting: &mut Vec<Key>,
-    store: &Store,
-    forest: &Forest,
-    usage: &Usage,
-    config: &RunConfig,
+    state: &IndexedState,
     keys: Vec<Key>,
 ) -> Result<(), NoMemory>
-    requires counted { IsCounted store.now.objects forest.now.nodes usage.now.now }
-    ensures { OnOk result (wanting.new.items ≡ wanting.old.items ++ filter (wants_by config.now.excluded store.now.objects forest.now.nodes) keys.items) }
+    ensures { OnOk result (wanting.new.items ≡ wanting.old.items ++ filter (wants state.now.state) keys.items) }
 {
     for key in keys {
-        if wants(store, forest, usage, config, &key)? {
+        if wants(state, &key)? {
             wanting.push(key)?;
         }
     }
@@ -123,59 +80,34 @@ fn keep_wanting(
 }
 
 /// Whether a key wants a write.
-pub fn wants(
-    store: &Store,
-    forest: &Forest,
-    usage: &Usage,
-    config: &RunConfig,
-    key: &Key,
-) -> Result<bool, NoMemory>
-    requires counted { IsCounted store.now.objects forest.now.nodes usage.now.now }
-    ensures by { IfOk result (λ wants. wants ≡ wants_by config.now.excluded store.now.objects forest.now.nodes key.now) }
-    ensures of_states { IfOk result (λ wants. (s : State) → HasTree config.now.excluded store.now.objects forest.now.nodes s → wants ≡ is_some (wanted_write s key.now)) }
+fn wants(state: &IndexedState, key: &Key) -> Result<bool, NoMemory>
+    ensures { IfOk result (λ wants_it. wants_it ≡ wants state.now.state key.now) }
 {
-    let made = plan_of(store, forest, usage, config, key)?;
+    let made = plan_of(state, key)?;
     Ok(does_write(&made))
 }
 
 /// What a key's plan writes now. It has no guards, since it is looked at alone.
-fn plan_of(
-    store: &Store,
-    forest: &Forest,
-    usage: &Usage,
-    config: &RunConfig,
-    key: &Key,
-) -> Result<Plan, NoMemory>
-    requires counted { IsCounted store.now.objects forest.now.nodes usage.now.now }
-    ensures { IfOk result (λ made. made.write ≡ planned key.now (facts_by config.now.excluded store.now.objects forest.now.nodes key.now)) }
+fn plan_of(state: &IndexedState, key: &Key) -> Result<Plan, NoMemory>
+    ensures { IfOk result (λ made. made.write ≡ wanted_write state.now.state key.now) }
 {
-    let brief = SharedBrief::new(
-        store.allocator(),
-        bare_brief(store, forest, usage, config, key)?,
-    )?;
-    match plan(store.allocator(), brief) {
+    let brief = SharedBrief::new(state.allocator(), bare_brief(state, key)?)?;
+    match plan(state.allocator(), brief) {
         Ok(made) => Ok(made),
         Err(_brief) => Err(NoMemory),
     }
 }
 
 /// What the plan of a key is made from, without its guards.
-fn bare_brief(
-    store: &Store,
-    forest: &Forest,
-    usage: &Usage,
-    config: &RunConfig,
-    key: &Key,
-) -> Result<Brief, NoMemory>
-    requires counted { IsCounted store.now.objects forest.now.nodes usage.now.now }
-    ensures key { IfOk result (λ b. b.key ≡ key.now) }
-    ensures facts { IfOk result (λ b. b.facts ≡ facts_by config.now.excluded store.now.objects forest.now.nodes key.now) }
+fn bare_brief(state: &IndexedState, key: &Key) -> Result<Brief, NoMemory>
+    ensures key { IfOk result (λ brief. brief.key ≡ key.now) }
+    ensures facts { IfOk result (λ brief. brief.facts ≡ facts_of state.now.state key.now) }
 {
     Ok(Brief {
         key: copy_of(key)?,
-        seen: store.version(),
-        guards: List::of(Vec::new(store.allocator())),
-        facts: facts_of(store, forest, usage, config, key)?,
+        seen: state.version(),
+        guards: List::of(Vec::new(state.allocator())),
+        facts: facts_of(state, key)?,
     })
 }
 

@@ -25,4 +25,3 @@ pub mod Simulating
 pub mod Settled
 pub mod Listed
 pub mod Alike
-pub mod Briefing

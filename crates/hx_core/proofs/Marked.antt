@@ -1,5 +1,4 @@
 -- What the marks of writes leave.
---     state_is           the state of a store is that which the marks are of
 --     but_by             marks but for one
 --     marks_within       marks that are made may be made
 --     has_marked         keys were marked that may be
@@ -18,20 +17,12 @@ use Rattle.hx_model.specs.Writes.{MayWriteAll}
 use Rattle.hx_model.specs.declared.key.Key.{Key}
 use Rattle.hx_model.specs.declared.key.Write.{Write}
 use Rattle.hx_marks.proofs.Among.{same_key_is}
-use Rattle.hx_marks.specs.Before.{state_of}
 use Rattle.hx_marks.specs.Halves.{IsRegular}
 use Rattle.hx_marks.specs.Law.{all_marks}
-use Rattle.hx_model.specs.declared.config.RunConfig.{RunConfig}
-use Rattle.hx_store.specs.Kept.{StoreView}
 use Rattle.hx_core.specs.Committing.{HasMarked, marks_but}
 use Rattle.hx_core.specs.Turns.{IsOf}
 use Rattle.hx_queue.specs.Workers.{WorkersView, IsMarkedBy}
 use Rattle.hx_core.proofs.Laws.{within, stays_covered}
-
--- ---- the state that is marked by
-
-pub state_is : (s : State) (store : StoreView) (config : RunConfig) → store.objects ≡ s.objects → store.version ≡ s.last → config ≡ s.config → state_of store config ≡ s
-state_is s store config objects version same = λ i. record { objects = objects i; last = version i; config = same i }
 
 -- ---- marks but for one
 

@@ -5,7 +5,7 @@
 --     tells_state       and are one, under one configuration
 --     intact            a start on the rows of a valid state finds no damage
 --     same_state        a valid state of the rows that another one has is that one, under its own configuration
-use Rattle.std.proofs.Common.{◌≡◌, ◌≢◌, ◌<◌, ◌≤◌, ◌^◌, ℕ, zero, suc, true, false, cond, not, ◌||◌, ◌==◌, nat_lt, List, [], ◌∷◌, map, length, Option, Some, None, IfSome, is_some, Less, Equal, Greater, refl, sym, ap, subst, ◌∙◌, arith, true≢false}
+use Rattle.std.proofs.Common.{◌≡◌, ◌<◌, ◌≤◌, ◌^◌, ℕ, zero, suc, true, false, cond, not, ◌||◌, ◌==◌, nat_lt, List, [], ◌∷◌, map, length, Option, Some, None, IfSome, is_some, Less, Equal, Greater, refl, sym, ap, subst, ◌∙◌, arith, true≢false}
 use Rattle.std.specs.Prelude.{option_map, option_and_then, if◌then◌else◌, drop}
 use Rattle.std.specs.List.{AllByRecursion}
 use Rattle.std.specs.Cmp.{tied_itself}
@@ -17,7 +17,6 @@ use Rattle.std.specs.Ordering.{is_eq, eq_by_cmp}
 use Rattle.hx_object.specs.Json.{object_text}
 use Rattle.hx_object.specs.Kinds.{is_in_cluster}
 use Rattle.hx_object.specs.Texts.{bytes_cmp}
-use Rattle.hx_object.specs.declared.kind.Kind.{Kind}
 use Rattle.hx_object.specs.declared.object.Id.{Id}
 use Rattle.hx_object.specs.declared.object.Object.{Object}
 use Rattle.hx_ports.specs.Keeping.{Kept, Rows, greatest_version}

@@ -8,7 +8,7 @@
 --     trace_lacks, trace_over    a trace gets none
 --     trace_none, trace_some     it gets one that wasn't lost, or one that was
 use Rattle.std.proofs.Common.{◌≡◌, ◌≢◌, ◌≤◌, ◌<◌, ◌+◌, ◌==◌, ◌&&◌, ℕ, Bool, true, false, List, [], ◌∷◌, ◌++◌, length, Option, Some, None, IfSome, IfNone, refl, sym, ap, ◌∙◌, subst, inl, inr, arith, true≢false}
-use Rattle.std.specs.Prelude.{◌⊎◌, if◌then◌else◌, slice_get}
+use Rattle.std.specs.Prelude.{◌⊎◌, if◌then◌else◌}
 use Rattle.std.proofs.lemmas.Bool.{eqb-true, eq-eqb}
 use Rattle.std.proofs.lemmas.List.{append-nil, append_assoc, length-append}
 use Rattle.std.proofs.lemmas.Grind.{flat_map-append}
@@ -18,10 +18,10 @@ use Rattle.hx_model.specs.declared.key.Finish.{Finish}
 use Rattle.hx_model.specs.declared.key.Finish.TheVariants as ending
 use Rattle.hx_model.specs.declared.key.Key.{Key}
 use Rattle.hx_reconcile.specs.declared.brief.Brief.{Brief}
-use Rattle.hx_core.specs.Queued.{HasTurned, HaveTurned, IsEnding, IsTurning}
+use Rattle.hx_core.specs.Queued.{HasTurned, HaveTurned, IsEnding}
 use Rattle.hx_core.specs.Refinement.{ClusterView, HasWorld, Simulates}
 use Rattle.hx_core.specs.Settling.{IsTurn, IsWhole, IsTraced, EndsWithin, IsEnded, IsRun, IsRest, rest_of}
-use Rattle.hx_core.specs.Turns.{IfOver, IsLeft, IsOver, LoseLast, EndsBy, IsSettleEnd, turn_entries, turns_entries, end_entries, loss_in, loss_of}
+use Rattle.hx_core.specs.Turns.{IsLeft, IsOver, LoseLast, EndsBy, IsSettleEnd, turn_entries, turns_entries, end_entries, loss_in, loss_of}
 use Rattle.hx_core.specs.Working.{IsJob, IsNext}
 use Rattle.hx_queue.specs.Workers.{WorkersView}
 use Rattle.hx_core.specs.declared.turns.Settle.{Settle}

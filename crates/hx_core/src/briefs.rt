@@ -3,24 +3,11 @@ ghost use Rattle.std.specs.Prelude.{◌≡◌, ◌<◌, ◌^◌, IfOk, length};
 ghost use Rattle.hx_reconcile.specs.Briefs.{IsShort, StandsFor, planned_by};
 ghost use Rattle.hx_core.specs.Working.{chain_in, sums_in};
 
+use hx_briefs::brief_of;
 use hx_model::Key;
 use hx_object::{NoMemory, Text};
 use hx_reconcile::{Brief, Facts, SharedBrief, law_of_sums};
 use hx_state::IndexedState;
-
-/// The brief of a key, as the state is.
-pub fn brief_of(state: &IndexedState, key: &Key) -> Result<Brief, NoMemory>
-    ensures key { IfOk result (λ brief. brief.key ≡ key.now) }
-    ensures stands { IfOk result (λ brief. StandsFor brief state.now.state) }
-{
-    hx_briefs::brief_of(
-        state.store(),
-        state.forest(),
-        state.usage(),
-        state.config(),
-        key,
-    )
-}
 
 /// The brief of a key, as the state is, with one owner.
 pub fn brief_now(state: &IndexedState, key: &Key) -> Result<SharedBrief, NoMemory>

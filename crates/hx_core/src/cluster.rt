@@ -22,9 +22,9 @@ ghost use Rattle.hx_core.specs.Refinement.{Represents, HasWorld, Simulates, kept
 ghost use Rattle.hx_core.specs.Starting.{IsDamagedAt, IsDamageOf, key_at, IfDamage, IfDamaged, IfWhole, IsUndamaged, IsUntouched, Tells};
 
 use crate::commit::{CommitFault, write_marked};
-use crate::marking::mark_wanting;
 use crate::start::{StartFault, load_state};
 use hx_admit::{Reviewed, review};
+use hx_briefs::mark_wanting;
 use hx_model::{Answer, Ask, Key, Refusal, RunConfig};
 use hx_object::{List, NoMemory};
 use hx_ports::Keeper;

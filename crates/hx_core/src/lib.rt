@@ -10,7 +10,6 @@ mod commit;
 mod damage;
 mod finish;
 mod law;
-mod marking;
 mod objects;
 mod rows;
 mod settle;

@@ -134,13 +134,7 @@ fn keys_of(
     ensures seen { workers.new.seen ≡ workers.old.seen }
     ensures scope { workers.new.scope ≡ workers.old.scope }
 {
-    let mut keys = marks(
-        state.store(),
-        state.forest(),
-        state.owners(),
-        state.config(),
-        writes,
-    )?;
+    let mut keys = marks(state, writes)?;
     leave_out(&mut keys, own);
     match workers.reserve(keys.len()) {
         Ok(()) => Ok(keys),
@@ -164,7 +158,7 @@ fn whole_of(
     ensures scope { IsScopeOf (forest_of state.now.state) workers.new.scope }
     ensures seen { workers.new.seen ≡ workers.old.seen }
 {
-    let Some(SpreadMarks { id, others }) = spread_of(state, writes)? else {
+    let Some(SpreadMarks { id, others }) = spread_marks(state, writes)? else {
         return Ok(None);
     };
     match make_room(state, workers, &id, others.len()) {
@@ -183,16 +177,6 @@ fn whole_of(
             Err(NoMemory)
         }
     }
-}
-
-/// What writes mark as a whole and besides, by the state.
-fn spread_of(state: &IndexedState, writes: &[Change]) -> Result<Option<SpreadMarks>, NoMemory>
-    requires valid { IsValid state.now.state }
-    requires may { MayWriteAll state.now.state writes.now }
-    ensures named { IfOk result (λ o. IfSome o (λ spread. (k : key_of) → is_among k (all_marks state.now.state writes.now) ≡ (is_among k spread.others.items || is_among k (place_keys (open_below (forest_of state.now.state) spread.id.ns) spread.id)))) }
-    ensures tree { IfOk result (λ o. IfSome o (λ spread. forest_of (state_after state.now.state writes.now) ≡ forest_of state.now.state)) }
-{
-    spread_marks(state.store(), state.forest(), state.config(), writes)
 }
 
 /// Whether the keys of an object may be marked as a whole. There is room for them then, and for so many others.

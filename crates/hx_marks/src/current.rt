@@ -5,6 +5,7 @@ ghost use Rattle.hx_marks.specs.Before.{state_of};
 
 use hx_forest::Forest;
 use hx_model::RunConfig;
+use hx_state::IndexedState;
 use hx_store::Store;
 
 /// The state before a write, with the tree that is kept of it.
@@ -15,4 +16,17 @@ pub(crate) struct Current<'a> {
     /// The settings of the run. Only contracts speak of them.
     pub(crate) config: &'a RunConfig,
     ghost tree: { forest.now.nodes ≡ forest_of (state_of store.now config.now) },
+}
+
+impl<'a> Current<'a> {
+    /// The parts of a state.
+    pub(crate) fn of(state: &'a IndexedState) -> Current<'a>
+        ensures { state_of result.store.now result.config.now ≡ state.now.state }
+    {
+        Current {
+            store: state.store(),
+            forest: state.forest(),
+            config: state.config(),
+        }
+    }
 }

@@ -5,9 +5,7 @@ ghost use Rattle.hx_object.specs.Kinds.{can_be_copied};
 ghost use Rattle.hx_model.specs.Keys.{is_among};
 ghost use Rattle.hx_model.specs.State.{State, state_after};
 ghost use Rattle.hx_model.specs.Tree.{forest_of};
-ghost use Rattle.hx_model.specs.Valid.{IsValid};
 ghost use Rattle.hx_model.specs.Writes.{MayWriteAll};
-ghost use Rattle.hx_marks.specs.Before.{state_of};
 ghost use Rattle.hx_marks.specs.Law.{all_marks, open_below};
 ghost use Rattle.hx_marks.specs.Reads.{state_in};
 ghost use Rattle.hx_marks.specs.Spread.{IsSpread, is_beside_tree, spread_keys};
@@ -17,9 +15,10 @@ use crate::kinds::beside_marks;
 use crate::lookups::{mode_at, object_in};
 use crate::objects::is_any_sent;
 use hx_forest::Forest;
-use hx_model::{Key, RunConfig};
+use hx_model::Key;
 use hx_object::{Id, NoMemory};
-use hx_store::{Change, Store};
+use hx_state::IndexedState;
+use hx_store::Change;
 
 /// What a write of a source marks, by its subtree as a whole.
 #[derive(Drop)]
@@ -34,28 +33,20 @@ pub struct SpreadMarks {
 ///
 /// It costs what the other keys cost, and nothing for the subtree.
 pub fn spread_marks(
-    store: &Store,
-    forest: &Forest,
-    config: &RunConfig,
+    state: &IndexedState,
     writes: &[Change],
 ) -> Result<Option<SpreadMarks>, NoMemory>
-    requires tree { forest.now.nodes ≡ forest_of (state_of store.now config.now) }
-    requires valid { IsValid (state_of store.now config.now) }
-    requires may { MayWriteAll (state_of store.now config.now) writes.now }
-    ensures named { IfOk result (λ o. IfSome o (λ spread. (k : Key) → is_among k (all_marks (state_of store.now config.now) writes.now) ≡ (is_among k spread.others.items || is_among k (spread_keys (open_below forest.now.nodes spread.id.ns) spread.id)))) }
+    requires { MayWriteAll state.now.state writes.now }
+    ensures named { IfOk result (λ o. IfSome o (λ spread. (k : Key) → is_among k (all_marks state.now.state writes.now) ≡ (is_among k spread.others.items || is_among k (spread_keys (open_below (forest_of state.now.state) spread.id.ns) spread.id)))) }
 
     // The write leaves the tree.
-    ensures tree { IfOk result (λ o. IfSome o (λ spread. forest_of (state_after (state_of store.now config.now) writes.now) ≡ forest.now.nodes)) }
+    ensures tree { IfOk result (λ o. IfSome o (λ spread. forest_of (state_after state.now.state writes.now) ≡ forest_of state.now.state)) }
 {
     let [write] = writes else {
         return Ok(None);
     };
-    let current = Current {
-        store,
-        forest,
-        config,
-    };
-    spread_of(&current, write)
+    state.law_of_validity();
+    spread_of(&Current::of(state), write)
 }
 
 fn spread_of(current: &Current, write: &Change) -> Result<Option<SpreadMarks>, NoMemory>

@@ -2,6 +2,7 @@
 ghost use Rattle.std.specs.Prelude.{◌≡◌, ◌++◌, ◌∷◌, ℕ, List, false, [], IfOk, OnOk, filter, flat_map, map, if◌then◌else◌};
 ghost use Rattle.hx_model.specs.Forest.{chain_of, tail_of};
 ghost use Rattle.hx_model.specs.Limits.{is_copy};
+ghost use Rattle.hx_model.specs.Tree.{forest_of};
 ghost use Rattle.hx_model.specs.TreeLabels.{is_open};
 ghost use Rattle.hx_marks.specs.Law.{all_of, known_of, all_sent, is_sent, key_for, listed_in, sent_from, wants_of, wants_of_kind};
 
@@ -13,14 +14,15 @@ use hx_forest::Forest;
 use hx_model::{COPIED_KINDS, Key, is_copy};
 use hx_object::{Kind, Mode, NoMemory, Object, Shared, Text};
 use hx_reconcile::is_sent;
+use hx_state::IndexedState;
 use hx_store::Store;
 
 /// The keys of a namespace that may want a write.
-pub fn keys_of(store: &Store, forest: &Forest, name: &Text) -> Result<Vec<Key>, NoMemory>
-    ensures { IfOk result (λ keys. keys.items ≡ known_of store.now.objects forest.now.nodes name.now) }
+pub fn keys_of(state: &IndexedState, name: &Text) -> Result<Vec<Key>, NoMemory>
+    ensures { IfOk result (λ keys. keys.items ≡ known_of state.now.state.objects (forest_of state.now.state) name.now) }
 {
-    let mut keys = Vec::new(store.allocator());
-    known_of(store, forest, name, &mut keys)?;
+    let mut keys = Vec::new(state.allocator());
+    known_of(state.store(), state.forest(), name, &mut keys)?;
     Ok(keys)
 }
 

@@ -1,9 +1,7 @@
 // Writes are marked.
 ghost use Rattle.std.specs.Prelude.{◌≡◌, ◌++◌, IfOk, OnOk, flat_map};
-ghost use Rattle.hx_model.specs.Tree.{forest_of};
-ghost use Rattle.hx_model.specs.Valid.{IsValid};
 ghost use Rattle.hx_model.specs.Writes.{MayWriteAll};
-ghost use Rattle.hx_marks.specs.Before.{marks_before_among, state_of};
+ghost use Rattle.hx_marks.specs.Before.{marks_before_among};
 ghost use Rattle.hx_marks.specs.Reads.{state_in};
 ghost use Rattle.hx_marks.specs.Halves.{Covers, IsWithin};
 ghost use Rattle.hx_marks.specs.Owners.{TellOwners};
@@ -15,36 +13,25 @@ use crate::kinds::marks_by;
 use crate::lookups::object_in;
 use crate::namespaces::following_marks;
 use hx_forest::Forest;
-use hx_model::{Key, RunConfig};
+use hx_model::Key;
 use hx_object::NoMemory;
-use hx_store::{Change, Store};
+use hx_state::IndexedState;
+use hx_store::Change;
 
 /// The keys that writes mark, each by the state before them: those whose wanted write or guards a write can change. A key may come more than once.
-pub fn marks(
-    store: &Store,
-    forest: &Forest,
-    owners: &Forest,
-    config: &RunConfig,
-    writes: &[Change],
-) -> Result<Vec<Key>, NoMemory>
-    requires tree { forest.now.nodes ≡ forest_of (state_of store.now config.now) }
-    requires owners { TellOwners store.now.objects owners.now.nodes }
-    requires valid { IsValid (state_of store.now config.now) }
-    requires may { MayWriteAll (state_of store.now config.now) writes.now }
-    ensures named { IfOk result (λ keys. keys.items ≡ all_marks (state_of store.now config.now) writes.now) }
+pub fn marks(state: &IndexedState, writes: &[Change]) -> Result<Vec<Key>, NoMemory>
+    requires { MayWriteAll state.now.state writes.now }
+    ensures named { IfOk result (λ keys. keys.items ≡ all_marks state.now.state writes.now) }
 
     // Of the writes of a request or of a key: no other key wants something else, or on other guards, and the machine lets these wait.
-    ensures covers { IfOk result (λ keys. Covers (state_of store.now config.now) writes.now keys.items) }
-    ensures within { IfOk result (λ keys. IsWithin (state_of store.now config.now) writes.now keys.items) }
+    ensures covers { IfOk result (λ keys. Covers state.now.state writes.now keys.items) }
+    ensures within { IfOk result (λ keys. IsWithin state.now.state writes.now keys.items) }
 {
-    let mut keys = Vec::new(store.allocator());
-    let endings = Endings::of(store.allocator(), writes)?;
-    let current = Current {
-        store,
-        forest,
-        config,
-    };
-    marks_of_all(&current, owners, &endings, writes, &mut keys)?;
+    state.law_of_validity();
+    let mut keys = Vec::new(state.allocator());
+    let endings = Endings::of(state.allocator(), writes)?;
+    let current = Current::of(state);
+    marks_of_all(&current, state.owners(), &endings, writes, &mut keys)?;
     Ok(keys)
 }
 

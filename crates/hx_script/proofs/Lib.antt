@@ -2,7 +2,7 @@ mod Numbers
 mod Spaces
 mod Texts
 mod Ends
-mod Simulating
+pub mod Simulating
 pub mod Running
 pub mod Making
 pub mod Idling

@@ -1,4 +1,3 @@
-pub mod Entries
 pub mod Codes
 pub mod Fixed
 pub mod Making

@@ -23,7 +23,7 @@ use Rattle.hx_link.specs.Exchanges.{Exchange as Plain}
 use Rattle.hx_core.specs.Refinement.{ClusterView, HasWorld, Simulates}
 use Rattle.hx_script.specs.Exchanges.{One, Makes, IsRequest, MayBeUnsaid}
 use Rattle.hx_script.specs.Forms.{asking_for}
-use Rattle.hx_serve.proofs.Entries.{Simulates-after, Simulates-lost, Simulates-none, Simulates-refused}
+use Rattle.hx_script.proofs.Simulating.{Simulates-after, Simulates-lost, Simulates-none, Simulates-refused}
 use Rattle.hx_serve.specs.Exchanges.{Exchange, Answered, Refused, HasAnswered, IsExchange, entry_reply, made_by, order_of, plain_of, reading_of, reply_of, said_reply}
 use Rattle.hx_serve.specs.Inside.{IsCalled, IsSaid}
 use Rattle.hx_serve.proofs.Fixed.{no_memory_is}

@@ -21,7 +21,7 @@ use Rattle.hx_door.specs.declared.door.DoorFault.{DoorFault}
 use Rattle.hx_model.specs.Machine.{History}
 use Rattle.hx_core.specs.Refinement.{ClusterView, HasWorld, Simulates}
 use Rattle.hx_script.specs.Exchanges.{made_entries}
-use Rattle.hx_serve.proofs.Entries.{Simulates-after, Simulates-none}
+use Rattle.hx_script.proofs.Simulating.{Simulates-after, Simulates-none}
 use Rattle.hx_serve.specs.Exchanges.{Exchange, HasAnswered, HasSettled, entries_of}
 use Rattle.hx_serve.specs.Inside.{HaveServed, IsServed}
 use Rattle.hx_serve.specs.Visits.{Answers, AnswersFirst, HasVisited, HaveVisited, IsEnd, IsVisit, LinkView, Serves, Visit, most_links, settled_turns, visit_entries, visits_entries}

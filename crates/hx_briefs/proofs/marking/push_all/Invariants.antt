@@ -4,4 +4,4 @@ use Rattle.hx_briefs.proofs.marking.push_all.Given as goal
 
 -- the keys so far, and those that the rest gives
 abbrev pub invariant-loop-namespace : goal.invariant-loop-namespace
-invariant-loop-namespace l = l.wanting.items ++ wanting_in l.config.excluded l.store.objects l.forest.nodes (drop l.namespace-index l.namespaces) ≡ l.initial.wanting.items ++ wanting_in l.config.excluded l.store.objects l.forest.nodes l.namespaces
+invariant-loop-namespace l = l.wanting.items ++ wanting_in l.state.state (drop l.namespace-index l.namespaces) ≡ l.initial.wanting.items ++ wanting_in l.state.state l.namespaces

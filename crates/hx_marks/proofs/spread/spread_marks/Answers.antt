@@ -1,15 +1,21 @@
-use Rattle.hx_marks.specs.Before.{state_of}
+use Rattle.std.proofs.Common.{refl, subst}
+use Rattle.std.specs.Prelude.{IfOk, IfSome}
+use Rattle.hx_model.specs.State.{State}
+use Rattle.hx_model.specs.Tree.{forest_of}
+use Rattle.hx_marks.specs.Spread.{IsSpread}
 use Rattle.hx_marks.proofs.SpreadLaw.{commit_leaves, commit_named, only_one, told}
 use Rattle.hx_marks.proofs.spread.spread_marks.Goals as goal
 
 pub returns-clause-named : goal.returns-clause-named
 returns-clause-named c =
-    let s = state_of c.args.store.now c.args.config.now in
+    let s = c.args.state.now.state in
     let one = only_one c.args.writes.now c.write-item.result c.in-len1.len_at_least c.in-len1.len_below c.write-item.is in
-    told c.spread_of.result _ _ (λ spread is. commit_named s c.args.forest.now.nodes c.args.writes.now c.write-item.result c.requires.tree one spread.id spread.others.items is c.requires.valid c.requires.may) c.spread_of.ensures
+    told c.spread_of.result _ _ (λ spread is. commit_named s (forest_of s) c.args.writes.now c.write-item.result refl one spread.id spread.others.items is c.law_of_validity.ensures c.requires)
+    (subst (λ (t : State). IfOk c.spread_of.result (λ o. IfSome o (λ spread. IsSpread t c.write-item.result spread.id spread.others.items))) c.of.ensures c.spread_of.ensures)
 
 pub returns-clause-tree : goal.returns-clause-tree
 returns-clause-tree c =
-    let s = state_of c.args.store.now c.args.config.now in
+    let s = c.args.state.now.state in
     let one = only_one c.args.writes.now c.write-item.result c.in-len1.len_at_least c.in-len1.len_below c.write-item.is in
-    told c.spread_of.result _ _ (λ spread is. commit_leaves s c.args.forest.now.nodes c.args.writes.now c.write-item.result c.requires.tree one spread.id spread.others.items is) c.spread_of.ensures
+    told c.spread_of.result _ _ (λ spread is. commit_leaves s (forest_of s) c.args.writes.now c.write-item.result refl one spread.id spread.others.items is)
+    (subst (λ (t : State). IfOk c.spread_of.result (λ o. IfSome o (λ spread. IsSpread t c.write-item.result spread.id spread.others.items))) c.of.ensures c.spread_of.ensures)
