@@ -8,7 +8,9 @@
 mod door;
 mod mem;
 mod tcp;
+mod tcp_link;
 
 pub use door::{Door, DoorFault, Link};
 pub use mem::{MemDoor, MemLine};
-pub use tcp::{TcpDoor, TcpFault, TcpReader};
+pub use tcp::{TcpDoor, TcpFault};
+pub use tcp_link::{TcpReader, TcpWriter};

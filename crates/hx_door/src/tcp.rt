@@ -6,23 +6,11 @@ ghost use Rattle.hx_door.specs.Doors.{AreFresh, Hands};
 ghost use Rattle.hx_door.specs.Listening.{IsLoopback, IsHeard, IsListenFault};
 
 use crate::door::{Door, DoorFault, Link};
+use crate::tcp_link::{TcpReader, TcpWriter, link_over};
 use hx_ports::{Sink, Source, StdSink, StdSource};
-use std::io::{ErrorKind, Read};
-use std::net::{Net, Shutdown, SocketAddr, TcpListener, TcpStream};
-use std::time::Duration;
+use std::io::ErrorKind;
+use std::net::{Net, SocketAddr, TcpListener, TcpStream};
 use std::{fmt, io};
-
-/// How many seconds a read or a write of a link waits.
-const PATIENCE_SECONDS: u64 = 60;
-
-/// How many milliseconds the end of a link waits for more of what its client sends.
-const SILENCE_MILLISECONDS: u64 = 500;
-
-/// How many bytes the end of a link reads at a time.
-const PIECE_BYTES: usize = 4096;
-
-/// How often the end of a link reads at most, so that 16 MB are read in all.
-const MOST_PIECES: u32 = 4096;
 
 /// Why a door failed.
 #[derive(Debug, Drop)]
@@ -169,7 +157,7 @@ impl Door for TcpDoor {
 
     type Input = StdSource<TcpReader>;
 
-    type Output = StdSink<TcpStream>;
+    type Output = StdSink<TcpWriter>;
 
     ghost shown = { λ d. record { faults = d.faults; handed = d.handed; out = d.out; closed = false; coming = None; written = None } };
 
@@ -191,8 +179,8 @@ impl Door for TcpDoor {
 
     fn accept(
         &mut self,
-    ) -> Result<Option<Link<StdSource<TcpReader>, StdSink<TcpStream>>>, DoorFault>
-        ensures link { IfOk result (λ next. IsSomeAnd next (λ link. Hands (⟦<TcpDoor as Door>⟧.shown self.old) (⟦<TcpDoor as Door>⟧.shown self.new) (⟦<StdSource<TcpReader> as Source>⟧.shown link.source) (⟦<StdSink<TcpStream> as Sink>⟧.shown link.sink))) }
+    ) -> Result<Option<Link<StdSource<TcpReader>, StdSink<TcpWriter>>>, DoorFault>
+        ensures link { IfOk result (λ next. IsSomeAnd next (λ link. Hands (⟦<TcpDoor as Door>⟧.shown self.old) (⟦<TcpDoor as Door>⟧.shown self.new) (⟦<StdSource<TcpReader> as Source>⟧.shown link.source) (⟦<StdSink<TcpWriter> as Sink>⟧.shown link.sink))) }
         ensures fault { OnErr result (⟦<TcpDoor as Door>⟧.shown self.new ≡ record (⟦<TcpDoor as Door>⟧.shown self.old) { faults = (⟦<TcpDoor as Door>⟧.shown self.new).faults }) }
         ensures cause { HasCause (⟦<TcpDoor as Door>⟧.shown self.old).faults (⟦<TcpDoor as Door>⟧.shown self.new).faults result }
         ensures heard { OnOk result (listens self.old ≡ true) }
@@ -203,7 +191,7 @@ impl Door for TcpDoor {
         let Some(listener) = &self.listener else {
             return Err(self.fail(TcpFault::NotListening));
         };
-        match next_link(listener) {
+        match next_link(&self.rt, listener) {
             Ok(link) => {
                 self.handed = self.handed.saturating_add(1);
                 self.out = self.out.saturating_add(1);
@@ -213,16 +201,19 @@ impl Door for TcpDoor {
         }
     }
 
-    fn take_back(&mut self, _sink: StdSink<TcpStream>) {
+    fn take_back(&mut self, _sink: StdSink<TcpWriter>) {
         self.out = self.out.saturating_sub(1);
     }
 }
 
 /// Waits for the next link.
-fn next_link(listener: &TcpListener) -> io::Result<Link<StdSource<TcpReader>, StdSink<TcpStream>>>
-    ensures { IfOk result (λ link. AreFresh (⟦<StdSource<TcpReader> as Source>⟧.shown link.source) (⟦<StdSink<TcpStream> as Sink>⟧.shown link.sink)) }
+fn next_link(
+    rt: &HostRuntime,
+    listener: &TcpListener,
+) -> io::Result<Link<StdSource<TcpReader>, StdSink<TcpWriter>>>
+    ensures { IfOk result (λ link. AreFresh (⟦<StdSource<TcpReader> as Source>⟧.shown link.source) (⟦<StdSink<TcpWriter> as Sink>⟧.shown link.sink)) }
 {
-    link_over(accept_again(listener)?)
+    link_over(rt, accept_again(listener)?)
 }
 
 /// Waits for a client, and again where it is gone before it is had.
@@ -243,62 +234,4 @@ fn accept_again(listener: &TcpListener) -> io::Result<TcpStream> {
 /// Whether a failure says nothing of the door, and only of a client or a signal.
 fn is_passing(kind: ErrorKind) -> bool {
     matches!(kind, ErrorKind::Interrupted | ErrorKind::ConnectionAborted)
-}
-
-/// A link over a stream. What is written to it is sent at once, and no read or write waits for ever.
-fn link_over(stream: TcpStream) -> io::Result<Link<StdSource<TcpReader>, StdSink<TcpStream>>>
-    ensures { IfOk result (λ link. AreFresh (⟦<StdSource<TcpReader> as Source>⟧.shown link.source) (⟦<StdSink<TcpStream> as Sink>⟧.shown link.sink)) }
-{
-    stream.set_nodelay(true)?;
-    let patience = Duration::from_secs(PATIENCE_SECONDS);
-    stream.set_read_timeout(Some(patience))?;
-    stream.set_write_timeout(Some(patience))?;
-    let writer = stream.try_clone()?;
-    Ok(Link {
-        source: StdSource::new(TcpReader { stream }),
-        sink: StdSink::new(writer),
-    })
-}
-
-/// What the client of a link sends. Dropping it ends the link: the client is told that no more is sent, and what it still sends is read for a while.
-pub struct TcpReader {
-    stream: TcpStream,
-}
-
-impl Read for TcpReader {
-    fn read(&mut self, into: &mut [u8]) -> io::Result<usize> {
-        self.stream.read(into)
-    }
-}
-
-impl Drop for TcpReader {
-    fn drop(self) {
-        linger(&self.stream);
-        let TcpReader { stream: _ } = self;
-    }
-}
-
-/// Says that no more is sent, and reads what still comes. A client that is cut off while it sends may lose what it was sent.
-fn linger(stream: &TcpStream) {
-    if stream.shutdown(Shutdown::Write).is_err() {
-        return;
-    }
-    let silence = Duration::from_millis(SILENCE_MILLISECONDS);
-    if stream.set_read_timeout(Some(silence)).is_err() {
-        return;
-    }
-    for _ in 0..MOST_PIECES {
-        if !goes_on(stream) {
-            return;
-        }
-    }
-}
-
-/// Reads a piece and forgets it, and says whether more may come.
-fn goes_on(stream: &TcpStream) -> bool {
-    let mut piece = [0; PIECE_BYTES];
-    match (&mut &*stream).read(&mut piece) {
-        Ok(count) => count > 0,
-        Err(error) => error.kind() == ErrorKind::Interrupted,
-    }
 }
