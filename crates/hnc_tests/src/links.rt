@@ -22,17 +22,38 @@ impl Notices for Ends {
     }
 }
 
-/// What a client sends, in pieces of seven bytes.
-fn line(alloc: Global, bytes: &[u8]) -> Result<MemLine, AllocError> {
-    let source = MemSource::new(bytes.to_vec(alloc)?, 7, Vec::new(alloc));
-    let sink = MemSink::new(Vec::with_capacity(alloc, 4096)?, 64, Vec::new(alloc));
+/// How many bytes of a link are read at a time.
+const READ_BYTES: usize = 7;
+
+/// How many bytes are written to a link at a time.
+const WRITE_BYTES: usize = 64;
+
+/// The calls of a link that fail, a read and a write by their numbers. The first ones are number 1, so at 0 none fails.
+#[derive(Clone, Copy)]
+struct Breaks {
+    read: u64,
+    write: u64,
+}
+
+/// A link on which each call is answered.
+const WHOLE: Breaks = Breaks { read: 0, write: 0 };
+
+/// A link whose client sends these bytes.
+fn line(alloc: Global, bytes: &[u8], breaks: Breaks) -> Result<MemLine, AllocError> {
+    let reads = vec![in alloc; breaks.read; 1]?;
+    let writes = vec![in alloc; breaks.write; 1]?;
+    let source = MemSource::new(bytes.to_vec(alloc)?, READ_BYTES, reads);
+    let sink = MemSink::new(Vec::with_capacity(alloc, 4096)?, WRITE_BYTES, writes);
     Ok(MemLine::new(source, sink))
 }
 
-fn door_of(alloc: Global, links: &[&str]) -> Result<MemDoor, AllocError> {
+/// A door of these links, of which the first one breaks.
+fn door_of(alloc: Global, links: &[&str], breaks: Breaks) -> Result<MemDoor, AllocError> {
     let mut lines = Vec::new(alloc);
+    let mut its = breaks;
     for bytes in links {
-        lines.push(line(alloc, bytes.as_bytes())?)?;
+        lines.push(line(alloc, bytes.as_bytes(), its)?)?;
+        its = WHOLE;
     }
     match MemDoor::new(lines, Vec::new(alloc)) {
         Ok(door) => Ok(door),
@@ -101,7 +122,7 @@ const REPLIES: [&str; 3] = [
 #[test]
 fn links(rt: HostRuntime) -> Result<(), Fail> {
     let keys = RandomState::new(&rt)?;
-    let mut door = door_of(rt.alloc(), LINKS.as_slice())?;
+    let mut door = door_of(rt.alloc(), LINKS.as_slice(), WHOLE)?;
     let counts = serve_all(rt.alloc(), keys, &mut door, None)?;
     assert_eq!(rt; counts, (3, 1));
     for (sink, text) in door.sinks().iter().zip(REPLIES.as_slice()) {
@@ -114,9 +135,95 @@ fn links(rt: HostRuntime) -> Result<(), Fail> {
 #[test]
 fn some_links(rt: HostRuntime) -> Result<(), Fail> {
     let keys = RandomState::new(&rt)?;
-    let mut door = door_of(rt.alloc(), LINKS.as_slice())?;
+    let mut door = door_of(rt.alloc(), LINKS.as_slice(), WHOLE)?;
     let counts = serve_all(rt.alloc(), keys, &mut door, Some(1))?;
     assert_eq!(rt; counts, (1, 0));
     assert_eq!(rt; door.sinks().len(), 1);
+    Ok(())
+}
+
+/// How many bytes the two messages of the first link take.
+const ASKED: (usize, usize) = (130, 59);
+
+/// How many bytes the replies to them have.
+const REPLIED: (usize, usize) = (192, 239);
+
+/// How many bytes are written to the first link where a read of it fails: the replies to the messages that are whole in what was read before.
+fn replied_before_read(read: u64) -> usize {
+    let bytes = READ_BYTES.saturating_mul(calls_before(read));
+    if bytes < ASKED.0 {
+        0
+    } else if bytes < ASKED.0 + ASKED.1 {
+        REPLIED.0
+    } else {
+        REPLIED.0 + REPLIED.1
+    }
+}
+
+/// The same where a write fails: what the writes before took.
+fn replied_before_write(write: u64) -> usize {
+    let calls = calls_before(write);
+    let of_first = REPLIED.0.div_ceil(WRITE_BYTES);
+    if calls < of_first {
+        WRITE_BYTES.saturating_mul(calls)
+    } else {
+        let of_second = WRITE_BYTES.saturating_mul(calls - of_first);
+        REPLIED.0 + of_second.min(REPLIED.1)
+    }
+}
+
+fn calls_before(number: u64) -> usize {
+    usize::try_from(number.saturating_sub(1)).unwrap_or(usize::MAX)
+}
+
+/// Whether so many bytes of the replies are written to a first link that breaks, and the next one finds what was made.
+fn stands(
+    alloc: Global,
+    keys: RandomState,
+    breaks: Breaks,
+    replied: usize,
+    is_made: bool,
+) -> Result<bool, AllocError> {
+    let mut door = door_of(alloc, LINKS.as_slice(), breaks)?;
+    let (served, _) = serve_all(alloc, keys, &mut door, None)?;
+    let sinks = door.sinks();
+    let (Some(first), Some(next)) = (sinks.get(0), sinks.get(1)) else {
+        return Ok(false);
+    };
+    let written = first.bytes();
+    let found = next.bytes().starts_with(b"HTTP/1.1 200 OK\r\n");
+    Ok(
+        served == 3
+            && written.len() == replied
+            && REPLIES[0].as_bytes().starts_with(written)
+            && found == is_made,
+    )
+}
+
+/// Whether what was answered stands where the read, and where the write, of this number fails.
+fn breaks_stand(alloc: Global, keys: RandomState, number: u64) -> Result<bool, AllocError> {
+    let read = Breaks {
+        read: number,
+        write: 0,
+    };
+    let write = Breaks {
+        read: 0,
+        write: number,
+    };
+    let by_read = replied_before_read(number);
+    let by_write = replied_before_write(number);
+    Ok(
+        stands(alloc, keys, read, by_read, by_read > 0)?
+            && stands(alloc, keys, write, by_write, true)?,
+    )
+}
+
+/// Each read and each write of a link fails in turn, and those behind its last one.
+#[test]
+fn broken_links(rt: HostRuntime) -> Result<(), Fail> {
+    let keys = RandomState::new(&rt)?;
+    for number in 1..=32 {
+        assert!(rt; breaks_stand(rt.alloc(), keys, number)?);
+    }
     Ok(())
 }
