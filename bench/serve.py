@@ -1,17 +1,19 @@
 #!/usr/bin/env python3
 """What a request costs over HTTP.
 
-Usage: bench/serve.py [SECONDS]
-It needs what `rt ci` leaves as crates/hnc/out/hnc, and wrk and nginx. Prints a line each:
+Usage: bench/serve.py [PROGRAM [SECONDS]]
+PROGRAM is the built program, crates/hnc/out/hnc where none is given. It needs wrk and nginx. Prints a line each:
 the GET of an object of 300 bytes over one keep-alive link beside nginx's file of the same bytes, by wrk, in turns of SECONDS (3) each: requests per second and
-processor time a request, as ratios of the program's to nginx's, each the median of five; the calls of the system a request, by strace where it is there;
-the processor time of a POST of 1 KiB in memory over a link, and of the same POST in a script; and the most memory that the server had, beside that of a run.
+processor time a request, as ratios of the program's to nginx's, each the median of five, with its range; the calls of the system a request, by strace where it
+is there; the blocks of memory that a GET makes over a link and in a script, by valgrind where it is there; the processor time of a POST of 1 KiB in memory
+over a link, and of the same POST in a script, in turns, the medians of five; and what memory a link takes. Each answer's status is looked at.
 """
 import http.client
 import json
 import os
 import re
 import shutil
+import socket
 import statistics
 import subprocess
 import sys
@@ -19,11 +21,15 @@ import tempfile
 import time
 
 TOP = os.path.dirname(os.path.dirname(os.path.abspath(__file__)))
-PROGRAM = f"{TOP}/crates/hnc/out/hnc"
+PROGRAM = sys.argv[1] if len(sys.argv) > 1 else f"{TOP}/crates/hnc/out/hnc"
 TICK = os.sysconf("SC_CLK_TCK")
 POSTS = 20_000
+GETS = 1_000
+NAMESPACE = '{"apiVersion":"v1","kind":"Namespace","metadata":{"name":"n"}}'
+CONFIG_MAPS = "/api/v1/namespaces/n/configmaps"
 
 NGINX = """
+{user}
 worker_processes 1;
 daemon off;
 pid {folder}/nginx.pid;
@@ -44,21 +50,36 @@ def processor_time(pid):
     return sum(sum(map(int, open(f"/proc/{its}/stat").read().rpartition(")")[2].split()[11:13])) for its in [pid, *children]) / TICK
 
 
-def serve(*options):
-    child = subprocess.Popen([PROGRAM, "serve", "--listen", "127.0.0.1:0", *options], stdin=subprocess.DEVNULL, stderr=subprocess.PIPE)
-    ready = re.fullmatch(rb"hnc: serving on 127\.0\.0\.1:(\d+)\n", child.stderr.readline())
+def memory(pid, what):
+    """KiB of a process: VmHWM is the most that it had, RssAnon what it has that no file has."""
+    return int(re.search(rf"{what}:\s+(\d+)", open(f"/proc/{pid}/status").read())[1])
+
+
+def serve(*before):
+    """A server on a free port. Its child and the port."""
+    child = subprocess.Popen([*before, PROGRAM, "serve", "--listen", "127.0.0.1:0"], stdin=subprocess.DEVNULL, stderr=subprocess.PIPE)
+    while not (ready := re.fullmatch(rb"hnc: serving on 127\.0\.0\.1:(\d+)\n", child.stderr.readline())):
+        if child.poll() is not None:
+            raise SystemExit("no server begins")
     return child, int(ready[1])
 
 
-def request(port, method, target, body=None, wanted=200):
-    link = http.client.HTTPConnection("127.0.0.1", port)
+def ask(link, method, target, body=None, wanted=200):
     link.request(method, target, body=body)
     reply = link.getresponse()
     text = reply.read()
-    link.close()
     if reply.status != wanted:
         raise SystemExit(f"{method} {target} is answered {reply.status} {text!r}")
     return text
+
+
+def with_object(*before):
+    """A server that has one ConfigMap, as `serve` gives it, with a link to it, and the text of the object."""
+    child, port = serve(*before)
+    link = http.client.HTTPConnection("127.0.0.1", port)
+    ask(link, "POST", "/api/v1/namespaces", NAMESPACE, 201)
+    ask(link, "POST", CONFIG_MAPS, config_map("c", 262), 201)
+    return child, port, link, ask(link, "GET", f"{CONFIG_MAPS}/c")
 
 
 def config_map(name, size):
@@ -77,25 +98,37 @@ def wrk(url, seconds, pid):
     return float(re.search(r"Requests/sec:\s+([\d.]+)", out)[1]), (processor_time(pid) - before) / count * 1e6
 
 
+def ratio(mine, its):
+    """The median of ratios, and their range."""
+    ratios = sorted(m / n for m, n in zip(mine, its, strict=True))
+    return f"{statistics.median(ratios):.2f} ({ratios[0]:.2f} to {ratios[-1]:.2f})"
+
+
 def gets(folder, seconds):
-    child, port = serve()
-    request(port, "POST", "/api/v1/namespaces", '{"apiVersion":"v1","kind":"Namespace","metadata":{"name":"n"}}', 201)
-    target = "/api/v1/namespaces/n/configmaps/c"
-    request(port, "POST", "/api/v1/namespaces/n/configmaps", config_map("c", 250), 201)
-    text = request(port, "GET", target)
+    child, port, link, text = with_object()
+    link.close()
+    target = f"{CONFIG_MAPS}/c"
     path = f"{folder}{target}"
     os.makedirs(os.path.dirname(path))
     open(path, "wb").write(text)
+    with socket.socket() as free:
+        free.bind(("127.0.0.1", 0))
+        nginx_port = free.getsockname()[1]
     with open(f"{folder}/nginx.conf", "w") as conf:
-        conf.write(NGINX.format(folder=folder, port=port + 1))
+        conf.write(NGINX.format(folder=folder, port=nginx_port, user="user root;" * (os.getuid() == 0)))
     nginx = subprocess.Popen(["nginx", "-p", folder, "-c", f"{folder}/nginx.conf"], stderr=subprocess.DEVNULL)
     time.sleep(0.5)
-    rounds = [(wrk(f"http://127.0.0.1:{port}{target}", seconds, child.pid), wrk(f"http://127.0.0.1:{port + 1}{target}", seconds, nginx.pid)) for _ in range(5)]
+    link = http.client.HTTPConnection("127.0.0.1", nginx_port)
+    if ask(link, "GET", target) != text:
+        raise SystemExit("nginx gives other bytes")
+    link.close()
+    rounds = [(wrk(f"http://127.0.0.1:{port}{target}", seconds, child.pid), wrk(f"http://127.0.0.1:{nginx_port}{target}", seconds, nginx.pid)) for _ in range(5)]
     nginx.terminate()
+    nginx.wait()
     mine, its = zip(*rounds)
-    median = lambda values: statistics.median(values)
-    print(f"GET of {len(text)} bytes over one link : nginx's file: {median([m[0] / n[0] for m, n in rounds]):.2f} of its requests per second"
-          f" ({median([m[0] for m in mine]):,.0f}), {median([m[1] / n[1] for m, n in rounds]):.2f} of its processor time a request ({median([m[1] for m in mine]):.1f} us)")
+    (rates, times), (its_rates, its_times) = zip(*mine), zip(*its)
+    print(f"GET of {len(text)} bytes over one link : nginx's file: requests a second {ratio(rates, its_rates)}, {statistics.median(rates):,.0f} : {statistics.median(its_rates):,.0f}")
+    print(f"the same: processor time a request {ratio(times, its_times)}, {statistics.median(times):.1f} us : {statistics.median(its_times):.1f} us", flush=True)
     calls(child, port, target)
     child.terminate()
     child.wait()
@@ -104,54 +137,121 @@ def gets(folder, seconds):
 def calls(child, port, target):
     if not shutil.which("strace"):
         return
+    link = http.client.HTTPConnection("127.0.0.1", port)
+    ask(link, "GET", target)
     with tempfile.NamedTemporaryFile() as told:
         trace = subprocess.Popen(["strace", "-f", "-c", "-o", told.name, "-p", str(child.pid)], stderr=subprocess.DEVNULL)
-        time.sleep(0.5)
-        link = http.client.HTTPConnection("127.0.0.1", port)
-        for _ in range(1_000):
-            link.request("GET", target)
-            link.getresponse().read()
+        time.sleep(1)
+        for _ in range(GETS):
+            ask(link, "GET", target)
         trace.terminate()
         trace.wait()
-        link.close()
         counts = {row.split()[-1]: int(row.split()[3]) for row in open(told.name) if re.match(r"\s*[\d.]+\s", row) and row.split()[-1] != "total"}
-    print(f"calls of the system of 1,000 GETs: {', '.join(f'{name} {count}' for name, count in sorted(counts.items(), key=lambda it: -it[1])[:5])}")
+    link.close()
+    print(f"calls of the system of {GETS} GETs: {', '.join(f'{name} {count}' for name, count in sorted(counts.items(), key=lambda it: -it[1]))}", flush=True)
+
+
+def blocks_made(err):
+    return int(re.search(r"total heap usage: ([\d,]+) allocs", err)[1].replace(",", ""))
+
+
+def blocks_of_link(count):
+    """How many blocks of memory a server makes that answers so many GETs over a link."""
+    child, port = serve("valgrind", "--leak-check=no")
+    link = http.client.HTTPConnection("127.0.0.1", port)
+    ask(link, "POST", "/api/v1/namespaces", NAMESPACE, 201)
+    ask(link, "POST", CONFIG_MAPS, config_map("c", 262), 201)
+    for _ in range(count):
+        ask(link, "GET", f"{CONFIG_MAPS}/c")
+    link.close()
+    time.sleep(0.5)
+    child.terminate()
+    return blocks_made(child.communicate()[1].decode())
+
+
+def blocks_of_script(count):
+    lines = [f"POST /api/v1/namespaces {NAMESPACE}\n", f"POST {CONFIG_MAPS} {config_map('c', 262)}\n", *[f"GET {CONFIG_MAPS}/c\n"] * count]
+    ran = subprocess.run(["valgrind", "--leak-check=no", PROGRAM, "run"], input="".join(lines), capture_output=True, text=True, check=True)
+    if [line[:4] for line in ran.stdout.splitlines()] != ["201 ", "201 "] + ["200 "] * count:
+        raise SystemExit("a script is answered otherwise")
+    return blocks_made(ran.stderr)
+
+
+def blocks():
+    if not shutil.which("valgrind"):
+        return
+    over_link, in_script = ((made(2 * GETS) - made(GETS)) / GETS for made in (blocks_of_link, blocks_of_script))
+    print(f"blocks of memory of a GET: {over_link:.2f} over a link, {in_script:.2f} in a script", flush=True)
+
+
+def post_over_link(bodies):
+    """Microseconds of processor time of a POST over a link, head and body in one piece."""
+    child, port, first, _ = with_object()
+    first.close()
+    messages = [f"POST {CONFIG_MAPS} HTTP/1.1\r\nHost: h\r\nContent-Length: {len(body)}\r\n\r\n{body}".encode() for body in bodies]
+    with socket.create_connection(("127.0.0.1", port)) as link:
+        link.setsockopt(socket.IPPROTO_TCP, socket.TCP_NODELAY, 1)
+        before = processor_time(child.pid)
+        for message in messages:
+            link.sendall(message)
+            reply = link.recv(65_536)
+            if not reply.startswith(b"HTTP/1.1 201 "):
+                raise SystemExit(f"a POST is answered {reply!r}")
+        spent = processor_time(child.pid) - before
+    child.terminate()
+    child.wait()
+    return spent / len(bodies) * 1e6
+
+
+def post_in_script(bodies):
+    """The same in a script, whose lines are sent one by one, each when the one before it was answered."""
+    run = subprocess.Popen([PROGRAM, "run"], stdin=subprocess.PIPE, stdout=subprocess.PIPE)
+
+    def ask_line(line):
+        run.stdin.write(line.encode())
+        run.stdin.flush()
+        answer = run.stdout.readline()
+        if not answer.startswith(b"201 "):
+            raise SystemExit(f"a line is answered {answer!r}")
+
+    ask_line(f"POST /api/v1/namespaces {NAMESPACE}\n")
+    before = processor_time(run.pid)
+    for body in bodies:
+        ask_line(f"POST {CONFIG_MAPS} {body}\n")
+    spent = processor_time(run.pid) - before
+    run.stdin.close()
+    run.wait()
+    return spent / len(bodies) * 1e6
 
 
 def posts():
-    """Processor time of a POST of 1 KiB over a link, and in a script, in memory."""
     bodies = [config_map(f"c{number}", 1_024) for number in range(POSTS)]
-    begin = '{"apiVersion":"v1","kind":"Namespace","metadata":{"name":"n"}}'
-    child, port = serve()
-    request(port, "POST", "/api/v1/namespaces", begin, 201)
+    rounds = [(post_over_link(bodies), post_in_script(bodies)) for _ in range(5)]
+    more = statistics.median(mine - its for mine, its in rounds)
+    mine, its = (statistics.median(times) for times in zip(*rounds))
+    print(f"POST of 1 KiB in memory over a link : in a script: processor time {more:+.1f} us, {mine:.1f} us : {its:.1f} us", flush=True)
+
+
+def link_memory():
+    """What a link takes: what the process has while one is open, less what it has between two."""
+    child, port, link, _ = with_object()
+    link.close()
+    time.sleep(0.5)
+    least = memory(child.pid, "RssAnon")
     link = http.client.HTTPConnection("127.0.0.1", port)
-    before = processor_time(child.pid)
-    for body in bodies:
-        link.request("POST", "/api/v1/namespaces/n/configmaps", body=body)
-        reply = link.getresponse()
-        reply.read()
-        assert reply.status == 201
-    over_link = (processor_time(child.pid) - before) / POSTS * 1e6
-    most = int(re.search(r"VmHWM:\s+(\d+)", open(f"/proc/{child.pid}/status").read())[1])
+    for _ in range(GETS):
+        ask(link, "GET", f"{CONFIG_MAPS}/c")
+    print(f"memory of a link of {GETS} GETs: {memory(child.pid, 'RssAnon') - least} KiB; most memory of the server {memory(child.pid, 'VmHWM')} KiB")
+    link.close()
     child.terminate()
     child.wait()
-    lines = f"POST /api/v1/namespaces {begin}\n" + "".join(f"POST /api/v1/namespaces/n/configmaps {body}\n" for body in bodies)
-    run = subprocess.Popen([PROGRAM, "run"], stdin=subprocess.PIPE, stdout=subprocess.DEVNULL)
-    run.stdin.write(lines.encode())
-    run.stdin.flush()
-    while open(f"/proc/{run.pid}/stat").read().rpartition(")")[2].split()[0] != "S" or processor_time(run.pid) == 0:
-        time.sleep(0.05)
-    time.sleep(0.2)
-    in_script = processor_time(run.pid) / POSTS * 1e6
-    of_run = int(re.search(r"VmHWM:\s+(\d+)", open(f"/proc/{run.pid}/status").read())[1])
-    run.stdin.close()
-    run.wait()
-    print(f"POST of 1 KiB in memory: {over_link:.1f} us of processor time over a link, {in_script:.1f} us in a script; most memory {most} KiB and {of_run} KiB")
 
 
 def main():
     with tempfile.TemporaryDirectory() as folder:
-        gets(folder, int(sys.argv[1]) if len(sys.argv) > 1 else 3)
+        gets(folder, int(sys.argv[2]) if len(sys.argv) > 2 else 3)
+    blocks()
+    link_memory()
     posts()
 
 
