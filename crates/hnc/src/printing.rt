@@ -126,7 +126,7 @@ fn quota_on(alloc: Global, rows: &[Shared], excluded: &[Text]) -> Result<Told, N
     ensures text { IfOk result (λ told. string_bytes told.text ≡ quota_text excluded.now rows.now) }
     ensures status { IfOk result (λ told. told.status ≡ Status.Done) }
 {
-    let survey = Survey::new(alloc, rows, excluded)?;
+    let survey = Survey::with_sums(alloc, rows, excluded)?;
     Ok(done(quota(&survey)?))
 }
 

@@ -2,25 +2,27 @@
 --     same_wanted    what is wanted in a state is what is wanted in that of its rows
 --     one_at_most, nothing_exactly    what is found is determined by the state;  nothing is found exactly where nothing is wanted
 --     first_found    the least of those that are found is the first, in each state of the rows
---     told_first     so is what is found by a survey of the rows
+--     told_first, told_all    so is what is found by a survey of the rows;  and what the call gives
 use Rattle.std.proofs.Common.{◌≡◌, ℕ, true, Option, Some, None, List, refl, sym, ap, ◌∙◌, subst, true≢false}
-use Rattle.std.specs.Prelude.{is_some}
+use Rattle.std.specs.Prelude.{is_some, IfOk, Result, Ok, Err}
 use Rattle.std.specs.Ordering.{ordering_reverse}
 use Rattle.std.specs.declared.cmp.Ordering.{Ordering}
 use Rattle.std.specs.declared.cmp.Ordering.TheVariants.{Less, Equal, Greater}
 use Rattle.hx_audit.specs.Auditing.{HasRows, IsFirst, IsNothingExactly, IsOneAtMost}
-use Rattle.hx_audit.specs.Candidates.{least_from, state_of, wanting}
+use Rattle.hx_audit.specs.Candidates.{least_from, state_of, wanting, wanting_in}
 use Rattle.hx_audit.specs.KeyOrder.{key_cmp}
 use Rattle.hx_audit.proofs.Finding.{wanting_found}
 use Rattle.hx_audit.proofs.Keeping.{all_wanting}
 use Rattle.hx_audit.proofs.Lowest.{first_is}
 use Rattle.hx_audit.proofs.Ordered.{key_cmp_total, key_cmp-IsAntisymmetric}
+use Rattle.hx_model.specs.Forest.{Forest}
 use Rattle.hx_model.specs.Quotas.{used}
 use Rattle.hx_model.specs.State.{State, Objects}
 use Rattle.hx_model.specs.Wanted.{wanted_write}
 use Rattle.hx_model.specs.declared.key.Key.{Key}
 use Rattle.hx_model.specs.declared.key.Key.TheVariants as key
-use Rattle.hx_survey.specs.Surveyed.{Surveyed}
+use Rattle.hx_object.specs.declared.memory.NoMemory.{NoMemory}
+use Rattle.hx_survey.specs.Surveyed.{Surveyed, tree_of}
 
 -- what is wanted depends on the objects and on the excluded names alone
 same_here : (s : State) (k : Key) → wanted_write (state_of (record { objects = s.objects; excluded = s.config.excluded })) k ≡ wanted_write s k
@@ -66,9 +68,15 @@ nothing_exactly s (Some k) h = (λ none. absurd (true≢false (ap is_some none))
 
 -- ---- the call
 
--- where the keys that are found are those of a survey of these rows
-pub told_first : (v : Surveyed) (rows : Objects) (excluded : List (List ℕ)) (keys : List Key) (found : Option Key) → v ≡ record { objects = rows; excluded = excluded } → keys ≡ wanting v → found ≡ least_from None keys
+-- where what is found is the least by a survey of these rows
+pub told_first : (v : Surveyed) (rows : Objects) (excluded : List (List ℕ)) (found : Option Key) → v ≡ record { objects = rows; excluded = excluded } → found ≡ least_from None (wanting v)
     → (s : State) → HasRows rows excluded s → IsFirst s found
-told_first v rows excluded keys found is are least s has =
-    let same : found ≡ least_from None (wanting (record { objects = rows; excluded = excluded })) = least ∙ ap (least_from None) (are ∙ ap wanting is) in
+told_first v rows excluded found is least s has =
+    let same : found ≡ least_from None (wanting (record { objects = rows; excluded = excluded })) = least ∙ ap (λ (w : Surveyed). least_from None (wanting w)) is in
     subst (λ (o : Option Key). IsFirst s o) (sym same) (first_found (record { objects = rows; excluded = excluded }) s has)
+
+-- so it is with what the call gives
+pub told_all : (v : Surveyed) (rows : Objects) (excluded : List (List ℕ)) (nodes : Forest) (result : Result (Option Key) NoMemory) → v ≡ record { objects = rows; excluded = excluded } → nodes ≡ tree_of v → IfOk result (λ found. found ≡ least_from None (wanting_in v nodes))
+    → IfOk result (λ found. (s : State) → HasRows rows excluded s → IsFirst s found)
+told_all v rows excluded nodes (Ok found) is are least = told_first v rows excluded found is (least ∙ ap (λ (f : Forest). least_from None (wanting_in v f)) are)
+told_all v rows excluded nodes (Err error) is are least = tt

@@ -1,6 +1,7 @@
 -- The least of some keys.
+--     least_on     the least of keys and of others behind them
 --     first_is     where they are those that want a write, it is the first that does
-use Rattle.std.proofs.Common.{◌≡◌, ◌⊎◌, Bool, true, false, ◌||◌, Option, Some, None, List, [], ◌∷◌, refl, sym, ap, ◌∙◌, subst, inl, inr, true≢false}
+use Rattle.std.proofs.Common.{◌≡◌, ◌⊎◌, Bool, true, false, ◌||◌, Option, Some, None, List, [], ◌∷◌, ◌++◌, refl, sym, ap, ◌∙◌, subst, inl, inr, true≢false}
 use Rattle.std.specs.Prelude.{is_some, if◌then◌else◌}
 use Rattle.std.specs.List.{AllByRecursion}
 use Rattle.std.specs.Ordering.{is_lt, is_gt}
@@ -18,6 +19,11 @@ use Rattle.hx_model.specs.State.{State}
 use Rattle.hx_model.specs.Wanted.{wanted_write}
 use Rattle.hx_model.specs.declared.key.Key.{Key}
 use Rattle.hx_model.specs.declared.key.Write.{Write}
+
+-- the least of keys and of others behind them
+pub least_on : (best : Option Key) (keys others : List Key) → least_from best (keys ++ others) ≡ least_from (least_from best keys) others
+least_on best [] others = refl
+least_on best (k ∷ keys) others = least_on (Some (lesser best k)) keys others
 
 module _ (P : Key → Type 0) where
   -- a key that is at most one and each of others, and that has what they have

@@ -1,9 +1,9 @@
 // The least key that wants a write.
-ghost use Rattle.std.specs.Prelude.{◌≡◌, ◌++◌, true, IfOk, OnOk};
+ghost use Rattle.std.specs.Prelude.{◌≡◌, true, None, IfOk};
 ghost use Rattle.hx_model.specs.State.{State, ascends};
 ghost use Rattle.hx_survey.specs.Surveyed.{namespaces_lie_alone};
 ghost use Rattle.hx_audit.specs.Auditing.{HasRows, IsFirst};
-ghost use Rattle.hx_audit.specs.Candidates.{active_kinds, wanting, wanting_in};
+ghost use Rattle.hx_audit.specs.Candidates.{active_kinds, least_from, wanting_in};
 
 use crate::kinds::active_kinds;
 use crate::least::least_of;
@@ -25,36 +25,27 @@ pub fn first_wanting(
     requires homes { namespaces_lie_alone objects.now ≡ true }
     ensures { IfOk result (λ found. (s : State) → HasRows objects.now excluded.now s → IsFirst s found) }
 {
-    let survey = Survey::new(alloc, objects, excluded)?;
-    let keys = wanting_keys(&survey, excluded)?;
-    Ok(least_of(keys))
+    let survey = Survey::with_sums(alloc, objects, excluded)?;
+    let kinds = active_kinds(&survey)?;
+    least_wanting(&survey, excluded, &kinds, survey.nodes())
 }
 
-/// The keys that want a write.
-fn wanting_keys(survey: &Survey, excluded: &[Text]) -> Result<Vec<Key>, NoMemory>
-    requires excluded { excluded.now ≡ survey.now.excluded }
-    ensures { IfOk result (λ keys. keys.items ≡ wanting survey.now) }
-{
-    let mut keys = Vec::new(survey.allocator());
-    let kinds = active_kinds(survey)?;
-    push_all(survey, excluded, &kinds, survey.nodes(), &mut keys)?;
-    Ok(keys)
-}
-
-/// Adds those of some namespaces.
-fn push_all(
+/// The least of the keys of some namespaces that want a write.
+fn least_wanting(
     survey: &Survey,
     excluded: &[Text],
     kinds: &[Kind],
     nodes: &[(Text, Node)],
-    wanting: &mut Vec<Key>,
-) -> Result<(), NoMemory>
+) -> Result<Option<Key>, NoMemory>
     requires excluded { excluded.now ≡ survey.now.excluded }
     requires kinds { kinds.now ≡ active_kinds survey.now }
-    ensures { OnOk result (wanting.new.items ≡ wanting.old.items ++ wanting_in survey.now nodes.now) }
+    ensures { IfOk result (λ found. found ≡ least_from None (wanting_in survey.now nodes.now)) }
 {
+    let mut best = None;
     for node in nodes {
-        push_namespace(survey, excluded, kinds, &node.0, wanting)?;
+        let mut keys = Vec::new(survey.allocator());
+        push_namespace(survey, excluded, kinds, &node.0, &mut keys)?;
+        best = least_of(best, keys);
     }
-    Ok(())
+    Ok(best)
 }

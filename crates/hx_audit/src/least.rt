@@ -1,16 +1,16 @@
 // The least of some keys.
-ghost use Rattle.std.specs.Prelude.{◌≡◌, None};
+ghost use Rattle.std.specs.Prelude.{◌≡◌, Some};
 ghost use Rattle.std.specs.Ordering.{is_lt};
 ghost use Rattle.hx_audit.specs.Candidates.{lesser, least_from};
 
 use crate::order::compare_keys;
 use hx_model::Key;
 
-/// The least of some keys.
-pub(crate) fn least_of(keys: Vec<Key>) -> Option<Key>
-    ensures { result ≡ least_from None keys.items }
+/// The least of some keys and of one that was found before.
+pub(crate) fn least_of(best: Option<Key>, keys: Vec<Key>) -> Option<Key>
+    ensures { result ≡ least_from best keys.items }
 {
-    let mut best = None;
+    let mut best = best;
     for key in keys {
         best = Some(lesser(best, key));
     }

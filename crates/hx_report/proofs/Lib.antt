@@ -1,6 +1,6 @@
 pub mod Writing
 pub mod Standing
 pub mod Opening
-pub mod Adding
+pub mod Once
 pub mod OneLine
 mod Rows

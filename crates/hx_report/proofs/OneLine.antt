@@ -15,9 +15,8 @@ use Rattle.hx_model.proofs.Climbing.{Climbs, at_top, stopped, onward, chain-Clim
 use Rattle.hx_report.specs.Inside.{above_of, is_that}
 use Rattle.hx_report.specs.Outline.{below, tops, is_top, stands_below, line_at, lines_under, lines_of}
 use Rattle.hx_report.specs.Outlined.{lines_with}
-use Rattle.hx_report.specs.Totals.{IsOnce}
 use Rattle.hx_report.specs.declared.outline.Line.{Line}
-use Rattle.hx_report.proofs.Adding.{once_from}
+use Rattle.hx_report.proofs.Once.{IsOnce, once_from}
 use Rattle.hx_report.proofs.Standing.{top_above, below_above, grows}
 
 -- ---- sums over names

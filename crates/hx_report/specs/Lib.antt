@@ -4,5 +4,4 @@ pub mod Outlined
 pub mod Trees
 pub mod Describing
 pub mod Sums
-pub mod Totals
 pub mod Inside

@@ -7,7 +7,6 @@ mod describing;
 mod laws;
 mod outline;
 mod quotas;
-mod totals;
 mod trees;
 mod words;
 

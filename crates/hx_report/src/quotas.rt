@@ -4,10 +4,8 @@ ghost use Rattle.std.specs.List.{flat_map};
 ghost use Rattle.hx_object.specs.Quantities.{quantity_text};
 ghost use Rattle.hx_survey.specs.Surveyed.{tree_of};
 ghost use Rattle.hx_report.specs.Sums.{limit_line, quota_lines, quota_text, used_by_name};
-ghost use Rattle.hx_report.specs.Totals.{AreTotals};
 ghost use Rattle.hx_report.specs.Words.{line_text, spaced};
 
-use crate::totals::{Total, used};
 use crate::words::{push, push_spaced};
 use hx_charge::hard_of;
 use hx_model::Resource;
@@ -17,34 +15,26 @@ use hx_survey::Survey;
 
 /// A line for each limit of each HierarchicalResourceQuota: the namespace, the quota, the resource, what the subtree of the namespace uses of it, and the limit, both as quantities.
 ///
-/// A resource that isn't counted is used 0 of.
+/// A resource that isn't counted is used 0 of. The survey is to be one [`with_sums`](Survey::with_sums): of any other each subtree is summed anew.
 #[tactic(auto, unfolding(crate::specs::Sums::quota_text))]
 pub fn quota(survey: &Survey) -> Result<String, NoMemory>
     ensures { IfOk result (λ text. string_bytes text ≡ quota_text survey.now.excluded survey.now.objects) }
 {
     let mut out = String::new(survey.allocator());
-    let mut totals = Vec::new(survey.allocator());
     let quotas = survey.of_kind(Kind::HierarchicalResourceQuota);
     for quota in quotas {
-        push_quota(&mut out, survey, &mut totals, quota.object())?;
+        push_quota(&mut out, survey, quota.object())?;
     }
     Ok(out)
 }
 
 /// Appends the lines of a quota.
-fn push_quota(
-    out: &mut String,
-    survey: &Survey,
-    totals: &mut Vec<Total>,
-    quota: &Object,
-) -> Result<(), NoMemory>
-    requires { AreTotals survey.now.objects (tree_of survey.now) totals.old.items }
-    ensures lines { OnOk result (string_bytes out.new ≡ string_bytes out.old ++ quota_lines survey.now.objects (tree_of survey.now) quota.now) }
-    ensures totals { AreTotals survey.now.objects (tree_of survey.now) totals.new.items }
+fn push_quota(out: &mut String, survey: &Survey, quota: &Object) -> Result<(), NoMemory>
+    ensures { OnOk result (string_bytes out.new ≡ string_bytes out.old ++ quota_lines survey.now.objects (tree_of survey.now) quota.now) }
 {
     let limits = hard_of(&quota.payload);
     for limit in limits {
-        push_limit(out, survey, totals, quota, limit)?;
+        push_limit(out, survey, quota, limit)?;
     }
     Ok(())
 }
@@ -53,15 +43,12 @@ fn push_quota(
 fn push_limit(
     out: &mut String,
     survey: &Survey,
-    totals: &mut Vec<Total>,
     quota: &Object,
     limit: &Limit,
 ) -> Result<(), NoMemory>
-    requires { AreTotals survey.now.objects (tree_of survey.now) totals.old.items }
-    ensures lines { OnOk result (string_bytes out.new ≡ string_bytes out.old ++ limit_line survey.now.objects (tree_of survey.now) quota.now limit.now) }
-    ensures totals { AreTotals survey.now.objects (tree_of survey.now) totals.new.items }
+    ensures { OnOk result (string_bytes out.new ≡ string_bytes out.old ++ limit_line survey.now.objects (tree_of survey.now) quota.now limit.now) }
 {
-    let used = used_by_name(survey, totals, &quota.id.ns, &limit.resource)?;
+    let used = used_by_name(survey, &quota.id.ns, &limit.resource)?;
     push_usage(out, &quota.id, limit, used)
 }
 
@@ -86,18 +73,12 @@ fn push_amount(out: &mut String, amount: u128) -> Result<(), NoMemory>
 }
 
 /// What is used of the resource that a name in `spec.hard` stands for.
-fn used_by_name(
-    survey: &Survey,
-    totals: &mut Vec<Total>,
-    ns: &Text,
-    name: &Text,
-) -> Result<u128, NoMemory>
-    requires { AreTotals survey.now.objects (tree_of survey.now) totals.old.items }
-    ensures used { IfOk result (λ used. used ≡ used_by_name survey.now.objects (tree_of survey.now) ns.now name.now) }
-    ensures totals { AreTotals survey.now.objects (tree_of survey.now) totals.new.items }
+#[tactic(auto, unfolding(crate::specs::Sums::used_below, hx_survey::specs::Surveyed::used_in))]
+fn used_by_name(survey: &Survey, ns: &Text, name: &Text) -> Result<u128, NoMemory>
+    ensures { IfOk result (λ used. used ≡ used_by_name survey.now.objects (tree_of survey.now) ns.now name.now) }
 {
     match Resource::of_name(name.as_str()) {
-        Some(resource) => used(survey, totals, ns, resource),
+        Some(resource) => survey.used(ns, resource),
         None => Ok(0),
     }
 }

@@ -7,3 +7,7 @@ pub mod Homes
 pub mod Charged
 pub mod Least
 pub mod Rows
+pub mod Flowing
+pub mod Placing
+pub mod Summing
+pub mod Seaming

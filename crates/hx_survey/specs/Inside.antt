@@ -17,7 +17,6 @@
 --     charge_of_all, charge_in   what some objects are charged;  and what those in a namespace are
 --     Ascends f                  the names of the tree ascend
 --     IsTree f ups halts         so they do, and what is noted is so
---     IsSurvey                   objects that ascend, and the tree of their namespaces
 use Rattle.std.specs.Prelude.{◌≡◌, ℕ, zero, suc, Bool, true, false, ◌||◌, cond, List, [], ◌∷◌, filter, find, map, sum_by, Option, Some, None, option_map, option_and_then, is_none, slice_get, slice_index_or, if◌then◌else◌}
 use Rattle.std.specs.List.Sorted.{IsStrictlySortedBy}
 use Rattle.std.specs.Option.{option_map_or}
@@ -151,8 +150,3 @@ pub record IsTree (f : Forest) (ups : List (Option ℕ)) (halts : List (Option H
   pub order : Ascends f
   pub ups_are : ups ≡ ups_of f
   pub halts_are : halts ≡ halts_of f
-
--- a survey keeps objects that ascend, and the tree of their namespaces
-pub record IsSurvey (objects : Objects) (excluded : List (List ℕ)) (tree : Forest) : Type 0 where
-  pub order : ascends objects ≡ true
-  pub tree_is : tree ≡ forest_in excluded objects

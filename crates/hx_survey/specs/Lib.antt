@@ -1,2 +1,4 @@
 pub mod Surveyed
 pub mod Inside
+pub mod Sums
+pub mod Seams

@@ -11,6 +11,7 @@ ghost use Rattle.hx_survey.specs.Surveyed.{tree_of, namespaces_lie_alone, used_i
 use crate::conditions::conditions_of;
 use crate::reading::nodes_of;
 use crate::search::{Sought, find, least_in, listed_in, run_of};
+use crate::totals::{Totals, no_totals, noted, totals_of};
 use crate::tree::Tree;
 use crate::usage::used_below;
 use hx_model::{Halt, Node, Resource};
@@ -26,6 +27,8 @@ pub struct Survey<'a> {
     /// The names that are excluded from trees. Only contracts speak of them.
     excluded: &'a [Text],
     tree: Tree,
+    /// What subtrees are charged, where that is noted.
+    totals: Totals,
 }
 
 impl<'a> Drop for Survey<'a> {
@@ -34,6 +37,7 @@ impl<'a> Drop for Survey<'a> {
             objects: _,
             excluded: _,
             tree: _,
+            totals: _,
         } = self;
     }
 }
@@ -45,11 +49,11 @@ impl<'a> Model for Survey<'a> {
 
     ghost coded = { surveyed_code };
 
-    ghost use Rattle.hx_survey.specs.Inside.{IsSurvey};
+    ghost use Rattle.hx_survey.specs.Sums.{IsSurvey};
 
     ghost view = { λ s. record { objects = s.objects.now; excluded = s.excluded.now } };
 
-    ghost invariant = { λ s. IsSurvey s.objects.now s.excluded.now s.tree };
+    ghost invariant = { λ s. IsSurvey s.objects.now s.excluded.now s.tree s.totals };
 }
 
 impl<'a> Survey<'a> {
@@ -69,6 +73,28 @@ impl<'a> Survey<'a> {
             objects,
             excluded,
             tree,
+            totals: no_totals(alloc),
+        })
+    }
+
+    /// The same survey, which has noted what subtrees are charged for the resources that quotas limit: [`used`](Self::used) looks it up then, where a survey that is [`new`](Self::new) sums it each time.
+    pub fn with_sums(
+        alloc: Global,
+        objects: &'a [Shared],
+        excluded: &'a [Text],
+    ) -> Result<Survey<'a>, NoMemory>
+        requires order { ascends objects.now ≡ true }
+        requires homes { namespaces_lie_alone objects.now ≡ true }
+        ensures { IfOk result (λ survey. survey ≡ record { objects = objects.now; excluded = excluded.now }) }
+    {
+        let nodes = nodes_of(alloc, objects, excluded)?;
+        let tree = Tree::new(alloc, nodes)?;
+        let totals = totals_of(&tree, objects)?;
+        Ok(Survey {
+            objects,
+            excluded,
+            tree,
+            totals,
         })
     }
 
@@ -200,6 +226,9 @@ impl<'a> Survey<'a> {
     pub fn used(&self, ns: &Text, resource: Resource) -> Result<u128, NoMemory>
         ensures { IfOk result (λ sum. sum ≡ used_in self.now ns.now resource) }
     {
-        used_below(&self.tree, self.objects, ns, resource)
+        match noted(&self.tree, self.objects, &self.totals, ns, resource) {
+            Some(sum) => Ok(sum),
+            None => used_below(&self.tree, self.objects, ns, resource),
+        }
     }
 }

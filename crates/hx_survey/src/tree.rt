@@ -4,12 +4,12 @@ ghost use Rattle.hx_model.specs.Cases.{is_leaving};
 ghost use Rattle.hx_model.specs.Forest.{node_of, is_live, is_excluded, in_chain, comes_back, halt_of, chain_of, children_of, subtree_of};
 ghost use Rattle.hx_model.specs.Moves.{is_eligible};
 ghost use Rattle.hx_model.specs.TreeLabels.{is_open};
-ghost use Rattle.hx_survey.specs.Inside.{Ascends};
+ghost use Rattle.hx_survey.specs.Inside.{Ascends, place_of, ups_of};
 
 use crate::ancestry::{comes_back, halt_of, in_chain};
 use crate::building::{halts_of, ups_of};
 use crate::chains::{chain_of, children_of, subtree_of};
-use crate::places::node_of;
+use crate::places::{node_of, place_of};
 use hx_model::{Halt, Node};
 use hx_object::{NoMemory, Text};
 use std::alloc::Global;
@@ -72,9 +72,24 @@ impl Tree {
     }
 
     pub(crate) fn nodes(&self) -> &[(Text, Node)]
-        ensures { result.now ≡ self.now }
+        ensures nodes { result.now ≡ self.now }
+        ensures order { Ascends self.now }
     {
         self.nodes.as_slice()
+    }
+
+    /// Where the parent of each namespace lies.
+    pub(crate) fn ups(&self) -> &[Option<usize>]
+        ensures { result.now ≡ ups_of self.now }
+    {
+        self.ups.as_slice()
+    }
+
+    /// Where a namespace lies.
+    pub(crate) fn place(&self, name: &Text) -> Option<usize>
+        ensures { result ≡ place_of self.now name.now }
+    {
+        place_of(&self.nodes, name)
     }
 
     /// The node of a namespace, where it is there.

@@ -38,7 +38,11 @@ fn charge_in_all(objects: &[Shared], names: &[Text], resource: Resource) -> Resu
 }
 
 /// What the objects in a namespace are charged.
-fn charge_in(objects: &[Shared], name: &Text, resource: Resource) -> Result<u128, NoMemory>
+pub(crate) fn charge_in(
+    objects: &[Shared],
+    name: &Text,
+    resource: Resource,
+) -> Result<u128, NoMemory>
     requires { ascends objects.now ≡ true }
     ensures { IfOk result (λ sum. sum ≡ charge_in objects.now resource name.now) }
 {
@@ -66,7 +70,7 @@ fn charge_of_all(objects: &[Shared], resource: Resource) -> Result<u128, NoMemor
 }
 
 /// The sum of two charges. One that passes 2^128 counts as want of memory.
-fn added(sum: u128, more: u128) -> Result<u128, NoMemory>
+pub(crate) fn added(sum: u128, more: u128) -> Result<u128, NoMemory>
     ensures { IfOk result (λ total. total ≡ sum + more) }
 {
     match sum.checked_add(more) {

@@ -1,5 +1,8 @@
-use Rattle.hx_audit.proofs.Auditing.{told_first}
+use Rattle.std.proofs.Common.{rules, ◌≡◌, ◌∙◌, IfOk, None, ap, subst, sym}
+use Rattle.hx_model.specs.Forest.{Forest}
+use Rattle.hx_audit.specs.Candidates.{least_from, wanting_in}
+use Rattle.hx_audit.proofs.Auditing.{told_all}
 use Rattle.hx_audit.proofs.first.first_wanting.Goals as goal
 
 pub returns : goal.returns
-returns c = told_first c.in_ok-survey.survey c.args.objects.now c.args.excluded.now c.in_ok-keys.keys.items c.least_of.result c.in_ok-survey.ensures c.in_ok-keys.ensures c.least_of.ensures
+returns c = told_all c.in_ok-survey.survey c.args.objects.now c.args.excluded.now c.nodes.result.now c.least_wanting.result c.in_ok-survey.ensures c.nodes.ensures c.least_wanting.ensures
