@@ -3,19 +3,18 @@
 --     noted_at           what is noted is so for every place
 --     least_step, ..     the least place of a walk
 --     bridge             a walk that is cut comes to the seam of a ring exactly where a whole one comes to the ring
-use Rattle.std.proofs.Common.{◌≡◌, ℕ, zero, suc, ◌+◌, ◌-◌, ◌<◌, ◌≤◌, eqb, eqb-true, eq-eqb, Bool, true, false, cond, ◌||◌, ◌⊎◌, inl, inr, List, [], ◌∷◌, ◌++◌, length, map, Option, Some, None, refl, sym, ap, ◌∙◌, subst, arith, true≢false}
-use Rattle.std.specs.Prelude.{is_some, min, option_and_then, slice_index_or}
+use Rattle.std.proofs.Common.{◌≡◌, ℕ, zero, suc, ◌+◌, ◌<◌, ◌≤◌, eqb, eqb-true, eq-eqb, Bool, true, false, cond, ◌||◌, ◌⊎◌, inl, inr, List, [], ◌∷◌, ◌++◌, length, Option, Some, None, refl, sym, ap, ◌∙◌, subst, arith, true≢false}
+use Rattle.std.specs.Prelude.{is_some, min}
 use Rattle.std.specs.Option.{option_map_or}
-use Rattle.std.specs.Str.{bytes_eq}
 use Rattle.std.proofs.lemmas.Bool.{false_from_ne_true}
 use Rattle.std.proofs.lemmas.List.{length-map, get_or_past}
 use Rattle.std.proofs.lemmas.Option.{none-some, same_Some}
-use Rattle.hx_model.specs.Forest.{Forest, chain_of, comes_back, in_chain, is_in, is_there, node_of, parent_of}
+use Rattle.hx_model.specs.Forest.{Forest, chain_of, comes_back, in_chain, is_in, parent_of}
 use Rattle.hx_model.specs.declared.node.Node.{Node}
-use Rattle.hx_model.proofs.Climbing.{Above, itself, through, above_chain, chain_above, chain_trans, is_same}
+use Rattle.hx_model.proofs.Climbing.{Above, itself, through, above_chain, chain_above, chain_trans}
 use Rattle.hx_model.proofs.Walking.{both}
 use Rattle.hx_survey.specs.Inside.{place_at, place_of, up_at, ups_of, walk_at}
-use Rattle.hx_survey.specs.Seams.{AreCuts, AreSeams, IsNoted, cut_at, is_in_ring, is_seam, least_on, seam_at, shared_at}
+use Rattle.hx_survey.specs.Seams.{AreCuts, AreSeams, IsNoted, cut_at, is_seam, least_on, seam_at, shared_at}
 use Rattle.hx_survey.specs.Sums.{reaches}
 use Rattle.hx_survey.proofs.Flowing.{walk_none}
 use Rattle.hx_survey.proofs.Placed.{found_at}

@@ -6,17 +6,17 @@
 use Rattle.std.proofs.Common.{◌≡◌, ℕ, zero, suc, ◌+◌, ◌<◌, ◌≤◌, Bool, true, false, cond, List, [], ◌∷◌, length, take, filter, sum_by, Option, Some, None, refl, sym, ap, ◌∙◌, subst, arith}
 use Rattle.std.specs.Prelude.{replicate, slice_get, slice_index_or, slice_set}
 use Rattle.std.specs.Option.{option_map_or}
-use Rattle.std.proofs.lemmas.List.{length-map, length-set, length-replicate, take_all}
+use Rattle.std.proofs.lemmas.List.{length-set, length-replicate, take_all}
 use Rattle.std.proofs.lemmas.List.Sums.{sum_by-cons, sum_by_more}
 use Rattle.std.proofs.lemmas.Option.{none-some, same_Some}
-use Rattle.hx_model.specs.Forest.{Forest, in_chain, names_of, subtree_of}
+use Rattle.hx_model.specs.Forest.{Forest, in_chain, names_of}
 use Rattle.hx_model.specs.Quotas.{charge_below}
 use Rattle.hx_model.specs.State.{Objects}
 use Rattle.hx_model.specs.declared.node.Node.{Node}
 use Rattle.hx_model.specs.declared.resource.Resource.{Resource}
-use Rattle.hx_survey.specs.Inside.{Ascends, charge_in, place_at, place_of, ups_of}
+use Rattle.hx_survey.specs.Inside.{Ascends, charge_in, place_of, ups_of}
 use Rattle.hx_survey.specs.Seams.{shared_at}
-use Rattle.hx_survey.specs.Sums.{AreSums, AreWays, flow, is_among, reaches}
+use Rattle.hx_survey.specs.Sums.{AreSums, AreWays, flow, reaches}
 use Rattle.hx_survey.specs.declared.totals.Ways.{Ways}
 use Rattle.hx_survey.proofs.Charged.{used_by_names}
 use Rattle.hx_survey.proofs.Flowing.{IsPassing, flow_more, sum_now}

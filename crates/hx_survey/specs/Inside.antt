@@ -17,7 +17,7 @@
 --     charge_of_all, charge_in   what some objects are charged;  and what those in a namespace are
 --     Ascends f                  the names of the tree ascend
 --     IsTree f ups halts         so they do, and what is noted is so
-use Rattle.std.specs.Prelude.{◌≡◌, ℕ, zero, suc, Bool, true, false, ◌||◌, cond, List, [], ◌∷◌, filter, find, map, sum_by, Option, Some, None, option_map, option_and_then, is_none, slice_get, slice_index_or, if◌then◌else◌}
+use Rattle.std.specs.Prelude.{◌≡◌, ℕ, zero, suc, Bool, false, ◌||◌, cond, List, [], ◌∷◌, filter, find, map, sum_by, Option, Some, None, option_map, option_and_then, is_none, slice_get, slice_index_or, if◌then◌else◌}
 use Rattle.std.specs.List.Sorted.{IsStrictlySortedBy}
 use Rattle.std.specs.Option.{option_map_or}
 use Rattle.std.specs.Ordering.{nat_cmp, ordering_then}
@@ -31,8 +31,7 @@ use Rattle.hx_object.specs.declared.object.Id.{Id}
 use Rattle.hx_object.specs.declared.object.Object.{Object}
 use Rattle.hx_model.specs.Charges.{charge_of, kind_for}
 use Rattle.hx_model.specs.Forest.{Forest, is_in, own_halt_of}
-use Rattle.hx_model.specs.State.{Objects, ascends, is_listed, same_id}
-use Rattle.hx_model.specs.Tree.{forest_in}
+use Rattle.hx_model.specs.State.{Objects, is_listed, same_id}
 use Rattle.hx_model.specs.declared.node.Halt.{Halt}
 use Rattle.hx_model.specs.declared.node.Halt.TheVariants.{ParentMissing, IllegalParent}
 use Rattle.hx_model.specs.declared.node.Node.{Node}

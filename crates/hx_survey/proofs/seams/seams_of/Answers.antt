@@ -1,4 +1,3 @@
-use Rattle.std.proofs.Common.{◌≡◌}
 use Rattle.hx_survey.specs.Seams.{seam_at}
 use Rattle.hx_survey.proofs.Seaming.{noted_more}
 use Rattle.hx_survey.proofs.seams.seams_of.Goals as goal

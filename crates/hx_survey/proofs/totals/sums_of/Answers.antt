@@ -1,9 +1,8 @@
-use Rattle.std.proofs.Common.{◌≡◌, ◌∙◌, ◌∷◌, ◌+◌, ◌≤◌, ℕ, List, Some, drop, length, refl, sym, ap, subst}
+use Rattle.std.proofs.Common.{◌≡◌, ◌∙◌, ◌+◌, ◌≤◌, ℕ, List, Some, drop, length, refl, sym, ap, subst}
 use Rattle.std.specs.Prelude.{slice_get, slice_index_or, slice_set}
 use Rattle.std.proofs.lemmas.List.{drop_all, drop_more}
 use Rattle.std.proofs.lemmas.Option.{slice_get_read}
 use Rattle.hx_model.specs.declared.node.Node.{Node}
-use Rattle.hx_survey.specs.Inside.{ups_of}
 use Rattle.hx_survey.specs.Seams.{shared_at}
 use Rattle.hx_survey.proofs.Flowing.{IsPassing, one_passed}
 use Rattle.hx_survey.proofs.Summing.{IsBegun, all_begun, all_passed, none_begun, one_begun}
