@@ -32,6 +32,8 @@ mod requests;
 #[cfg(test)]
 mod scripts;
 #[cfg(test)]
+mod seats;
+#[cfg(test)]
 mod selectors;
 #[cfg(test)]
 mod stores;
