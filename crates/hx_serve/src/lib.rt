@@ -8,4 +8,5 @@ mod service;
 
 pub use law::law_of_visits;
 pub use links::{Notices, serve};
+pub use reply::reply_to;
 pub use service::ClusterService;
