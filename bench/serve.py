@@ -5,8 +5,8 @@ Usage: bench/serve.py [PROGRAM [SECONDS]]
 PROGRAM is the built program, crates/hnc/out/hnc where none is given. It needs wrk and nginx. Prints a line each:
 the GET of an object of 300 bytes over one keep-alive link beside nginx's file of the same bytes, by wrk, in turns of SECONDS (3) each: requests per second and
 processor time a request, as ratios of the program's to nginx's, each the median of five, with its range; the calls of the system a request, by strace where it
-is there; the blocks of memory that a GET makes over a link and in a script, by valgrind where it is there; the processor time of a POST of 1 KiB in memory
-over a link, and of the same POST in a script, in turns, the medians of five; and what memory a link takes. Each answer's status is looked at.
+is there; the blocks of memory that a GET makes over a link and in a script, and a link, by valgrind where it is there; and the processor time of a POST of
+1 KiB in memory over a link, and of the same POST in a script, in turns, the medians of five. Each answer's status is looked at.
 """
 import http.client
 import json
@@ -25,6 +25,7 @@ PROGRAM = sys.argv[1] if len(sys.argv) > 1 else f"{TOP}/crates/hnc/out/hnc"
 TICK = os.sysconf("SC_CLK_TCK")
 POSTS = 20_000
 GETS = 1_000
+LINKS = 100
 NAMESPACE = '{"apiVersion":"v1","kind":"Namespace","metadata":{"name":"n"}}'
 CONFIG_MAPS = "/api/v1/namespaces/n/configmaps"
 
@@ -48,11 +49,6 @@ def processor_time(pid):
     """The seconds of processor time of a process and its children, to the tick."""
     children = subprocess.run(["pgrep", "-P", str(pid)], capture_output=True, text=True).stdout.split()
     return sum(sum(map(int, open(f"/proc/{its}/stat").read().rpartition(")")[2].split()[11:13])) for its in [pid, *children]) / TICK
-
-
-def memory(pid, what):
-    """KiB of a process: VmHWM is the most that it had, RssAnon what it has that no file has."""
-    return int(re.search(rf"{what}:\s+(\d+)", open(f"/proc/{pid}/status").read())[1])
 
 
 def serve(*before):
@@ -151,37 +147,43 @@ def calls(child, port, target):
     print(f"calls of the system of {GETS} GETs: {', '.join(f'{name} {count}' for name, count in sorted(counts.items(), key=lambda it: -it[1]))}", flush=True)
 
 
-def blocks_made(err):
-    return int(re.search(r"total heap usage: ([\d,]+) allocs", err)[1].replace(",", ""))
+def heap(err):
+    """How many blocks of memory valgrind counted, and their bytes."""
+    made = re.search(r"total heap usage: ([\d,]+) allocs, [\d,]+ frees, ([\d,]+) bytes allocated", err)
+    return [int(number.replace(",", "")) for number in made.groups()]
 
 
-def blocks_of_link(count):
-    """How many blocks of memory a server makes that answers so many GETs over a link."""
-    child, port = serve("valgrind", "--leak-check=no")
-    link = http.client.HTTPConnection("127.0.0.1", port)
-    ask(link, "POST", "/api/v1/namespaces", NAMESPACE, 201)
-    ask(link, "POST", CONFIG_MAPS, config_map("c", 262), 201)
-    for _ in range(count):
-        ask(link, "GET", f"{CONFIG_MAPS}/c")
+def heap_of_links(links, gets):
+    """What a server asks for that answers so many links, of so many GETs each."""
+    child, port, link, _ = with_object("valgrind", "--leak-check=no")
     link.close()
+    for _ in range(links):
+        link = http.client.HTTPConnection("127.0.0.1", port)
+        for _ in range(gets):
+            ask(link, "GET", f"{CONFIG_MAPS}/c")
+        link.close()
     time.sleep(0.5)
     child.terminate()
-    return blocks_made(child.communicate()[1].decode())
+    return heap(child.communicate()[1].decode())
 
 
-def blocks_of_script(count):
+def heap_of_script(count):
     lines = [f"POST /api/v1/namespaces {NAMESPACE}\n", f"POST {CONFIG_MAPS} {config_map('c', 262)}\n", *[f"GET {CONFIG_MAPS}/c\n"] * count]
     ran = subprocess.run(["valgrind", "--leak-check=no", PROGRAM, "run"], input="".join(lines), capture_output=True, text=True, check=True)
     if [line[:4] for line in ran.stdout.splitlines()] != ["201 ", "201 "] + ["200 "] * count:
         raise SystemExit("a script is answered otherwise")
-    return blocks_made(ran.stderr)
+    return heap(ran.stderr)
 
 
 def blocks():
+    """Blocks of a GET, and the bytes of a link: all that is asked for from its begin to its end."""
     if not shutil.which("valgrind"):
         return
-    over_link, in_script = ((made(2 * GETS) - made(GETS)) / GETS for made in (blocks_of_link, blocks_of_script))
-    print(f"blocks of memory of a GET: {over_link:.2f} over a link, {in_script:.2f} in a script", flush=True)
+    of_link, of_script = (
+        (many[0] - few[0]) / GETS for few, many in ((heap_of_links(1, GETS), heap_of_links(1, 2 * GETS)), (heap_of_script(GETS), heap_of_script(2 * GETS)))
+    )
+    few, many = heap_of_links(LINKS, 10), heap_of_links(2 * LINKS, 10)
+    print(f"blocks of memory of a GET: {of_link:.2f} over a link, {of_script:.2f} in a script; of a link of ten GETs: {(many[1] - few[1]) / LINKS:,.0f} bytes in {(many[0] - few[0]) / LINKS:.1f} blocks", flush=True)
 
 
 def post_over_link(bodies):
@@ -232,26 +234,10 @@ def posts():
     print(f"POST of 1 KiB in memory over a link : in a script: processor time {more:+.1f} us, {mine:.1f} us : {its:.1f} us", flush=True)
 
 
-def link_memory():
-    """What a link takes: what the process has while one is open, less what it has between two."""
-    child, port, link, _ = with_object()
-    link.close()
-    time.sleep(0.5)
-    least = memory(child.pid, "RssAnon")
-    link = http.client.HTTPConnection("127.0.0.1", port)
-    for _ in range(GETS):
-        ask(link, "GET", f"{CONFIG_MAPS}/c")
-    print(f"memory of a link of {GETS} GETs: {memory(child.pid, 'RssAnon') - least} KiB; most memory of the server {memory(child.pid, 'VmHWM')} KiB")
-    link.close()
-    child.terminate()
-    child.wait()
-
-
 def main():
     with tempfile.TemporaryDirectory() as folder:
         gets(folder, int(sys.argv[2]) if len(sys.argv) > 2 else 3)
     blocks()
-    link_memory()
     posts()
 
 
