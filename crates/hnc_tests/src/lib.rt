@@ -36,6 +36,8 @@ mod seats;
 #[cfg(test)]
 mod selectors;
 #[cfg(test)]
+mod sessions;
+#[cfg(test)]
 mod stores;
 #[cfg(test)]
 mod values;

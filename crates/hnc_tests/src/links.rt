@@ -61,6 +61,11 @@ fn door_of(alloc: Global, links: &[&str], breaks: Breaks) -> Result<MemDoor, All
     }
 }
 
+/// A door of all links, of which none breaks.
+pub(crate) fn whole_door(alloc: Global) -> Result<MemDoor, AllocError> {
+    door_of(alloc, LINKS.as_slice(), WHOLE)
+}
+
 /// How many links were served, and how many of them ended otherwise than closed. The door has what was written.
 fn serve_all(
     alloc: Global,
@@ -113,7 +118,7 @@ const LINKS: [&str; 3] = [
 ];
 
 /// What is written to them. Behind the first link the labels of the tree were settled.
-const REPLIES: [&str; 3] = [
+pub(crate) const REPLIES: [&str; 3] = [
     "HTTP/1.1 201 Created\r\ncontent-type: application/json\r\ncontent-length: 115\r\n\r\n{\"apiVersion\":\"v1\",\"kind\":\"Namespace\",\"metadata\":{\"name\":\"acme\",\"resourceVersion\":\"1\"},\"status\":{\"phase\":\"Active\"}}HTTP/1.1 404 Not Found\r\ncontent-type: application/json\r\ncontent-length: 141\r\nconnection: close\r\n\r\n{\"apiVersion\":\"v1\",\"code\":404,\"kind\":\"Status\",\"message\":\"namespaces \\\"none\\\" not found\",\"metadata\":{},\"reason\":\"NotFound\",\"status\":\"Failure\"}",
     "HTTP/1.1 200 OK\r\ncontent-type: application/json\r\ncontent-length: 202\r\n\r\n{\"apiVersion\":\"v1\",\"kind\":\"Namespace\",\"metadata\":{\"labels\":{\"acme.tree.hnc.x-k8s.io/depth\":\"0\",\"hnc.x-k8s.io/included-namespace\":\"true\"},\"name\":\"acme\",\"resourceVersion\":\"2\"},\"status\":{\"phase\":\"Active\"}}",
     "HTTP/1.1 405 Method Not Allowed\r\ncontent-type: application/json\r\ncontent-length: 142\r\nconnection: close\r\n\r\n{\"apiVersion\":\"v1\",\"code\":405,\"kind\":\"Status\",\"message\":\"method not served here\",\"metadata\":{},\"reason\":\"MethodNotAllowed\",\"status\":\"Failure\"}",
@@ -122,7 +127,7 @@ const REPLIES: [&str; 3] = [
 #[test]
 fn links(rt: HostRuntime) -> Result<(), Fail> {
     let keys = RandomState::new(&rt)?;
-    let mut door = door_of(rt.alloc(), LINKS.as_slice(), WHOLE)?;
+    let mut door = whole_door(rt.alloc())?;
     let counts = serve_all(rt.alloc(), keys, &mut door, None)?;
     assert_eq!(rt; counts, (3, 1));
     for (sink, text) in door.sinks().iter().zip(REPLIES.as_slice()) {
@@ -135,7 +140,7 @@ fn links(rt: HostRuntime) -> Result<(), Fail> {
 #[test]
 fn some_links(rt: HostRuntime) -> Result<(), Fail> {
     let keys = RandomState::new(&rt)?;
-    let mut door = door_of(rt.alloc(), LINKS.as_slice(), WHOLE)?;
+    let mut door = whole_door(rt.alloc())?;
     let counts = serve_all(rt.alloc(), keys, &mut door, Some(1))?;
     assert_eq!(rt; counts, (1, 0));
     assert_eq!(rt; door.sinks().len(), 1);
