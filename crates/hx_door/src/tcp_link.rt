@@ -4,11 +4,11 @@ ghost use Rattle.hx_door.specs.Doors.{AreFresh};
 
 use crate::door::Link;
 use hx_ports::{Sink, Source, StdSink, StdSource};
-use std::cell::Cell;
 use std::io;
 use std::io::{ErrorKind, Read, Write};
 use std::net::{Shutdown, TcpStream};
-use std::rc::Rc;
+use std::sync::Arc;
+use std::sync::atomic::{AtomicU64, Ordering};
 use std::time::{Clock, Duration, Instant};
 
 /// How many seconds a read or a write of a link waits.
@@ -40,14 +40,17 @@ pub(crate) fn link_over(
     let patience = Duration::from_secs(PATIENCE_SECONDS);
     stream.set_read_timeout(Some(patience))?;
     stream.set_write_timeout(Some(patience))?;
+    let began = Instant::now(rt)?;
     let writer = TcpWriter {
         rt: *rt,
         stream: stream.try_clone()?,
-        replied: Rc::new(rt.alloc(), Cell::new(Instant::now(rt)?))?,
+        began,
+        replied: Arc::new(rt.alloc(), AtomicU64::new(0))?,
     };
     let reader = TcpReader {
         rt: *rt,
         stream,
+        began,
         replied: writer.replied.clone()?,
     };
     Ok(Link {
@@ -60,13 +63,16 @@ pub(crate) fn link_over(
 pub struct TcpReader {
     rt: HostRuntime,
     stream: TcpStream,
-    /// When the link began, or a part of a reply was last written to it.
-    replied: Rc<Cell<Instant>>,
+    /// When the link began.
+    began: Instant,
+    /// How many whole seconds after it a part of a reply was last written.
+    replied: Arc<AtomicU64>,
 }
 
 impl Read for TcpReader {
     fn read(&mut self, into: &mut [u8]) -> io::Result<usize> {
-        if self.replied.get().elapsed(&self.rt)?.as_secs() >= REQUEST_SECONDS {
+        let now = self.began.elapsed(&self.rt)?.as_secs();
+        if now.saturating_sub(self.replied.load(Ordering::SeqCst)) >= REQUEST_SECONDS {
             return Err(io::Error::from(ErrorKind::TimedOut));
         }
         self.stream.read(into)
@@ -79,6 +85,7 @@ impl Drop for TcpReader {
         let TcpReader {
             rt: _,
             stream: _,
+            began: _,
             replied: _,
         } = self;
     }
@@ -88,15 +95,17 @@ impl Drop for TcpReader {
 pub struct TcpWriter {
     rt: HostRuntime,
     stream: TcpStream,
-    /// What the reader of the link has.
-    replied: Rc<Cell<Instant>>,
+    /// When the link began.
+    began: Instant,
+    /// What the reader of the link looks at.
+    replied: Arc<AtomicU64>,
 }
 
 impl Write for TcpWriter {
     fn write(&mut self, from: &[u8]) -> io::Result<usize> {
         let count = self.stream.write(from)?;
-        if let Ok(now) = Instant::now(&self.rt) {
-            self.replied.set(now);
+        if let Ok(since) = self.began.elapsed(&self.rt) {
+            self.replied.store(since.as_secs(), Ordering::SeqCst);
         }
         Ok(count)
     }
@@ -111,16 +120,22 @@ impl Drop for TcpWriter {
         let TcpWriter {
             rt: _,
             stream: _,
+            began: _,
             replied: _,
         } = self;
     }
 }
 
-/// Says that no more is sent, and reads what still comes. A client that is cut off while it sends may lose what it was sent.
+/// Says that no more is sent, reads what still comes, and then ends the link for good: its sink may be given back much later. A client that is cut off while it sends may lose what it was sent.
 fn linger<C: Clock>(clock: &C, stream: &TcpStream) {
-    if stream.shutdown(Shutdown::Write).is_err() {
-        return;
+    if stream.shutdown(Shutdown::Write).is_ok() {
+        read_on(clock, stream);
     }
+    let _ = stream.shutdown(Shutdown::Both);
+}
+
+/// Reads what still comes, for a while.
+fn read_on<C: Clock>(clock: &C, stream: &TcpStream) {
     let silence = Duration::from_millis(SILENCE_MILLISECONDS);
     if stream.set_read_timeout(Some(silence)).is_err() {
         return;
