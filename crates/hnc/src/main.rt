@@ -69,7 +69,7 @@ struct LinkNotices {
 }
 
 impl Notices for LinkNotices {
-    fn link_ended(&mut self, end: LinkEnd) {
+    fn link_ended(&self, end: LinkEnd) {
         let _ = eprintln!(self.rt; "hnc: a link ended: {end:?}");
     }
 }
@@ -135,7 +135,7 @@ fn run_in_memory(rt: &HostRuntime, words: &[String], keys: RandomState) -> Outco
     let mut source = StdSource::new(rt.stdin());
     let mut sink = StdSink::new(rt.stdout());
     let mut door = TcpDoor::new(rt);
-    let mut notices = LinkNotices { rt: *rt };
+    let notices = LinkNotices { rt: *rt };
     let keeper = SureKeeper::new(Vec::new(rt.alloc()), NO_ROWS, keys);
     let ended = top(
         rt.alloc(),
@@ -143,7 +143,7 @@ fn run_in_memory(rt: &HostRuntime, words: &[String], keys: RandomState) -> Outco
         &mut source,
         &mut sink,
         &mut door,
-        &mut notices,
+        &notices,
         keeper,
         keys,
     );
@@ -172,7 +172,7 @@ fn run_over(rt: &HostRuntime, words: &[String], keys: RandomState, keeper: SqlKe
     let mut source = StdSource::new(rt.stdin());
     let mut sink = StdSink::new(rt.stdout());
     let mut door = TcpDoor::new(rt);
-    let mut notices = LinkNotices { rt: *rt };
+    let notices = LinkNotices { rt: *rt };
     let Ended {
         status,
         damaged,
@@ -183,7 +183,7 @@ fn run_over(rt: &HostRuntime, words: &[String], keys: RandomState, keeper: SqlKe
         &mut source,
         &mut sink,
         &mut door,
-        &mut notices,
+        &notices,
         keeper,
         keys,
     );

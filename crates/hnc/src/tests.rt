@@ -157,7 +157,7 @@ fn run_on(
         &mut ports.source,
         &mut ports.sink,
         &mut door,
-        &mut Counted { ended: 0 },
+        &Counted::new(),
         keeper,
         setting.keys,
     );
@@ -179,7 +179,7 @@ fn sure_answers(alloc: Global, keys: RandomState, script: &[u8]) -> Result<SureS
         &mut source,
         &mut sink,
         &mut door,
-        &mut Counted { ended: 0 },
+        &Counted::new(),
         keeper,
         keys,
     ));

@@ -85,7 +85,7 @@ pub fn top<S: Source, W: Sink, K: Keeper, D: Door, N: Notices>(
     source: &mut S,
     sink: &mut W,
     door: &mut D,
-    notices: &mut N,
+    notices: &N,
     mut keeper: K,
     keys: RandomState,
 ) -> Ended<K>
@@ -164,7 +164,7 @@ pub fn top<S: Source, W: Sink, K: Keeper, D: Door, N: Notices>(
 fn serve_at<D: Door, K: Keeper, N: Notices>(
     alloc: Global,
     door: &mut D,
-    notices: &mut N,
+    notices: &N,
     cluster: Cluster<K>,
     serving: &Serving,
 ) -> Ended<K>

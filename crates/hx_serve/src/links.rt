@@ -13,10 +13,10 @@ use std::alloc::Global;
 /// How many turns of worker 0 are made behind a link, at most.
 const SETTLED_TURNS: u64 = 64;
 
-/// Is told how links ended, for whoever watches.
+/// Is told how links ended, by whoever serves them.
 pub trait Notices {
     /// A link ended otherwise than [`LinkEnd::Closed`].
-    fn link_ended(&mut self, end: LinkEnd);
+    fn link_ended(&self, end: LinkEnd);
 }
 
 /// Serves the links of a door, one after the other: each to its end, and then up to 64 turns of worker 0. It serves so many links, or else until the door is closed, and answers how many it served.
@@ -26,7 +26,7 @@ pub fn serve<D: Door, K: Keeper, N: Notices>(
     alloc: Global,
     door: &mut D,
     service: &mut ClusterService<K>,
-    notices: &mut N,
+    notices: &N,
     links: Option<u64>,
 ) -> Result<u64, DoorFault>
     ensures serves { Serves result links service.old service.new (D.shown door.old) (D.shown door.new) }
@@ -68,7 +68,7 @@ fn serve_one<D: Door, K: Keeper>(
 }
 
 /// Notices an end that isn't closed.
-fn tell<N: Notices>(notices: &mut N, end: LinkEnd) {
+fn tell<N: Notices>(notices: &N, end: LinkEnd) {
     if end != LinkEnd::Closed {
         notices.link_ended(end);
     }

@@ -10,6 +10,7 @@ use hx_ports::{MemSink, MemSource, SureKeeper, SureSink, SureSource};
 use hx_serve::Notices;
 use std::alloc::Global;
 use std::hash::RandomState;
+use std::sync::atomic::{AtomicU64, Ordering};
 use std::test::Fail;
 
 // What the clients of two links send, and what is sent to them, of the second how it begins: behind the first link the tree's labels were written. The second link ends within a request.
@@ -34,14 +35,27 @@ const CASES: [(usize, u64, Status, usize, u64); 5] = [
 ];
 
 // Counts the links that ended otherwise than closed.
-#[derive(Clone, Copy)]
 pub(super) struct Counted {
-    pub(super) ended: u64,
+    ended: AtomicU64,
+}
+
+impl Counted {
+    pub(super) fn new() -> Counted {
+        Counted {
+            ended: AtomicU64::new(0),
+        }
+    }
+}
+
+impl Drop for Counted {
+    fn drop(self) {
+        let Counted { ended: _ } = self;
+    }
 }
 
 impl Notices for Counted {
-    fn link_ended(&mut self, _end: LinkEnd) {
-        self.ended = self.ended.saturating_add(1);
+    fn link_ended(&self, _end: LinkEnd) {
+        self.ended.fetch_add(1, Ordering::SeqCst);
     }
 }
 
@@ -96,7 +110,7 @@ fn ends_so(
     }
     let words = split_words(alloc, "serve --listen 127.0.0.1:0 --links 2")?;
     let mut door = door(alloc, piece, fails)?;
-    let mut notices = Counted { ended: 0 };
+    let notices = Counted::new();
     let keeper = SureKeeper::new(Vec::new(alloc), NO_ROWS, keys);
     let ended = top(
         alloc,
@@ -104,11 +118,11 @@ fn ends_so(
         &mut SureSource::new(Vec::new(alloc), 1),
         &mut SureSink::new(Vec::new(alloc)),
         &mut door,
-        &mut notices,
+        &notices,
         keeper,
         keys,
     );
-    let so = ended.status == status && notices.ended == noticed;
+    let so = ended.status == status && notices.ended.load(Ordering::SeqCst) == noticed;
     drop(ended);
     Ok(so && are_answered(&door, links))
 }
