@@ -1,3 +1,3 @@
 pub mod Orders
 pub mod Seating
-pub mod Worked
+pub mod Turning

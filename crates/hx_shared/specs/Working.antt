@@ -1,10 +1,12 @@
 -- What a worker's turns add to what a seat called.
 --     IsTurn w calls        one take and, after a job, one finish or one drop
+--     gets_on e             a turn gets on by this call
 --     HasCalled calls old new      a seat made just these calls
 --     HasTurned, HasWorked  a seat has made a turn;  so many
-use Rattle.std.specs.Prelude.{◌≡◌, ℕ, ◌++◌, List, [], ◌∷◌, length}
-use Rattle.std.specs.List.{AllByRecursion}
+use Rattle.std.specs.Prelude.{◌≡◌, ℕ, Bool, false, ◌++◌, List, [], ◌∷◌, is_none, length}
+use Rattle.std.specs.List.{AllByRecursion, list_any}
 use mathlib.Core.List.{IsPrefix}
+use Rattle.hx_core.specs.Turns.{loss_in}
 use Rattle.hx_core.specs.declared.turns.Take.{Take}
 use Rattle.hx_core.specs.declared.turns.Take.TheVariants as take
 use Rattle.hx_shared.specs.Calls.{Log}
@@ -34,6 +36,11 @@ IsRest w take.NoMemory rest = rest ≡ []
 abbrev pub IsTurn : ℕ → List Call → Type 0
 IsTurn w calls = (taken : Take) × (rest : List Call) × (calls ≡ call.Take w taken ∷ rest) × IsRest w taken rest
 
+-- a turn gets on by this call: it finishes a key, and isn't lost
+abbrev pub gets_on : Call → Bool
+gets_on (call.Finish v end) = is_none (loss_in end)
+gets_on _ = false
+
 -- ---- seats
 
 -- calls of one seat
@@ -50,10 +57,11 @@ pub record HasCalled (calls : List Call) (old new : SeatView) : Type 0 where
   pub rights : new.rights ≡ old.rights
   pub first : new.first ≡ old.first
 
--- it has made a turn
-pub record HasTurned (w : ℕ) (old new : SeatView) : Type 0 where
+-- it has made a turn, which got on or didn't
+pub record HasTurned (w : ℕ) (on : Bool) (old new : SeatView) : Type 0 where
   pub calls : List Call
   pub is : IsTurn w calls
+  pub got : list_any gets_on calls ≡ on
   pub called : HasCalled calls old new
 
 -- all calls of some turns
@@ -61,26 +69,27 @@ abbrev pub all_of : List (List Call) → List Call
 all_of [] = []
 all_of (t ∷ ts) = t ++ all_of ts
 
--- it has made so many turns, and called nothing else
-pub record HasWorked (w made : ℕ) (old new : SeatView) : Type 0 where
+-- it has made so many turns, of which one got on or none did, and called nothing else
+pub record HasWorked (w made : ℕ) (on : Bool) (old new : SeatView) : Type 0 where
   pub turns : List (List Call)
   pub each : AllByRecursion (IsTurn w) turns
   pub many : length turns ≡ made
+  pub got : list_any gets_on (all_of turns) ≡ on
   pub called : HasCalled (all_of turns) old new
 
 -- ---- within a turn
 
--- a finish or a drop more
-abbrev pub Ended : ℕ → SeatView → SeatView → Type 0
-Ended w old new = (e : Call) × IsEndCall w e × Adds old e new
+-- a finish or a drop more, by which the turn got on or didn't
+abbrev pub Ended : ℕ → Bool → SeatView → SeatView → Type 0
+Ended w on old new = (e : Call) × IsEndCall w e × (gets_on e ≡ on) × Adds old e new
 
 -- after a job a finish or a drop more, and else nothing
-abbrev pub Ends : ℕ → Take → SeatView → SeatView → Type 0
-Ends w (take.Job brief) old new = Ended w old new
-Ends w take.Idle old new = new ≡ old
-Ends w (take.Already brief) old new = new ≡ old
-Ends w (take.Other holder) old new = new ≡ old
-Ends w take.NoMemory old new = new ≡ old
+abbrev pub Ends : ℕ → Take → Bool → SeatView → SeatView → Type 0
+Ends w (take.Job brief) on old new = Ended w on old new
+Ends w take.Idle on old new = (on ≡ false) × (new ≡ old)
+Ends w (take.Already brief) on old new = (on ≡ false) × (new ≡ old)
+Ends w (take.Other holder) on old new = (on ≡ false) × (new ≡ old)
+Ends w take.NoMemory on old new = (on ≡ false) × (new ≡ old)
 
 -- what a job gave is taken
 abbrev pub HasTakenIfJob : ℕ → Take → SeatView → Type 0

@@ -16,4 +16,4 @@ pub use call::Call;
 pub use gate::{Gate, OpenGate};
 pub use held::Held;
 pub use shared::{Seat, Shared};
-pub use work::WorkEnd;
+pub use work::{WorkEnd, Worked};

@@ -5,4 +5,4 @@ use Rattle.hx_shared.specs.Working.{HasWorked}
 use Rattle.hx_shared.proofs.shared.Shared.work.Given as goal
 
 abbrev pub invariant-loop-turn : goal.invariant-loop-turn
-invariant-loop-turn g l = (l.seat.table_id ≡ l.fn.self) × IsOutside l.seat.me × HasWorked l.fn.worker l.turn l.fn.seat.me.0 l.seat.me.0 × (HasHistory l.fn.seat.me.0 → HasHistory l.seat.me.0)
+invariant-loop-turn g l = (l.seat.table_id ≡ l.fn.self) × IsOutside l.seat.me × HasWorked l.fn.worker l.turn l.got_on l.fn.seat.me.0 l.seat.me.0 × (HasHistory l.fn.seat.me.0 → HasHistory l.seat.me.0)
