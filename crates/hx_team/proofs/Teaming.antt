@@ -4,8 +4,11 @@
 --     is_lent, is_met        what a split and a meeting leave
 --     at_home, back_home     a pass met what it had lent;  it has seen more between
 --     over_more              an end that was seen stays seen
-use Rattle.std.proofs.Common.{◌≡◌, ◌≢◌, ℕ, ◌+◌, ◌-◌, ◌<◌, Bool, true, false, List, [], ◌∷◌, ◌++◌, Option, refl, sym, ap, subst, ◌∙◌, append_assoc, append-nil, arith, Ok, Err, None, Some, inl, inr, ◌≤◌}
-use Rattle.std.specs.Prelude.{◌||◌, ◌⊎◌, unwrap_or}
+--     led_none, led_then     a door that was asked nothing;  one history behind the other
+--     alone_over, alone_failed, alone_served, led_as, alone_out     what a door leads to that one thread asks
+use Rattle.std.proofs.Common.{◌≡◌, ◌≢◌, ℕ, ◌+◌, ◌-◌, ◌<◌, Bool, true, false, List, [], ◌∷◌, ◌++◌, Option, refl, sym, ap, subst, ◌∙◌, true≢false, append_assoc, append-nil, arith, Ok, Err, None, Some, inl, inr, ◌≤◌}
+use Rattle.std.specs.Prelude.{◌||◌, ◌⊎◌, IsErr, IsOk, unwrap_or}
+use Rattle.hx_ports.specs.Causes.{Rose}
 use Rattle.std.proofs.lemmas.List.Folds.{list_any-append}
 use mathlib.Core.List.{IsPrefix}
 use Rattle.atomic_table.specs.Table.{Me}
@@ -22,10 +25,11 @@ use Rattle.hx_door.specs.Doors.{DoorView}
 use Rattle.hx_link.specs.declared.link.LinkEnd.{LinkEnd}
 use Rattle.hx_serve.specs.Visits.{LinkView}
 use Rattle.hx_sessions.specs.Seats.{IsServedBy}
-use Rattle.hx_sessions.specs.Held.{DoorLog, DoorPassView, EndsBy, HaveLed, HeldView, IsLeftBy, ends_in, held_at, is_end, links_in, told_of, Adds as Tells, Meets as Joins}
+use Rattle.hx_sessions.specs.Held.{DoorLog, DoorPassView, EndsBy, HaveLed, HeldView, IsLeftBy, Leads, ends_in, held_at, is_end, links_in, told_of, Adds as Tells, Meets as Joins}
 use Rattle.hx_sessions.proofs.Leading.{door_law}
-use Rattle.hx_team.specs.Team.{EndsServing, HasGone, HasLent, HasMet, HasStayed, HaveGone, IsServedOut}
+use Rattle.hx_team.specs.Team.{EndsServing, HasGone, HasLed, HasLent, HasMet, HasStayed, HaveGone, IsServedOut}
 use Rattle.hx_sessions.specs.declared.door.Told.{Told}
+use Rattle.hx_sessions.specs.declared.door.Told.TheVariants as told_as
 
 longer : {X : Type 0} (a b c : List X) → IsPrefix a b → IsPrefix b c → IsPrefix a c
 longer a b c (k, p) (l, q) = (k ++ l, sym (append_assoc a k l) ∙ ap (λ m. m ++ l) p ∙ q)
@@ -84,12 +88,12 @@ back_home a b c d l g m =
 pub over_more : (a b : DoorLog) → ends_in a ≡ true → IsPrefix a b → ends_in b ≡ true
 over_more a b over (rest, is) = ap ends_in (sym is) ∙ list_any-append (λ (x : ℕ × Told). is_end x.1) a rest ∙ ap (λ x. x || ends_in rest) over
 
+or-true : (b : Bool) → (b || true) ≡ true
+or-true true = refl
+or-true false = refl
+
 over_told : (a b : DoorPassView) (e : Told) → Tells a e b → is_end e ≡ true → ends_in b.seen ≡ true
 over_told a b e t is = ap ends_in t.seen ∙ list_any-append (λ (x : ℕ × Told). is_end x.1) (a.seen ++ t.between) ((a.number, e) ∷ []) ∙ ap (λ x. ends_in (a.seen ++ t.between) || (x || false)) is ∙ or-true (ends_in (a.seen ++ t.between))
-  where
-    or-true : (b : Bool) → (b || true) ≡ true
-    or-true true = refl
-    or-true false = refl
 
 pub over_none : {X : Type 0} (a b : DoorPassView) (answer : Result (Option X) DoorFault) → answer ≡ Ok None → Tells a (told_of answer) b → ends_in b.seen ≡ true
 over_none a b answer is t = over_told a b (told_of answer) t (ap (λ x. is_end (told_of x)) is)
@@ -99,8 +103,8 @@ over_failed a b answer fault is t = over_told a b (told_of answer) t (ap (λ x. 
 
 -- ---- turns of a worker
 
-pub worked : (w made : ℕ) (a b : SeatView) → HasWorked w made a b → HasGone a b
-worked w made a b h = called a b (all_of h.turns) h.called
+pub worked : (w made : ℕ) (on : Bool) (a b : SeatView) → HasWorked w made on a b → HasGone a b
+worked w made on a b h = called a b (all_of h.turns) h.called
 
 pub worked_any : (end : WorkEnd) (a b : SeatView) → (end ≡ ended.Used → HasGone a b) → (end ≡ ended.Stopped → HasGone a b) → HasGone a b
 worked_any ended.Used a b used stopped = used refl
@@ -139,6 +143,62 @@ serving_ends links old (Ok count) new s =
     told_how : (links_in s.log ≡ links) ⊎ (s.last.door.closed ≡ true) → s.last.taken ≡ links_in s.log → links_in s.log ≤ links → EndsServing links (Ok count) new
     told_how (inl e) taken few = inl (s.ends.1 ∙ taken ∙ e)
     told_how (inr e) taken few = inr (subst (λ n. n ≤ links) (sym (s.ends.1 ∙ taken)) few, ap (λ d. d.closed) s.door ∙ e)
+
+-- ---- a door that one thread asks
+
+led_append : (a b c : HeldView) (xs ys : DoorLog) → HaveLed a xs b → HaveLed b ys c → HaveLed a (xs ++ ys) c
+led_append a b c [] ys p q = subst (λ v. HaveLed v ys c) p q
+led_append a b c (x ∷ xs) ys (m, one, rest) q = (m, one, led_append m b c xs ys rest q)
+
+pub led_none : (v : HeldView) → HasLed true v v
+led_none v = record { log = []; led = refl; over = λ e. absurd (true≢false e) }
+
+-- one history behind the other
+pub led_then : (goes_on : Bool) (a b c : HeldView) → HasLed true a b → HasLed goes_on b c → HasLed goes_on a c
+led_then goes_on a b c p q =
+    record {
+      log = p.log ++ q.log;
+      led = led_append a b c p.log q.log p.led q.led;
+      over = λ e. list_any-append (λ (x : ℕ × Told). is_end x.1) p.log q.log ∙ ap (λ x. ends_in p.log || x) (q.over e) ∙ or-true (ends_in p.log);
+    }
+
+led_one : (goes_on : Bool) (a b : HeldView) (e : Told) → Leads a e b → (goes_on ≡ false → is_end e ≡ true) → HasLed goes_on a b
+led_one goes_on a b e p over = record { log = (0, e) ∷ []; led = (b, p, refl); over = λ f. ap (λ x. x || false) (over f) }
+
+-- no link more comes
+pub alone_over : {X : Type 0} (a b : HeldView) (answer : Result (Option X) DoorFault) → answer ≡ Ok None → Leads a (told_of answer) b → HasLed false a b
+alone_over a b answer is p = led_one false a b (told_of answer) p (λ e. ap (λ x. is_end (told_of x)) is)
+
+-- the door failed
+pub alone_failed : {X : Type 0} (a b : HeldView) (answer : Result (Option X) DoorFault) (fault : DoorFault) → answer ≡ Err fault → Leads a (told_of answer) b → HasLed false a b
+alone_failed a b answer fault is p = led_one false a b (told_of answer) p (λ e. ap (λ x. is_end (told_of x)) is)
+
+-- a link came, and was taken back
+pub alone_served : (a b c : HeldView) (e : Told) → Leads a e b → Leads b told_as.Back c → HasLed true a c
+alone_served a b c e p q = record { log = (0, e) ∷ (0, told_as.Back) ∷ []; led = (b, p, (c, q, refl)); over = λ e. absurd (true≢false e) }
+
+-- an answer that says whether the door goes on
+pub led_as : (said goes_on : Bool) (a b : HeldView) → said ≡ goes_on → HasLed said a b → HasLed goes_on a b
+led_as said goes_on a b is p = subst (λ x. HasLed x a b) is p
+
+-- it was served out
+pub alone_out : (links : ℕ) (old : DoorView) (held last : HeldView) (end : Result ℕ DoorFault) (door : DoorView)
+    → HasLed false held last → held ≡ held_at old links → door ≡ last.door → EndsBy last end → IsServedOut links old end door
+alone_out links old held last end door p is same ends =
+    record { log = p.log; last = last; led = subst (λ (o : HeldView). HaveLed o p.log last) is p.led; over = p.over refl; door = same; ends = ends }
+
+-- its count of faults rose exactly where it failed
+pub serving_failed : (links : ℕ) (old : DoorView) (end : Result ℕ DoorFault) (new : DoorView) → IsServedOut links old end new → IsErr end → Rose old.faults new.faults
+serving_failed links old (Ok count) new s is = absurd (true≢false (sym is))
+serving_failed links old (Err fault) new s is =
+    let l = door_law links old s.log s.last s.led in
+    subst (λ d. Rose old.faults d.faults) (sym s.door) (l.0.failed (sym l.2 ∙ s.ends))
+
+pub serving_calm : (links : ℕ) (old : DoorView) (end : Result ℕ DoorFault) (new : DoorView) → IsServedOut links old end new → IsOk end → new.faults ≡ old.faults
+serving_calm links old (Err fault) new s is = absurd (true≢false (sym is))
+serving_calm links old (Ok count) new s is =
+    let l = door_law links old s.log s.last s.led in
+    ap (λ d. d.faults) s.door ∙ l.0.still (sym l.2 ∙ s.ends.0)
 
 pub stayed_none : (v : SeatView) → HasStayed v v
 stayed_none v = (gone_none v, λ h. h)

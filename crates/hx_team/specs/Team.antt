@@ -4,9 +4,10 @@
 --     HasStayed              a seat has, and what it has seen stays legal
 --     HaveGone               a seat and a pass have
 --     HasLent, HasMet        a pass has lent one right;  it has it back
+--     HasLed                 a door did what a history tells
 --     IsServedOut            a door was asked until no link more came
 --     EndsServing            as many links were handed out as were wanted, or the door is closed
-use Rattle.std.specs.Prelude.{◌≡◌, ◌≤◌, ◌⊎◌, ◌+◌, ℕ, true, Option, Ok, Err}
+use Rattle.std.specs.Prelude.{◌≡◌, ◌≤◌, ◌⊎◌, ◌+◌, ℕ, Bool, false, true, Option, Ok, Err}
 use Rattle.std.specs.declared.result.Result.{Result}
 use mathlib.Core.List.{IsPrefix}
 use Rattle.atomic_table.specs.Seated.{TableId}
@@ -58,6 +59,12 @@ abbrev pub HaveGone : SeatView → SeatView → DoorPassView → DoorPassView �
 HaveGone old new before after = HasStayed old new × HasGone before after
 
 -- ---- the door
+
+-- A door that is held did what a history tells. It goes on, or its history tells that no link more comes
+pub record HasLed (goes_on : Bool) (old new : HeldView) : Type 0 where
+  pub log : DoorLog
+  pub led : HaveLed old log new
+  pub over : goes_on ≡ false → ends_in log ≡ true
 
 -- The door was asked by sessions until one was told that no link more comes. It is what that history leaves, and the answer says how many links were handed out, or that it failed
 pub record IsServedOut (links : ℕ) (old : DoorView) (end : Result ℕ DoorFault) (new : DoorView) : Type 0 where

@@ -2,7 +2,9 @@
 #![tactic(auto)]
 
 mod session;
+mod signals;
 mod team;
 mod threads;
+mod worker;
 
-pub use threads::{ServePlan, Served, Unserved, Watch, serve};
+pub use threads::{ServePlan, Served, serve};

@@ -1,5 +1,5 @@
 use Rattle.hx_team.proofs.Teaming.{stayed_then}
-use Rattle.hx_team.proofs.team.work_until_over.Goals as goal
+use Rattle.hx_team.proofs.worker.work_until_over.Goals as goal
 
 pub working-preserved : goal.working-preserved
 working-preserved g c =

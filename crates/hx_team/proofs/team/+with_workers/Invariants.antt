@@ -1,4 +1,0 @@
-use Rattle.hx_team.proofs.team.+with_workers.Given as goal
-
-abbrev pub decreases-with_workers : goal.decreases-with_workers
-decreases-with_workers g l = l.left
