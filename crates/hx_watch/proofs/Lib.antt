@@ -1,0 +1,5 @@
+pub mod Finding
+pub mod Following
+mod HubExamples
+pub mod Lasting
+mod WindowExamples
