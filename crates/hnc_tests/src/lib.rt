@@ -4,6 +4,8 @@
 #![tactic(auto)]
 
 #[cfg(test)]
+mod beside;
+#[cfg(test)]
 mod bodies;
 #[cfg(test)]
 mod charges;
@@ -19,6 +21,8 @@ mod graphs;
 mod links;
 #[cfg(test)]
 mod made;
+#[cfg(test)]
+mod memory;
 #[cfg(test)]
 mod plans;
 #[cfg(test)]
@@ -40,4 +44,8 @@ mod sessions;
 #[cfg(test)]
 mod stores;
 #[cfg(test)]
+mod team;
+#[cfg(test)]
 mod values;
+#[cfg(test)]
+mod watching;

@@ -1,65 +1,10 @@
 // Links that are served by a cluster, over a door in memory and a keeper that can't fail.
-use hx_core::{Cluster, Unstarted};
-use hx_door::{MemDoor, MemLine};
-use hx_link::LinkEnd;
-use hx_model::RunConfig;
-use hx_object::List;
-use hx_ports::{Keeper, MemSink, MemSource, Meta, SureKeeper};
-use hx_serve::{ClusterService, Notices, serve};
+use crate::memory::{Breaks, Ends, READ_BYTES, WHOLE, WRITE_BYTES, door_of, empty_cluster};
+use hx_door::MemDoor;
+use hx_serve::{ClusterService, serve};
 use std::alloc::{AllocError, Global};
 use std::hash::RandomState;
 use std::test::Fail;
-
-/// How many links ended otherwise than closed.
-#[derive(Drop)]
-struct Ends {
-    count: u64,
-}
-
-impl Notices for Ends {
-    fn link_ended(&mut self, _end: LinkEnd) {
-        self.count = self.count.saturating_add(1);
-    }
-}
-
-/// How many bytes of a link are read at a time.
-const READ_BYTES: usize = 7;
-
-/// How many bytes are written to a link at a time.
-const WRITE_BYTES: usize = 64;
-
-/// The calls of a link that fail, a read and a write by their numbers. The first ones are number 1, so at 0 none fails.
-#[derive(Clone, Copy)]
-struct Breaks {
-    read: u64,
-    write: u64,
-}
-
-/// A link on which each call is answered.
-const WHOLE: Breaks = Breaks { read: 0, write: 0 };
-
-/// A link whose client sends these bytes.
-fn line(alloc: Global, bytes: &[u8], breaks: Breaks) -> Result<MemLine, AllocError> {
-    let reads = vec![in alloc; breaks.read; 1]?;
-    let writes = vec![in alloc; breaks.write; 1]?;
-    let source = MemSource::new(bytes.to_vec(alloc)?, READ_BYTES, reads);
-    let sink = MemSink::new(Vec::with_capacity(alloc, 4096)?, WRITE_BYTES, writes);
-    Ok(MemLine::new(source, sink))
-}
-
-/// A door of these links, of which the first one breaks.
-fn door_of(alloc: Global, links: &[&str], breaks: Breaks) -> Result<MemDoor, AllocError> {
-    let mut lines = Vec::new(alloc);
-    let mut its = breaks;
-    for bytes in links {
-        lines.push(line(alloc, bytes.as_bytes(), its)?)?;
-        its = WHOLE;
-    }
-    match MemDoor::new(lines, Vec::new(alloc)) {
-        Ok(door) => Ok(door),
-        Err(_) => Err(AllocError),
-    }
-}
 
 /// A door of all links, of which none breaks.
 pub(crate) fn whole_door(alloc: Global) -> Result<MemDoor, AllocError> {
@@ -73,40 +18,14 @@ fn serve_all(
     door: &mut MemDoor,
     most: Option<u64>,
 ) -> Result<(u64, u64), AllocError> {
-    let meta = Meta {
-        schema: 2,
-        version: 0,
-        rows: 0,
-    };
-    let mut keeper = SureKeeper::new(Vec::new(alloc), meta, keys);
-    if keeper.attach("").is_err() {
-        return Err(AllocError);
-    }
-    let config = RunConfig {
-        excluded: List::of(Vec::new(alloc)),
-        allow_skip: false,
-    };
-    match Cluster::start(alloc, keeper, config, keys) {
-        Err(
-            Unstarted {
-                fault: _,
-                damaged_key: _,
-                keeper,
-            },
-        ) => {
-            drop(keeper);
-            Err(AllocError)
-        }
-        Ok(cluster) => {
-            let mut service = ClusterService::new(alloc, cluster);
-            let mut ends = Ends { count: 0 };
-            let served = serve(alloc, door, &mut service, &mut ends, most);
-            drop(service.into_cluster().close());
-            match served {
-                Ok(served) => Ok((served, ends.count)),
-                Err(_) => Err(AllocError),
-            }
-        }
+    let cluster = empty_cluster(alloc, keys)?;
+    let mut service = ClusterService::new(alloc, cluster);
+    let ends = Ends::new();
+    let served = serve(alloc, door, &mut service, &ends, most);
+    drop(service.into_cluster().close());
+    match served {
+        Ok(served) => Ok((served, ends.count())),
+        Err(_) => Err(AllocError),
     }
 }
 

@@ -1,8 +1,6 @@
 // What lines at the edges of the script's forms are answered, over ports that can't fail.
-use hx_core::{Cluster, Unstarted};
-use hx_model::RunConfig;
-use hx_object::List;
-use hx_ports::{Keeper, Meta, SureKeeper, SureSink, SureSource};
+use crate::memory::empty_cluster;
+use hx_ports::{SureSink, SureSource};
 use hx_script::{RunEnd, run_script};
 use std::alloc::{AllocError, Global};
 use std::hash::RandomState;
@@ -17,36 +15,10 @@ pub fn answers(
 ) -> Result<(RunEnd, SureSink), AllocError> {
     let mut source = SureSource::new(Vec::from_slice(alloc, script)?, 4096);
     let mut sink = SureSink::new(Vec::with_capacity(alloc, room)?);
-    let meta = Meta {
-        schema: 2,
-        version: 0,
-        rows: 0,
-    };
-    let mut keeper = SureKeeper::new(Vec::new(alloc), meta, keys);
-    if keeper.attach("").is_err() {
-        return Err(AllocError);
-    }
-    let config = RunConfig {
-        excluded: List::of(Vec::new(alloc)),
-        allow_skip: false,
-    };
-    match Cluster::start(alloc, keeper, config, keys) {
-        Err(
-            Unstarted {
-                fault: _,
-                damaged_key: _,
-                keeper,
-            },
-        ) => {
-            drop(keeper);
-            Err(AllocError)
-        }
-        Ok(mut cluster) => {
-            let end = run_script(alloc, &mut source, &mut sink, &mut cluster);
-            drop(cluster.close());
-            Ok((end, sink))
-        }
-    }
+    let mut cluster = empty_cluster(alloc, keys)?;
+    let end = run_script(alloc, &mut source, &mut sink, &mut cluster);
+    drop(cluster.close());
+    Ok((end, sink))
 }
 
 /// The first three bytes of each line, with a space: a request's code, or the beginning of a word.

@@ -1,12 +1,10 @@
 // Seats of one cluster that is shared, over a keeper that can't fail.
-ghost use Rattle.std.specs.Prelude.{◌≡◌, true, [], IfOk};
+ghost use Rattle.std.specs.Prelude.{◌≡◌, true};
 ghost use Rattle.hx_turn.specs.Passes.{IsOutside, all_rights};
 
+use crate::memory::empty_cluster;
 use hx_api::{Method, RequestReader, status_of};
-use hx_core::{Cluster, Unstarted};
-use hx_model::RunConfig;
-use hx_object::List;
-use hx_ports::{Keeper, Meta, SureKeeper};
+use hx_ports::SureKeeper;
 use hx_shared::{Gate, OpenGate, Seat, Shared, WorkEnd};
 use std::alloc::{AllocError, Global};
 use std::hash::RandomState;
@@ -25,38 +23,6 @@ impl Gate for Few {
 
     fn pass(&self, _worker: u32, turn: u64) -> bool {
         turn < self.turns
-    }
-}
-
-/// A cluster without objects.
-fn started(alloc: Global, keys: RandomState) -> Result<Cluster<SureKeeper>, AllocError>
-    ensures { IfOk result (λ cluster. cluster.workers.hands ≡ []) }
-{
-    let meta = Meta {
-        schema: 2,
-        version: 0,
-        rows: 0,
-    };
-    let mut keeper = SureKeeper::new(Vec::new(alloc), meta, keys);
-    if keeper.attach("").is_err() {
-        return Err(AllocError);
-    }
-    let config = RunConfig {
-        excluded: List::of(Vec::new(alloc)),
-        allow_skip: false,
-    };
-    match Cluster::start(alloc, keeper, config, keys) {
-        Err(
-            Unstarted {
-                fault: _,
-                damaged_key: _,
-                keeper,
-            },
-        ) => {
-            drop(keeper);
-            Err(AllocError)
-        }
-        Ok(cluster) => Ok(cluster),
     }
 }
 
@@ -135,15 +101,15 @@ fn worked<R: Wait>(
     let used = shared.work(rt, seat, 7, &OpenGate, 9);
     let counts = shared.busy(rt, seat);
     (
-        matches!(stopped, WorkEnd::Stopped),
-        matches!(used, WorkEnd::Used),
+        matches!(stopped.end, WorkEnd::Stopped),
+        matches!(used.end, WorkEnd::Used),
         counts,
     )
 }
 
 #[test]
 fn seats(rt: HostRuntime) -> Result<(), Fail> {
-    let cluster = started(rt.alloc(), RandomState::new(&rt)?)?;
+    let cluster = empty_cluster(rt.alloc(), RandomState::new(&rt)?)?;
     match Shared::make(rt.alloc(), cluster) {
         Err(cluster) => {
             drop(cluster.close());

@@ -1,52 +1,18 @@
 // A link that is served over a seat of a shared cluster, from a door that is shared too.
-ghost use Rattle.std.specs.Prelude.{◌≡◌, [], IfOk};
+ghost use Rattle.std.specs.Prelude.{◌≡◌};
 ghost use Rattle.hx_turn.specs.Passes.{IsOutside};
 
 use crate::links::{REPLIES, whole_door};
-use hx_core::{Cluster, Unstarted};
+use crate::memory::empty_cluster;
 use hx_door::{Link, MemDoor};
 use hx_link::LinkEnd;
-use hx_model::RunConfig;
-use hx_object::List;
-use hx_ports::{Keeper, Meta, SureKeeper};
+use hx_ports::SureKeeper;
 use hx_sessions::{Bell, DoorPass, HeldDoor, SeatService, SharedDoor, serve_seat};
 use hx_shared::{Seat, Shared};
 use std::alloc::{AllocError, Global};
 use std::hash::RandomState;
 use std::sync::Wait;
 use std::test::Fail;
-
-/// A cluster without rows.
-fn empty_cluster(alloc: Global, keys: RandomState) -> Result<Cluster<SureKeeper>, AllocError>
-    ensures { IfOk result (λ cluster. cluster.workers.hands ≡ []) }
-{
-    let meta = Meta {
-        schema: 2,
-        version: 0,
-        rows: 0,
-    };
-    let mut keeper = SureKeeper::new(Vec::new(alloc), meta, keys);
-    if keeper.attach("").is_err() {
-        return Err(AllocError);
-    }
-    let config = RunConfig {
-        excluded: List::of(Vec::new(alloc)),
-        allow_skip: false,
-    };
-    match Cluster::start(alloc, keeper, config, keys) {
-        Ok(cluster) => Ok(cluster),
-        Err(
-            Unstarted {
-                fault: _,
-                damaged_key: _,
-                keeper,
-            },
-        ) => {
-            drop(keeper);
-            Err(AllocError)
-        }
-    }
-}
 
 /// Serves one link of a door over a seat, and gives it back to the door.
 fn serve_link_of<R: Wait>(
