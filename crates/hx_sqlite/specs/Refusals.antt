@@ -11,8 +11,8 @@ use Rattle.sqlite.specs.declared.error.Error.{Error}
 use Rattle.sqlite.specs.declared.error.Error.TheVariants.{SqliteFailure, SqlInputError}
 use Rattle.sqlite.specs.declared.error.ErrorCode.{ErrorCode}
 use Rattle.sqlite.specs.declared.error.ErrorCode.TheVariants as code
-use Rattle.sqlite_std_file.specs.declared.pair.OpenError.{OpenError}
-use Rattle.sqlite_std_file.specs.declared.pair.OpenError.TheVariants as opening
+use Rattle.hx_disk.specs.declared.opening.OpenError.{OpenError}
+use Rattle.hx_disk.specs.declared.opening.OpenError.TheVariants as opening
 use Rattle.hx_sqlite.specs.declared.fault.Refusal.{Refusal}
 use Rattle.hx_sqlite.specs.declared.fault.Refusal.TheVariants.{NoMemory, Fault}
 use Rattle.hx_sqlite.specs.declared.fault.SqlFault.{SqlFault}

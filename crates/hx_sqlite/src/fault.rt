@@ -3,9 +3,9 @@ ghost use Rattle.std.specs.Prelude.{◌≡◌};
 ghost use Rattle.hx_sqlite.specs.Refusals.{fault_of, refusal_of, refusal_of_kind, TellsOfOpening};
 ghost use Rattle.hx_sqlite.specs.declared.fault.Refusal.TheVariants as given;
 
+use hx_disk::OpenError;
 use hx_object::NoMemory;
 use sqlite::{Error, ErrorCode};
-use sqlite_std_file::OpenError;
 use std::alloc::AllocError;
 use std::fmt;
 use std::io::ErrorKind;

@@ -6,8 +6,9 @@ ghost use Rattle.hx_sqlite.specs.Seats.{are_in_file, are_on_disk, names_a_file};
 use crate::closing::close_files;
 use crate::database::{Ask, Database};
 use crate::fault::{Refusal, SqlFault};
+use hx_disk::File;
 use hx_overlay::Overlay;
-use sqlite::{Connection, File, FileStore, Files, MemStore, Options, Unknown};
+use sqlite::{Connection, FileStore, Files, MemStore, Options};
 use sqlite_disk::Disk;
 use sqlite_pool::probe_blank;
 use sqlite_wal::PageSize;
@@ -126,7 +127,7 @@ fn open_memory(alloc: Global) -> Result<Box<Database<MemStore>>, Refusal> {
 
 fn open_file(rt: &HostRuntime, path: &str) -> Result<Box<Database<FileStore<File>>>, Refusal> {
     // A torn write is supposed to leave each byte old or new, so that a commit syncs once.
-    let files = sqlite_std_file::open(rt, path, Unknown)?;
+    let files = hx_disk::open(rt, path)?;
     let connection = connect(rt, files)?;
     Database::over(rt.alloc(), connection)
 }
@@ -136,7 +137,7 @@ fn open_overlay(
     path: &str,
 ) -> Result<Box<Database<FileStore<Overlay<File>>>>, Refusal> {
     expect_file(rt, path)?;
-    let files = sqlite_std_file::open(rt, path, Unknown)?;
+    let files = hx_disk::open(rt, path)?;
     let mut files = overlay_files(rt.alloc(), files)?;
     expect_made(rt.alloc(), &mut files)?;
     let connection = connect(rt, files)?;
