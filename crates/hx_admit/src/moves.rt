@@ -1,5 +1,5 @@
 // Moves of a namespace by which a copy would overwrite a source.
-ghost use Rattle.std.specs.Prelude.{◌≡◌, ℕ, ◌++◌, ◌||◌, true, false, List, IfOk, OnOk, Option, option_copied};
+ghost use Rattle.std.specs.Prelude.{◌≡◌, ℕ, ◌||◌, true, false, List, IfOk, Option, option_copied};
 ghost use Rattle.std.specs.List.{list_all, list_any};
 ghost use Rattle.hx_object.specs.declared.object.Id.{Id as id_of};
 ghost use Rattle.hx_object.specs.declared.object.Object.{Object as object_of};
@@ -13,12 +13,11 @@ ghost use Rattle.hx_model.specs.TreeLabels.{prescribed_labels};
 ghost use Rattle.hx_admit.specs.Moves.{open_way, is_later, is_gone_to, CanMove, IsMovedBy};
 
 use crate::conflicts::{goes_to, is_propagated, looks_at_labels};
-use hx_forest::Forest;
-use hx_model::{COPIED_KINDS, is_same_name, is_source, mode_in};
-use hx_object::well_known::CONFIG;
+use hx_forest::{Forest, push_names, push_up_to};
+use hx_model::{COPIED_KINDS, is_same_name, is_source};
 use hx_object::{Kind, Mode, NoMemory, Object, Pairs, Shared, Text};
 use hx_reconcile::prescribed_labels;
-use hx_state::{IndexedState, object_in};
+use hx_state::{IndexedState, mode_at};
 use hx_store::Store;
 use std::alloc::Global;
 
@@ -54,10 +53,10 @@ fn overwrites_below(
     if !any_may_spread(store, &COPIED_KINDS) {
         return Ok(false);
     }
-    if !forest.is_eligible(namespace) || !is_open_above(forest, parent) {
+    if !forest.is_eligible(namespace) || !forest.is_open_above(parent) {
         return Ok(false);
     }
-    let above = chain_from(store.allocator(), forest, parent)?;
+    let above = forest.chain_from(parent)?;
     let members = forest.below(namespace)?;
     any_overwrites(store, forest, namespace, &above, &members)
 }
@@ -271,14 +270,6 @@ pub(crate) fn labels_along(store: &Store, name: &Text, chain: &[Text]) -> Result
     }
 }
 
-/// The mode of a kind, by the HNCConfiguration that is stored.
-pub(crate) fn mode_at(store: &Store, kind: Kind) -> Mode
-    ensures { result ≡ mode_at store.now.objects kind }
-{
-    let found = store.find(Kind::HncConfiguration, "", CONFIG);
-    mode_in(object_in(found), kind)
-}
-
 /// The chain of a namespace that takes part, and none of another.
 fn open_chain(alloc: Global, forest: &Forest, name: &Text) -> Result<Vec<Text>, NoMemory>
     ensures { IfOk result (λ names. names.items ≡ open_chain forest.now.nodes name.now) }
@@ -323,45 +314,4 @@ fn are_eligible_up_to(forest: &Forest, namespace: &Text, names: &[Text]) -> bool
         }
     }
     true
-}
-
-/// Adds the names before that of a namespace.
-fn push_up_to(list: &mut Vec<Text>, namespace: &Text, names: &[Text]) -> Result<(), NoMemory>
-    ensures { OnOk result (list.new.items ≡ list.old.items ++ up_to namespace.now names.now) }
-{
-    for name in names {
-        if namespace.as_str() == name.as_str() {
-            return Ok(());
-        }
-        list.push(name.clone()?)?;
-    }
-    Ok(())
-}
-
-fn push_names(list: &mut Vec<Text>, names: &[Text]) -> Result<(), NoMemory>
-    ensures { OnOk result (list.new.items ≡ list.old.items ++ names.now) }
-{
-    for name in names {
-        list.push(name.clone()?)?;
-    }
-    Ok(())
-}
-
-/// The chain of a parent, and none where there is no parent.
-fn chain_from(alloc: Global, forest: &Forest, parent: Option<&Text>) -> Result<Vec<Text>, NoMemory>
-    ensures { IfOk result (λ names. names.items ≡ chain_from forest.now.nodes (option_copied parent.entry)) }
-{
-    match parent {
-        Some(parent) => forest.chain(parent),
-        None => Ok(Vec::new(alloc)),
-    }
-}
-
-fn is_open_above(forest: &Forest, parent: Option<&Text>) -> bool
-    ensures { result ≡ is_open_above forest.now.nodes (option_copied parent.entry) }
-{
-    match parent {
-        Some(parent) => forest.is_open(parent),
-        None => true,
-    }
 }

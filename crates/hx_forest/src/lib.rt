@@ -3,6 +3,7 @@
 //! Each answer is that of the definitions of `hx_model` for every graph of parents, with cycles and with parents that aren't there.
 #![tactic(auto)]
 
+mod chains;
 mod change;
 mod children;
 mod descents;
@@ -14,6 +15,7 @@ mod nodes;
 mod prepared;
 mod walks;
 
+pub use chains::{push_names, push_up_to};
 pub use change::Change;
 pub use forest::Forest;
 pub use hx_model::{Halt, Node};

@@ -3,7 +3,7 @@ ghost use Rattle.std.specs.Prelude.{◌≡◌, ◌++◌, true, IfOk, OnOk, filte
 ghost use Rattle.std.specs.List.{IsDistinct};
 ghost use Rattle.std.specs.Str.{bytes_eq};
 ghost use Rattle.hx_model.specs.Forest.{subtree_of};
-ghost use Rattle.hx_model.specs.Moves.{chain_from, is_open_above};
+ghost use Rattle.hx_model.specs.Moves.{is_open_above};
 ghost use Rattle.hx_model.specs.State.{State};
 ghost use Rattle.hx_model.specs.Tree.{forest_of};
 ghost use Rattle.hx_model.specs.TreeLabels.{is_open};
@@ -11,7 +11,7 @@ ghost use Rattle.hx_model.specs.Valid.{IsValid};
 ghost use Rattle.hx_marks.specs.Law.{live_below, open_below};
 
 use crate::live::Live;
-use hx_forest::Forest;
+use hx_forest::{Forest, push_names};
 use hx_model::is_same_name;
 use hx_object::{NoMemory, Text};
 use std::alloc::Global;
@@ -108,29 +108,6 @@ fn push_others(names: &mut Vec<Text>, children: &[Text], top: &Text) -> Result<(
         if child.as_str() != top.as_str() {
             names.push(child.clone()?)?;
         }
-    }
-    Ok(())
-}
-
-/// The chain of a parent, and none where there is no parent.
-pub(crate) fn chain_from(
-    alloc: Global,
-    forest: &Forest,
-    parent: Option<&Text>,
-) -> Result<Vec<Text>, NoMemory>
-    ensures { IfOk result (λ names. names.items ≡ chain_from forest.now.nodes (option_copied parent.entry)) }
-{
-    match parent {
-        Some(parent) => forest.chain(parent),
-        None => Ok(Vec::new(alloc)),
-    }
-}
-
-pub(crate) fn push_names(list: &mut Vec<Text>, names: &[Text]) -> Result<(), NoMemory>
-    ensures { OnOk result (list.new.items ≡ list.old.items ++ names.now) }
-{
-    for name in names {
-        list.push(name.clone()?)?;
     }
     Ok(())
 }

@@ -4,11 +4,11 @@ ghost use Rattle.hx_model.specs.Forest.{is_in};
 ghost use Rattle.hx_marks.specs.Law.{begins_by, ending_name, ending_names, ends_following, follows};
 
 use crate::kinds::begins_to_end;
-use crate::lookups::object_in;
 use crate::name_set::NameSet;
 use hx_forest::Forest;
 use hx_model::is_terminating;
 use hx_object::{Id, NoMemory, Object, Text};
+use hx_state::object_in;
 use hx_store::Change;
 use std::alloc::Global;
 use std::marker::Model;

@@ -17,7 +17,6 @@ ghost use Rattle.hx_marks.specs.Usage.{charged_usage, created_usage, hierarchy_u
 
 use crate::anchors::{anchor_keys, leaving_keys};
 use crate::current::Current;
-use crate::lookups::object_in;
 use crate::modes::mode_marks;
 use crate::moves::{move_marks, opens_under};
 use crate::namespaces::{created_marks, ending_marks, removed_marks};
@@ -31,6 +30,7 @@ use hx_forest::Forest;
 use hx_model::{Key, is_same_name, is_terminating, named_parent, parent_by};
 use hx_object::well_known::{CONFIG, HIERARCHY};
 use hx_object::{Id, Kind, NoMemory, Object, Text};
+use hx_state::object_in;
 
 /// Marks what a write can change by itself.
 pub(crate) fn marks_by(

@@ -5,12 +5,11 @@ ghost use Rattle.hx_marks.specs.Law.{all_of};
 ghost use Rattle.hx_marks.specs.Links.{AreLinks, IsFoundBy, IsLinkAt, links_at, way};
 ghost use Rattle.hx_marks.specs.Senders.{sent_kinds};
 
-use crate::below::{push_names, walk_down};
+use crate::below::walk_down;
 use crate::current::Current;
-use crate::moves::push_up_to;
 use crate::senders::{push_sending, put_first, sent_kinds};
 use crate::wants::{all_of, all_under};
-use hx_forest::Forest;
+use hx_forest::{Forest, push_names, push_up_to};
 use hx_model::Key;
 use hx_object::{Kind, NoMemory, Text};
 use std::alloc::Global;

@@ -1,13 +1,13 @@
 // Namespaces get other parents.
 ghost use Rattle.std.specs.Prelude.{◌≡◌, ◌++◌, true, false, not, None, IfOk, OnOk, flat_map, option_copied};
 ghost use Rattle.hx_model.specs.Forest.{is_in};
-ghost use Rattle.hx_model.specs.Moves.{chain_from, is_open_above, up_to};
+ghost use Rattle.hx_model.specs.Moves.{chain_from, is_open_above};
 ghost use Rattle.hx_model.specs.TreeLabels.{is_open};
 ghost use Rattle.hx_marks.specs.Before.{comes_back_by, opens_under};
 ghost use Rattle.hx_marks.specs.Reads.{state_in};
 ghost use Rattle.hx_marks.specs.Law.{all_sent, apart, in_one, moved_by, sent_marks};
 
-use crate::below::{chain_from, live_below};
+use crate::below::live_below;
 use crate::current::Current;
 use crate::links::all_by_ways;
 use crate::name_set::NameSet;
@@ -69,8 +69,8 @@ fn sent_apart(
     if !may_send(current.store) {
         return Ok(sent);
     }
-    let before = chain_from(alloc, current.forest, old)?;
-    let after = chain_from(alloc, current.forest, new)?;
+    let before = current.forest.chain_from(old)?;
+    let after = current.forest.chain_from(new)?;
     let names = in_one(alloc, &before, &after)?;
     all_sent(current.store, &names, &mut sent)?;
     Ok(sent)
@@ -82,7 +82,7 @@ fn closing_marks(current: &Current, name: &Text, keys: &mut Vec<Key>) -> Result<
     ensures { OnOk result (keys.new.items ≡ keys.old.items ++ moved_by (state_in current.now) name.now None None true false) }
 {
     let parent = current.forest.parent(name);
-    let above = chain_from(current.store.allocator(), current.forest, parent)?;
+    let above = current.forest.chain_from(parent)?;
     let members = live_below(current.forest, name)?;
     all_by_ways(current, name, &above, &members, keys)
 }
@@ -96,7 +96,7 @@ fn opening_marks(
 ) -> Result<(), NoMemory>
     ensures { OnOk result (keys.new.items ≡ keys.old.items ++ moved_by (state_in current.now) name.now None (option_copied new.entry) false true) }
 {
-    let above = chain_from(current.store.allocator(), current.forest, new)?;
+    let above = current.forest.chain_from(new)?;
     let members = live_below(current.forest, name)?;
     all_by_ways(current, name, &above, &members, keys)
 }
@@ -110,19 +110,6 @@ fn sent_marks(sent: &[Shared], members: &[Text], keys: &mut Vec<Key>) -> Result<
             ns: member.clone()?,
         })?;
         keys_for(member, sent, keys)?;
-    }
-    Ok(())
-}
-
-/// Adds the names before that of a namespace.
-pub(crate) fn push_up_to(list: &mut Vec<Text>, name: &Text, names: &[Text]) -> Result<(), NoMemory>
-    ensures { OnOk result (list.new.items ≡ list.old.items ++ up_to name.now names.now) }
-{
-    for other in names {
-        if name.as_str() == other.as_str() {
-            return Ok(());
-        }
-        list.push(other.clone()?)?;
     }
     Ok(())
 }
@@ -183,9 +170,7 @@ fn is_in(name: &Text, names: &[Text]) -> bool
 pub(crate) fn opens_under(forest: &Forest, name: &Text, parent: Option<&Text>) -> bool
     ensures { result ≡ opens_under forest.now.nodes name.now (option_copied parent.entry) }
 {
-    forest.is_eligible(name)
-        && is_open_above(forest, parent)
-        && !comes_back_by(forest, name, parent)
+    forest.is_eligible(name) && forest.is_open_above(parent) && !comes_back_by(forest, name, parent)
 }
 
 /// Whether the chain of a parent has the namespace.
@@ -195,14 +180,5 @@ pub(crate) fn comes_back_by(forest: &Forest, name: &Text, parent: Option<&Text>)
     match parent {
         Some(parent) => forest.in_chain(parent, name),
         None => false,
-    }
-}
-
-fn is_open_above(forest: &Forest, parent: Option<&Text>) -> bool
-    ensures { result ≡ is_open_above forest.now.nodes (option_copied parent.entry) }
-{
-    match parent {
-        Some(parent) => forest.is_open(parent),
-        None => true,
     }
 }

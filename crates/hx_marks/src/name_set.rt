@@ -2,7 +2,7 @@
 ghost use Rattle.std.specs.Prelude.{◌≡◌, ℕ, List, IfOk};
 ghost use Rattle.hx_model.specs.Forest.{is_in};
 
-use crate::below::push_names;
+use hx_forest::push_names;
 use hx_object::{NoMemory, Text};
 use std::alloc::Global;
 use std::marker::Model;

@@ -6,13 +6,13 @@ ghost use Rattle.hx_marks.specs.Reads.{state_in};
 ghost use Rattle.hx_marks.specs.Law.{all_of, below_created, created_marks, ending_marks, following_marks, removed_marks};
 
 use crate::anchors::{asking_keys, push_purge, status_keys};
-use crate::below::{chain_from, open_below, push_below, push_names};
+use crate::below::{open_below, push_below};
 use crate::current::Current;
 use crate::reports::near_reports;
 use crate::senders::all_by_chains;
 use crate::usage::usage_keys;
 use crate::wants::all_of;
-use hx_forest::Forest;
+use hx_forest::{Forest, push_names};
 use hx_model::Key;
 use hx_object::{NoMemory, Text};
 use std::alloc::Global;
@@ -67,7 +67,7 @@ pub(crate) fn created_marks(
 ) -> Result<(), NoMemory>
     ensures { OnOk result (keys.new.items ≡ keys.old.items ++ created_marks (state_in current.now) name.now (option_copied parent.entry)) }
 {
-    let above = chain_from(current.store.allocator(), current.forest, parent)?;
+    let above = current.forest.chain_from(parent)?;
     let members = below_created(current.store.allocator(), current.forest, name)?;
     marks_under(current, name, &above, &members, keys)?;
     asking_keys(current.store, name, keys)

@@ -7,11 +7,12 @@ ghost use Rattle.hx_marks.specs.Law.{is_any_sent, is_sent, object_marks, place_m
 
 use crate::below::open_below;
 use crate::current::Current;
-use crate::lookups::{is_ignored, mode_at};
+use crate::lookups::is_ignored;
 use hx_forest::Forest;
 use hx_model::Key;
 use hx_object::{Id, Mode, NoMemory, Object, Text};
 use hx_reconcile::is_sent;
+use hx_state::mode_at;
 use std::alloc::Global;
 
 /// Marks the place of an object, and those below it where it is sent, before or after the write. Where its kind is ignored, none.

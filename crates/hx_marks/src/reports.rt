@@ -8,7 +8,7 @@ ghost use Rattle.hx_model.specs.declared.key.Key.TheVariants as key;
 ghost use Rattle.hx_marks.specs.Reads.{state_in};
 ghost use Rattle.hx_marks.specs.Reports.{anchored_reports, created_reports, ending_reports, moved_reports, removed_reports, report_keys, reports_of, ring_reports};
 
-use crate::below::{chain_from, live_below, open_below, push_below};
+use crate::below::{live_below, open_below, push_below};
 use crate::current::Current;
 use crate::moves::comes_back_by;
 use hx_forest::Forest;
@@ -111,7 +111,7 @@ fn ring_reports(
     ensures { OnOk result (keys.new.items ≡ keys.old.items ++ ring_reports forest.now.nodes name.now (option_copied parent.entry)) }
 {
     if comes_back_by(forest, name, parent) {
-        let ring = chain_from(*keys.allocator(), forest, parent)?;
+        let ring = forest.chain_from(parent)?;
         reports_of(forest, &ring, keys)?;
     }
     Ok(())

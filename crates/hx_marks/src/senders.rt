@@ -10,12 +10,13 @@ ghost use Rattle.hx_object.specs.declared.object.Mode.TheVariants.{Propagate};
 ghost use Rattle.hx_marks.specs.Senders.{is_sender, senders_of, sends_kind, sent_kinds};
 
 use crate::current::Current;
-use crate::lookups::{is_propagated, mode_at};
+use crate::lookups::is_propagated;
 use crate::wants::all_under;
 use hx_forest::Ancestors;
 use hx_model::{COPIED_KINDS, Key, is_same_name};
 use hx_object::{Kind, Mode, NoMemory, Shared, Text};
 use hx_reconcile::is_sent;
+use hx_state::mode_at;
 use hx_store::Store;
 
 /// Marks all that some namespaces may want which take part, by their chains.

@@ -1,5 +1,5 @@
 // Writes that mark a whole subtree at once.
-ghost use Rattle.std.specs.Prelude.{◌≡◌, ◌||◌, true, IfOk, IfSome, option_copied};
+ghost use Rattle.std.specs.Prelude.{◌≡◌, ◌||◌, true, IfOk, IfSome};
 ghost use Rattle.std.specs.List.{list_all};
 ghost use Rattle.hx_object.specs.Kinds.{can_be_copied};
 ghost use Rattle.hx_model.specs.Keys.{is_among};
@@ -12,12 +12,11 @@ ghost use Rattle.hx_marks.specs.Spread.{IsSpread, is_beside_tree, spread_keys};
 
 use crate::current::Current;
 use crate::kinds::beside_marks;
-use crate::lookups::{mode_at, object_in};
 use crate::objects::is_any_sent;
 use hx_forest::Forest;
 use hx_model::Key;
 use hx_object::{Id, NoMemory};
-use hx_state::IndexedState;
+use hx_state::{IndexedState, mode_at, object_in};
 use hx_store::Change;
 
 /// What a write of a source marks, by its subtree as a whole.

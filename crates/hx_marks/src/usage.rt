@@ -1,5 +1,5 @@
 // The quotas whose usage a write changes.
-ghost use Rattle.std.specs.Prelude.{◌≡◌, ℕ, ◌++◌, ◌∷◌, [], false, List, IfOk, OnOk, filter, flat_map, map, option_copied};
+ghost use Rattle.std.specs.Prelude.{◌≡◌, ℕ, ◌++◌, ◌∷◌, [], false, List, OnOk, filter, flat_map, map, option_copied};
 ghost use Rattle.std.specs.List.{list_any};
 ghost use Rattle.hx_model.specs.Forest.{chain_of, tail_of};
 ghost use Rattle.hx_model.specs.Moves.{chain_from, up_to};
@@ -9,12 +9,11 @@ ghost use Rattle.hx_model.specs.declared.key.Key.TheVariants as key;
 ghost use Rattle.hx_marks.specs.Reads.{state_in};
 ghost use Rattle.hx_marks.specs.Usage.{charged_usage, counts_change, created_usage, is_charged_anew, is_limit_of, is_recharged, removed_usage, usage_key, usage_keys, usage_of};
 
-use crate::below::chain_from;
 use crate::current::Current;
-use crate::moves::{in_one, push_up_to};
+use crate::moves::in_one;
 use crate::wants::tail_of;
 use hx_charge::{charge_before, hard_of};
-use hx_forest::Ancestors;
+use hx_forest::{Ancestors, push_up_to};
 use hx_model::{Key, RESOURCES, Resource};
 use hx_object::{Id, Kind, Limit, NoMemory, Object, Shared, Text};
 use hx_store::Store;
@@ -74,7 +73,7 @@ pub(crate) fn moved_usage(
     }
     let alloc = current.store.allocator();
     let before = current.forest.chain(name)?;
-    let above = chain_from(alloc, current.forest, parent)?;
+    let above = current.forest.chain_from(parent)?;
     let mut after = Vec::new(alloc);
     push_up_to(&mut after, name, &above)?;
     let names = in_one(alloc, tail_of(&before), &after)?;

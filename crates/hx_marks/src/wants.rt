@@ -7,14 +7,14 @@ ghost use Rattle.hx_model.specs.TreeLabels.{is_open};
 ghost use Rattle.hx_marks.specs.Law.{all_of, known_of, all_sent, is_sent, key_for, listed_in, sent_from, wants_of, wants_of_kind};
 
 use crate::anchors::{child_keys, leaving_keys, status_keys};
-use crate::lookups::{is_ignored, is_propagated, mode_at};
+use crate::lookups::{is_ignored, is_propagated};
 use crate::reports::report_key;
 use crate::usage::usage_keys;
 use hx_forest::Forest;
 use hx_model::{COPIED_KINDS, Key, is_copy};
 use hx_object::{Kind, Mode, NoMemory, Object, Shared, Text};
 use hx_reconcile::is_sent;
-use hx_state::IndexedState;
+use hx_state::{IndexedState, mode_at};
 use hx_store::Store;
 
 /// The keys of a namespace that may want a write.

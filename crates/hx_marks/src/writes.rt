@@ -10,12 +10,11 @@ ghost use Rattle.hx_marks.specs.Law.{all_marks};
 use crate::current::Current;
 use crate::endings::Endings;
 use crate::kinds::marks_by;
-use crate::lookups::object_in;
 use crate::namespaces::following_marks;
 use hx_forest::Forest;
 use hx_model::Key;
 use hx_object::NoMemory;
-use hx_state::IndexedState;
+use hx_state::{IndexedState, object_in};
 use hx_store::Change;
 
 /// The keys that writes mark, each by the state before them: those whose wanted write or guards a write can change. A key may come more than once.

@@ -1,6 +1,6 @@
 // The keys that wait, in their order.
-ghost use Rattle.std.specs.Prelude.{◌≡◌, ◌≤◌, ◌<◌, ◌+◌, ◌-◌, ◌++◌, ◌∷◌, [], List, true, false, Some, OnOk, option_copied, length, min, slice_get};
-ghost use Rattle.std.specs.List.{IsDistinct, list_any};
+ghost use Rattle.std.specs.Prelude.{◌≡◌, ◌≤◌, ◌<◌, ◌+◌, ◌-◌, ◌∷◌, [], List, true, false, Some, OnOk, option_copied, length, min, slice_get};
+ghost use Rattle.std.specs.List.{IsDistinct};
 ghost use Rattle.std.specs.List.Sorted.{IsPermutation};
 ghost use Rattle.indexmap.specs.IndexSet.{spare, swap_remove_by};
 ghost use Rattle.hx_model.specs.Keys.{same_key, is_among};
@@ -84,14 +84,6 @@ impl Line {
         ensures most { length self.now.keys ≤ most_line }
     {
         self.older.len() + self.younger.len()
-    }
-
-    /// Whether a key is there.
-    #[tactic(auto, unfolding(hx_model::specs::Keys::same_key))]
-    pub(crate) fn has(&self, key: &Key) -> bool
-        ensures { result ≡ is_among key.now self.now.keys }
-    {
-        self.older.contains(key) || self.younger.contains(key)
     }
 
     /// Whether the key of a copy is there.

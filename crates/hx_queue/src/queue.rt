@@ -122,13 +122,6 @@ impl Queue {
         holder(&self.slots, key)
     }
 
-    /// Whether a key waits.
-    pub fn is_waiting(&self, key: &Key) -> bool
-        ensures { result ≡ is_waiting self.now key.now }
-    {
-        self.line.has(key)
-    }
-
     /// Whether the key of a copy waits.
     pub(crate) fn is_copy_waiting(&self, key: CopyOf<'_>) -> bool
         ensures { result ≡ is_waiting self.now (key_by.Copy key.entry.ns.now key.entry.kind key.entry.name.now) }

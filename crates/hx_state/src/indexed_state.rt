@@ -8,7 +8,6 @@ ghost use Rattle.hx_model.specs.Tree.{forest_of, subnamespace_parent};
 ghost use Rattle.hx_model.specs.Valid.{IsValid};
 ghost use Rattle.hx_model.specs.Writes.{MayWriteAll};
 ghost use Rattle.hx_model.specs.declared.node.Node.{Node as node};
-ghost use Rattle.hx_quota.specs.SubtreeUsage.{IsCounted};
 ghost use Rattle.hx_state.specs.Counting.{counts_of};
 
 use crate::limits::LimitCounts;
@@ -110,13 +109,6 @@ impl IndexedState {
         ensures tells { (n : List ℕ) → option_map (λ (owner : node). owner.parent) (node_of result.now.nodes n) ≡ option_map subnamespace_parent (object_at self.now.state.objects (namespace_id n)) }
     {
         &self.owners
-    }
-
-    /// What the objects of subtrees are charged.
-    pub fn usage(&self) -> &Usage
-        ensures { IsCounted self.now.state.objects (forest_of self.now.state) result.now.now }
-    {
-        &self.usage
     }
 
     /// What the state has of what is limited.

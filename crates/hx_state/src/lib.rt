@@ -15,5 +15,5 @@ mod tree;
 pub use home::Home;
 pub use indexed_state::IndexedState;
 pub use limits::{GREATEST_VERSION, LimitCounts, bytes_of, counts};
-pub use lookups::object_in;
+pub use lookups::{mode_at, object_in};
 pub use tree::{annotated_parent, given_parent};

@@ -1,11 +1,14 @@
 // What is looked up in a state.
 ghost use Rattle.std.specs.Prelude.{◌≡◌, IfOk, option_copied};
+ghost use Rattle.hx_model.specs.Moves.{mode_at};
 ghost use Rattle.hx_model.specs.Quotas.{used};
 ghost use Rattle.hx_model.specs.State.{object_at, namespace_id};
 
 use crate::indexed_state::IndexedState;
-use hx_model::Resource;
-use hx_object::{Id, Kind, NoMemory, Object, Shared, Text};
+use hx_model::{Resource, mode_in};
+use hx_object::well_known::CONFIG;
+use hx_object::{Id, Kind, Mode, NoMemory, Object, Shared, Text};
+use hx_store::Store;
 
 impl IndexedState {
     /// The object of an identity.
@@ -38,4 +41,12 @@ pub fn object_in(found: Option<&Shared>) -> Option<&Object>
         Some(shared) => Some(shared.object()),
         None => None,
     }
+}
+
+/// The mode of a kind, by the HNCConfiguration that is stored.
+pub fn mode_at(store: &Store, kind: Kind) -> Mode
+    ensures { result ≡ mode_at store.now.objects kind }
+{
+    let found = store.find(Kind::HncConfiguration, "", CONFIG);
+    mode_in(object_in(found), kind)
 }

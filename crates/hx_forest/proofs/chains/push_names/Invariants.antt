@@ -1,5 +1,5 @@
 use Rattle.std.proofs.Common.{◌≡◌, ◌++◌, drop}
-use Rattle.hx_marks.proofs.below.push_names.Given as goal
+use Rattle.hx_forest.proofs.chains.push_names.Given as goal
 
 -- the names so far, and the rest
 abbrev pub invariant-loop-name : goal.invariant-loop-name

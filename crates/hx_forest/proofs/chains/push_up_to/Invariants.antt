@@ -1,6 +1,6 @@
 use Rattle.std.proofs.Common.{◌≡◌, ◌++◌, drop}
 use Rattle.hx_model.specs.Moves.{up_to}
-use Rattle.hx_marks.proofs.moves.push_up_to.Given as goal
+use Rattle.hx_forest.proofs.chains.push_up_to.Given as goal
 
 -- the names so far, and those that the rest gives
 abbrev pub invariant-loop-other : goal.invariant-loop-other
