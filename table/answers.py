@@ -839,18 +839,19 @@ ALL_KINDS = [
 ]
 
 OUTSIDE = [
-    "/", "//", "/?watch=1", "/api", "/api/", "/api/v1", "/api/v1/", "/API/v1/pods", "/api/V1/pods", "/api/v2/pods",
+    "/", "//", "/?watch=1", "/api/", "/api/v1/", "/API", "/api/v2", "/API/v1/pods", "/api/V1/pods", "/api/v2/pods",
     "/api/v1/pods/", "/api/v1//pods", "//api/v1/pods", "/api/v1/Pods", "/api/v1/pod", "/api/v1/namespace",
     "/api/v1/namespaces/", "/api/v1/namespaces//pods", "/api/v1/namespaces/n/pods/", "/api/v1/namespaces/n//a",
     "/api/v1/namespaces/n/pods/a/", "/api/v1/namespaces/n/pods/a/b", "/api/v1/namespaces/n/namespaces",
     "/api/v1/namespaces/n/namespaces/a", "/api/v1/namespace/n/pods", "/api/v1/Namespaces/n/pods", "/api/v1/pods/a/b",
     "/api%2Fv1/pods", "/api/v1/%70ods", "/api/v1/roles", "/api/v1/namespaces/n/roles/a", "/api/v1/events",
-    "/apis", "/apis/v1/pods", "/apis/hnc.x-k8s.io/v1alpha2", "/apis/hnc.x-k8s.io/v1/hncconfigurations",
+    "/apis/", "/apis/v1/pods", "/apis/hnc.x-k8s.io", "/apis/hnc.x-k8s.io/v1", "/apis/hnc.x-k8s.io/v1alpha2/", "/apis/apps/v1", "/apis/hnc.x-k8s.io/v1/hncconfigurations",
     "/apis/hnc.x-k8s.io/v1alpha2/roles", "/apis/hnc.x-k8s.io/v1alpha2/namespaces/n/hncconfigurations",
     "/apis/hnc.x-k8s.io/v1alpha2/namespaces", "/apis/hnc.x-k8s.io/v1alpha2/namespaces/n",
     "/apis/rbac.authorization.k8s.io/v1beta1/roles", "/apis/rbac.authorization.k8s.io/v1/configmaps",
     "/apis/rbac.authorization.k8s.io/v1/clusterroles", "/hnc", "/hnc/v1", "/hnc/v1/event", "/hnc/v1/events/",
     "/hnc/v1/events/a", "/hnc/v2/events?since=0", "/healthz", "/api/v1/pods#a", "/%61pi/v1/pods",
+    "/version/", "/version/openshift", "/%76ersion", "/openapi", "/openapi/v1", "/openapi/v3/", "/openapi/v3/api", "/openapi/v3/apis/apps/v1",
 ]
 
 # Segments of an object's path, and the name that they stand for.
@@ -869,6 +870,8 @@ METHODS = [
     ("DELETE", CONFIGMAPS), ("POST", f"{CONFIGMAPS}/x"), ("PUT", CONFIGS), ("DELETE", CONFIGS),
     ("POST", f"{CONFIGS}/c"), ("POST", "/apis/rbac.authorization.k8s.io/v1/roles"), ("POST", "/hnc/v1/events"),
     ("PUT", "/hnc/v1/events"), ("DELETE", "/hnc/v1/events"),
+    ("POST", "/api"), ("PUT", "/apis"), ("DELETE", "/version"), ("POST", "/api/v1"), ("DELETE", "/apis/hnc.x-k8s.io/v1alpha2"),
+    ("PUT", "/openapi/v2"), ("POST", "/openapi/v3"), ("DELETE", "/openapi/v3/api/v1"),
 ]
 
 # What a list of Pods answers to a query: nothing, or the refusal.
@@ -999,6 +1002,109 @@ def methods(t):
     t.part("targets: methods")
     for method, target in METHODS:
         t.refuses(f"{method} {target}", NO_METHOD)
+
+
+# The short names that clients take for a kind.
+SHORT = {
+    "Namespace": ["ns"], "SubnamespaceAnchor": ["subns"], "HierarchicalResourceQuota": ["hrq"], "ConfigMap": ["cm"], "NetworkPolicy": ["netpol"],
+    "LimitRange": ["limits"], "Pod": ["po"], "Service": ["svc"], "PersistentVolumeClaim": ["pvc"],
+}
+
+# The groups behind the core group, each with its one version.
+GROUPS = [("hnc.x-k8s.io", "v1alpha2"), ("rbac.authorization.k8s.io", "v1"), ("networking.k8s.io", "v1")]
+
+VERSION = "v0.1.0"
+
+
+def resource_list(prefix):
+    """What is said of the kinds under a prefix."""
+    resources = [
+        {
+            "kind": kind, "name": plural, "namespaced": not in_cluster, "shortNames": SHORT.get(kind, []), "singularName": "",
+            "verbs": ["create", "delete", "get", "list", "update"],
+        }
+        for kind, under, plural, _, in_cluster in ALL_KINDS if under == prefix
+    ]
+    return {"apiVersion": "v1", "groupVersion": prefix.removeprefix("/apis/").removeprefix("/api/"), "kind": "APIResourceList", "resources": resources}
+
+
+def schema(prefix, group, version):
+    """What is said of the paths under a prefix."""
+    paths = {}
+    for kind, under, plural, _, in_cluster in ALL_KINDS:
+        if under == prefix:
+            told = {"group": group, "kind": kind, "version": version}
+            parameters = [{"in": "query", "name": "fieldValidation"}]
+            paths[f"{prefix}{'' if in_cluster else '/namespaces/{namespace}'}/{plural}/{{name}}"] = {"patch": {"parameters": parameters, "responses": {}, "x-kubernetes-group-version-kind": told}}
+    return {"info": {"title": "hnc", "version": VERSION}, "openapi": "3.0.0", "paths": paths}
+
+
+def group_entry(name, version):
+    one = {"groupVersion": f"{name}/{version}", "version": version}
+    return {"name": name, "preferredVersion": one, "versions": [one]}
+
+
+def documents(t):
+    t.part("targets: documents")
+    places = [("/api/v1", "", "v1")] + [(f"/apis/{name}/{version}", name, version) for name, version in GROUPS]
+    release = {"buildDate": "", "compiler": "rattle", "gitCommit": "", "gitTreeState": "", "gitVersion": VERSION, "goVersion": "", "major": "0", "minor": "1", "platform": ""}
+    rows = {
+        "/api": {"kind": "APIVersions", "serverAddressByClientCIDRs": [], "versions": ["v1"]},
+        "/apis": {"apiVersion": "v1", "groups": [group_entry(*group) for group in GROUPS], "kind": "APIGroupList"},
+        "/version": release,
+        "/openapi/v2": {"info": {"title": "hnc", "version": VERSION}, "paths": {}, "swagger": "2.0"},
+        "/openapi/v3": {"paths": {prefix[1:]: {"serverRelativeURL": f"/openapi/v3{prefix}"} for prefix, _, _ in places}},
+    }
+    for prefix, group, version in places:
+        rows[prefix] = resource_list(prefix)
+        rows[f"/openapi/v3{prefix}"] = schema(prefix, group, version)
+    for target in (*rows, "/apis?timeout=32s", "/version?labelSelector=,"):
+        # paths stand in the order of the kinds
+        t.says(get(target), f"200 {json.dumps(rows[target.split('?')[0]], separators=(',', ':'))}")
+    t.refuses(get("/api?watch=1"), bad_query("watch"))
+    t.refuses(get("/version?fieldSelector=metadata.name=a"), bad_query("fieldSelector"))
+
+
+# Field selectors, and the ConfigMaps of all namespaces that a list by them has.
+FIELDS = [
+    ("metadata.name=a", "acme/a beta/a"), ("metadata.name%3Da", "acme/a beta/a"), ("metadata.name=none", ""),
+    ("metadata.namespace=acme", "acme/a acme/b"), ("metadata.namespace=beta", "beta/a"), ("metadata.namespace=none", ""),
+    ("metadata.name=a,metadata.namespace=beta", "beta/a"), ("metadata.namespace=beta,metadata.name=a", "beta/a"),
+    ("metadata.namespace%3Dacme%2Cmetadata.name%3Db", "acme/b"), ("metadata.name=b,metadata.namespace=beta", ""),
+    ("metadata.name=a,", "acme/a beta/a"), ("metadata.name=%ff", ""), ("metadata.name=a+", ""), ("", "acme/a acme/b beta/a"),
+]
+
+NO_FIELDS = [
+    "metadata.name", "metadata.name=", "metadata.name==a", "metadata.name!=a", "metadata.name=a=b", "metadata.name=a%5Cb", "metadata.name=,",
+    ",metadata.name=a", "metadata.name=a,metadata.name=a", "metadata.name=a,b", "metadata.name=a,metadata.namespace=b,",
+    "metadata.name=a,metadata.namespace=acme,metadata.name=a", "metadata.namespace=acme,metadata.namespace=acme",
+    "Metadata.name=a", "+metadata.name=a", "metadata.uid=a", "status.phase=Running", "name=a", "=a", "=", ",", "a",
+]
+
+
+def fields(t):
+    t.part("targets: field selectors")
+    made = {}
+    for place in ("acme/a", "acme/b", "beta/a"):
+        ns, name = place.split("/")
+        new = thing("ConfigMap", name, ns, labels={"of": ns})
+        made[place] = t.creates(post(f"/api/v1/namespaces/{ns}/configmaps", new), new)
+    everywhere = "/api/v1/configmaps"
+    for selector, places in FIELDS:
+        t.lists(get(f"{everywhere}?fieldSelector={selector}"), "ConfigMap", [made[place] for place in places.split()])
+    for selector in NO_FIELDS:
+        t.refuses(get(f"{everywhere}?fieldSelector={selector}"), bad_query("fieldSelector"))
+    t.lists(get(f"{CONFIGMAPS}?fieldSelector=metadata.name=b&limit=500"), "ConfigMap", [made["acme/b"]])
+    t.lists(get(f"{CONFIGMAPS}?fieldSelector=metadata.namespace=beta"), "ConfigMap", [])
+    t.lists(get(f"{everywhere}?fieldSelector=metadata.name=a&labelSelector=of=beta"), "ConfigMap", [made["beta/a"]])
+    t.lists(get(f"{everywhere}?fieldSelector=metadata.name=a&fieldSelector=x"), "ConfigMap", [made["acme/a"], made["beta/a"]])
+    t.lists(get(f"{NAMESPACES}?fieldSelector=metadata.namespace=acme"), "Namespace", [])
+    t.refuses(get(f"{CONFIGMAPS}/a?fieldSelector=metadata.name=a"), bad_query("fieldSelector"))
+    t.refuses(delete(f"{CONFIGMAPS}/a?fieldSelector=metadata.name=a"), bad_query("fieldSelector"))
+    t.refuses(get(f"{everywhere}?fieldSelector=metadata.name=a&labelSelector=,"), bad_query("labelSelector"))
+    t.refuses(get(f"{everywhere}?fieldSelector=metadata.name=a&dryRun=All"), bad_query("dryRun"))
+    for place in made:
+        t.removes(delete(f"/api/v1/namespaces/{place.replace('/', '/configmaps/')}"))
 
 
 def queries(t):
@@ -2314,6 +2420,8 @@ PARTS = [
     segments,
     decoded_segments,
     methods,
+    documents,
+    fields,
     queries,
     selectors,
     feed,

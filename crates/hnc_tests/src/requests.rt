@@ -16,6 +16,7 @@ fn word_of(ask: &Ask) -> &'static str {
         Ask::Create { .. } => "create",
         Ask::Replace { .. } => "replace",
         Ask::Delete { .. } => "delete",
+        Ask::Document(_) => "document",
     }
 }
 
@@ -38,7 +39,7 @@ fn reading(reader: &mut RequestReader, method: Method, target: &str) -> Result<&
 /// A request's method and target, and what it asks or the status of its refusal.
 type Row = (Method, &'static str, Result<&'static str, u16>);
 
-const ROWS: [Row; 13] = [
+const ROWS: [Row; 16] = [
     (Method::Get, "/api/v1/namespaces/a/services/s", Ok("get")),
     (Method::Get, "/api/v1/services", Ok("list")),
     (Method::Post, "/api/v1/namespaces/a/services", Ok("create")),
@@ -60,6 +61,13 @@ const ROWS: [Row; 13] = [
     (Method::Delete, "/api/v1/namespaces/a", Ok("delete")),
     (Method::Post, "/api/v1/namespaces/a/pods", Err(400)),
     (Method::Get, "/hnc/v1/events?since=0", Err(501)),
+    (Method::Get, "/apis/hnc.x-k8s.io/v1alpha2", Ok("document")),
+    (Method::Put, "/version", Err(405)),
+    (
+        Method::Get,
+        "/api/v1/pods?fieldSelector=metadata.name=a",
+        Ok("list"),
+    ),
 ];
 
 #[test]

@@ -3,7 +3,7 @@
 --     passed_on          an error that `?` passes on
 --     served_found       what is found is served
 --     listed_legal       what is listed is legal
---     passes_get, passes_list, passes_unchanged    asks that write nothing
+--     passes_get, passes_list, passes_document, passes_unchanged    asks that write nothing
 --     may_none, may_one  no write, and one, may be made
 --     served_replacement     what a PUT gives is served
 --     found_replacement      the object that is there has its identity
@@ -23,6 +23,9 @@ use Rattle.hx_object.specs.declared.object.Object.{Object}
 use Rattle.hx_object.specs.declared.object.Payload.{Payload}
 use Rattle.hx_object.specs.declared.object.Payload.TheVariants.{Namespace as NamespaceOf, Hierarchy, Anchor, Quota}
 use Rattle.hx_model.specs.Answers.{refusal_of, writes_of, success, answer_found, is_listed, selected, same_object, with_status, replaced_by}
+use Rattle.hx_discovery.specs.declared.document.Document.{Document}
+use Rattle.hx_model.specs.Fields.{has_fields}
+use Rattle.hx_model.specs.declared.fields.Fields.{Fields}
 use Rattle.hx_model.specs.Limits.{is_namespace, bytes_in, greatest_version}
 use Rattle.hx_model.specs.Serving.{IsServed, IsKept, IsLegalAnswer, is_given, is_kept, is_typed}
 use Rattle.hx_model.specs.State.{State, Objects, object_at, has_home, with_version, state_after}
@@ -31,9 +34,9 @@ use Rattle.hx_model.specs.Valid.{IsStored, IsValid}
 use Rattle.hx_select.specs.Selectors.{selects}
 use Rattle.hx_select.specs.declared.selector.Selector.{Selector}
 use Rattle.hx_model.specs.declared.ask.Ask.{Ask}
-use Rattle.hx_model.specs.declared.ask.Ask.TheVariants.{Get, List as ListOf, Create, Replace, Delete}
+use Rattle.hx_model.specs.declared.ask.Ask.TheVariants.{Get, List as ListOf, Create, Replace, Delete, Document as DocumentOf}
 use Rattle.hx_model.specs.declared.ask.Answer.{Answer}
-use Rattle.hx_model.specs.declared.ask.Answer.TheVariants.{One, Many, Deleted}
+use Rattle.hx_model.specs.declared.ask.Answer.TheVariants.{One, Many, Deleted, Document as Told}
 use Rattle.hx_model.specs.declared.key.Write.{Write}
 use Rattle.hx_model.specs.declared.key.Write.TheVariants.{Put}
 use Rattle.hx_model.specs.declared.refusal.Refusal.{Refusal}
@@ -81,8 +84,9 @@ legal_among p [] all = tt
 legal_among p (x ∷ xs) all = elim (p x) as (λ b. AllByRecursion IsLegal (cond b (x ∷ filter p xs) (filter p xs))) [ true ↦ (all.0, legal_among p xs all.1) | false ↦ legal_among p xs all.1 ]
 
 -- what is listed is legal
-pub listed_legal : (s : State) → IsValid s → (kind : Kind) (ns : Option (List ℕ)) (selector : Selector) → AllByRecursion IsLegal (selected kind ns selector s.objects)
-listed_legal s valid kind ns selector = legal_among (λ (x : Object). selects selector x.labels) _ (legal_among (is_listed kind ns) s.objects (all_legal s.objects (valid_served s valid)))
+pub listed_legal : (s : State) → IsValid s → (kind : Kind) (ns : Option (List ℕ)) (selector : Selector) (fields : Fields) → AllByRecursion IsLegal (selected kind ns selector fields s.objects)
+listed_legal s valid kind ns selector fields =
+    legal_among (λ (x : Object). has_fields fields x.id) _ (legal_among (λ (x : Object). selects selector x.labels) _ (legal_among (is_listed kind ns) s.objects (all_legal s.objects (valid_served s valid))))
 
 -- ---- asks that write nothing
 
@@ -93,10 +97,16 @@ pub passes_get : (s : State) (id : Id) (x : Object) (writes : List Write) (says 
 passes_get s id x writes says there served none is =
     subst (λ ws. Passes s (Get id) ws says) (sym none) (subst (λ a. Passes s (Get id) [] a) (sym is) (record { passes = rw (there, not_less (bytes_in s.objects)) refl; changes = refl; says = ap (λ o. answer_found o false id) there; legal = served.legal }))
 
-pub passes_list : (s : State) (kind : Kind) (ns : Option (List ℕ)) (selector : Selector) (writes : List Write) (says : Answer) → AllByRecursion IsLegal (selected kind ns selector s.objects) → writes ≡ [] → says ≡ Many kind (selected kind ns selector s.objects) s.last → Passes s (ListOf kind ns selector) writes says
-passes_list s kind ns selector writes says legal none is =
-    subst (λ ws. Passes s (ListOf kind ns selector) ws says) (sym none) (subst (λ a. Passes s (ListOf kind ns selector) [] a) (sym is)
+pub passes_list : (s : State) (kind : Kind) (ns : Option (List ℕ)) (selector : Selector) (fields : Fields) (writes : List Write) (says : Answer) → AllByRecursion IsLegal (selected kind ns selector fields s.objects) → writes ≡ [] → says ≡ Many kind (selected kind ns selector fields s.objects) s.last
+    → Passes s (ListOf kind ns selector fields) writes says
+passes_list s kind ns selector fields writes says legal none is =
+    subst (λ ws. Passes s (ListOf kind ns selector fields) ws says) (sym none) (subst (λ a. Passes s (ListOf kind ns selector fields) [] a) (sym is)
     (record { passes = rw (not_less (bytes_in s.objects)) refl; changes = refl; says = refl; legal = legal }))
+
+pub passes_document : (s : State) (document : Document) (writes : List Write) (says : Answer) → writes ≡ [] → says ≡ Told document → Passes s (DocumentOf document) writes says
+passes_document s document writes says none is =
+    subst (λ ws. Passes s (DocumentOf document) ws says) (sym none) (subst (λ a. Passes s (DocumentOf document) [] a) (sym is)
+    (record { passes = rw (not_less (bytes_in s.objects)) refl; changes = refl; says = refl; legal = tt }))
 
 -- the object that a PUT finds, and the one that it gives
 legal_given : (s : State) (x old next : Object) (expected : Option ℕ) (skip : Bool) → IsReplacement s x old expected skip next → IsLegal (replaced_by old x)

@@ -18,7 +18,8 @@ use crate::quotas::quota_refusal;
 use crate::removal::removal;
 use crate::reviewed::Reviewed;
 use crate::update::replaced_by;
-use hx_model::{Answer, Ask, Denial, Refusal};
+use hx_discovery::Document;
+use hx_model::{Answer, Ask, Denial, Fields, Refusal};
 use hx_object::{Id, Kind, List, NoMemory, Object, Shared, Text};
 use hx_select::{Matcher, Selector};
 use hx_state::IndexedState;
@@ -33,7 +34,12 @@ pub fn review(state: &IndexedState, ask: Ask) -> Result<Reviewed, Refusal>
 {
     match ask {
         Ask::Get { id } => review_get(state, &id),
-        Ask::List { kind, ns, selector } => review_list(state, kind, ns.as_ref(), selector),
+        Ask::List {
+            kind,
+            ns,
+            selector,
+            fields,
+        } => review_list(state, kind, ns.as_ref(), selector, &fields),
         Ask::Create { object, skip } => review_create(state, object, skip),
         Ask::Replace {
             object,
@@ -41,6 +47,7 @@ pub fn review(state: &IndexedState, ask: Ask) -> Result<Reviewed, Refusal>
             skip,
         } => review_replace(state, object, expected, skip),
         Ask::Delete { id, skip } => review_delete(state, &id, skip),
+        Ask::Document(document) => Ok(review_document(state, document)),
     }
 }
 
@@ -61,15 +68,17 @@ fn review_list(
     kind: Kind,
     ns: Option<&Text>,
     selector: Selector,
+    fields: &Fields,
 ) -> Result<Reviewed, Refusal>
-    ensures refused { IfErr result (IsRefusal state.now.state (Ask.List kind (option_copied ns.entry) selector)) }
-    ensures passes { IfOk result (λ r. Passes state.now.state (Ask.List kind (option_copied ns.entry) selector) r.writes.items r.answer) }
+    ensures refused { IfErr result (IsRefusal state.now.state (Ask.List kind (option_copied ns.entry) selector fields.now)) }
+    ensures passes { IfOk result (λ r. Passes state.now.state (Ask.List kind (option_copied ns.entry) selector fields.now) r.writes.items r.answer) }
     ensures may { IfOk result (λ r. MayWriteAll state.now.state r.writes.items) }
 {
     state.law_of_validity();
     let matcher = Matcher::of(state.allocator(), selector)?;
     let mut objects = state.store().list(kind, ns)?;
     objects.retain(|object| matcher.matches(&object.object().labels));
+    objects.retain(|object| fields.are_of(&object.object().id));
     Ok(unchanged(
         state,
         Answer::Many {
@@ -78,6 +87,14 @@ fn review_list(
             version: state.version(),
         },
     ))
+}
+
+/// What the server says of itself is the same in every state.
+fn review_document(state: &IndexedState, document: Document) -> Reviewed
+    ensures passes { Passes state.now.state (Ask.Document document) result.writes.items result.answer }
+    ensures may { MayWriteAll state.now.state result.writes.items }
+{
+    unchanged(state, Answer::Document(document))
 }
 
 fn review_create(state: &IndexedState, object: Object, skip: bool) -> Result<Reviewed, Refusal>

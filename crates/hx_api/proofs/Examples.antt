@@ -7,8 +7,13 @@ use Rattle.form_urlencoded.proofs.OnLiterals.{form_urlencoded_on_literals}
 use Rattle.hx_object.specs.declared.kind.Kind.TheVariants.{Namespace, Role, Pod, Secret}
 use Rattle.hx_select.specs.Selectors.{everything, selector_of}
 use Rattle.hx_model.specs.declared.ask.Ask.TheVariants as of
-use Rattle.hx_model.specs.declared.refusal.Refusal.TheVariants.{NoMethod, BadQuery}
+use Rattle.hx_discovery.specs.Documents.{document_on}
+use Rattle.hx_discovery.specs.declared.document.Document.TheVariants.{Groups, Resources}
+use Rattle.hx_discovery.specs.declared.group.ApiGroup.TheVariants.{Hnc}
+use Rattle.hx_model.specs.declared.refusal.Refusal.TheVariants.{NoMethod, NoPath, BadQuery}
+use Rattle.hx_model.specs.Fields.{no_fields}
 use Rattle.hx_api.specs.Asks.{ask_of}
+use Rattle.hx_api.specs.FieldSelectors.{are_fields, fields_in}
 use Rattle.hx_api.specs.Paths.{resource_of, segment_text}
 use Rattle.hx_api.specs.Queries.{bad_parameter, parameters_of}
 use Rattle.hx_http.specs.declared.method.Method.TheVariants.{Get, Post, Delete}
@@ -51,31 +56,69 @@ method_first : ask_of Post (codes "/api/v1/namespaces/%ff?watch=1") [] ≡ Err N
 unfolding ask_of resource_of
 method_first = refl
 
-second_watch : ask_of Get (codes "/api/v1/pods?watch=&watch=1") [] ≡ Ok (of.List Pod None everything)
-unfolding ask_of resource_of bad_parameter parameters_of form_urlencoded_on_literals utf8_lossy utf8_valid_len is_utf8 chars encode
+second_watch : ask_of Get (codes "/api/v1/pods?watch=&watch=1") [] ≡ Ok (of.List Pod None everything no_fields)
+unfolding ask_of resource_of bad_parameter are_fields fields_in parameters_of form_urlencoded_on_literals utf8_lossy utf8_valid_len is_utf8 chars encode
 second_watch = refl
 
 bad_watch : ask_of Get (codes "/api/v1/pods?watch=1") [] ≡ Err (BadQuery (codes "watch"))
-unfolding ask_of resource_of bad_parameter parameters_of form_urlencoded_on_literals utf8_lossy utf8_valid_len is_utf8 chars encode
+unfolding ask_of resource_of bad_parameter are_fields fields_in parameters_of form_urlencoded_on_literals utf8_lossy utf8_valid_len is_utf8 chars encode
 bad_watch = refl
 
 -- the selector of a list is tried before the other parameters, and only that of a list
 bad_selector : ask_of Get (codes "/api/v1/pods?watch=1&labelSelector=,&labelSelector=") [] ≡ Err (BadQuery (codes "labelSelector"))
-unfolding ask_of resource_of bad_parameter selector_of parameters_of form_urlencoded_on_literals utf8_lossy utf8_valid_len is_utf8 chars encode
+unfolding ask_of resource_of bad_parameter are_fields fields_in selector_of parameters_of form_urlencoded_on_literals utf8_lossy utf8_valid_len is_utf8 chars encode
 bad_selector = refl
 
 selector_of_an_object : ask_of Get (codes "/api/v1/namespaces/a?labelSelector=,") [] ≡ Ok (of.Get (record { kind = Namespace; ns = []; name = codes "a" }))
-unfolding ask_of resource_of segment_text bad_parameter parameters_of form_urlencoded_on_literals utf8_lossy utf8_valid_len is_utf8 chars encode
+unfolding ask_of resource_of segment_text bad_parameter are_fields fields_in parameters_of form_urlencoded_on_literals utf8_lossy utf8_valid_len is_utf8 chars encode
 selector_of_an_object = refl
 
-empty_selector : ask_of Get (codes "/api/v1/pods?labelSelector=&labelSelector=,") [] ≡ Ok (of.List Pod None everything)
-unfolding ask_of resource_of bad_parameter parameters_of form_urlencoded_on_literals utf8_lossy utf8_valid_len is_utf8 chars encode
+empty_selector : ask_of Get (codes "/api/v1/pods?labelSelector=&labelSelector=,") [] ≡ Ok (of.List Pod None everything no_fields)
+unfolding ask_of resource_of bad_parameter are_fields fields_in parameters_of form_urlencoded_on_literals utf8_lossy utf8_valid_len is_utf8 chars encode
 empty_selector = refl
 
 decoded : ask_of Get (codes "/api/v1/namespaces/a%2Fb") [] ≡ Ok (of.Get (record { kind = Namespace; ns = []; name = codes "a/b" }))
-unfolding ask_of resource_of segment_text bad_parameter parameters_of form_urlencoded_on_literals is_utf8 chars encode
+unfolding ask_of resource_of segment_text bad_parameter are_fields fields_in parameters_of form_urlencoded_on_literals is_utf8 chars encode
 decoded = refl
 
 removal : ask_of Delete (codes "/api/v1/namespaces/a") [] ≡ Ok (of.Delete (record { kind = Namespace; ns = []; name = codes "a" }) false)
-unfolding ask_of resource_of segment_text bad_parameter parameters_of form_urlencoded_on_literals is_utf8 chars encode
+unfolding ask_of resource_of segment_text bad_parameter are_fields fields_in parameters_of form_urlencoded_on_literals is_utf8 chars encode
 removal = refl
+
+-- ---- documents and field selectors
+
+groups : ask_of Get (codes "/apis?timeout=32s") [] ≡ Ok (of.Document Groups)
+unfolding ask_of resource_of document_on bad_parameter are_fields fields_in parameters_of form_urlencoded_on_literals utf8_lossy utf8_valid_len is_utf8 chars encode
+groups = refl
+
+resources : ask_of Get (codes "/apis/hnc.x-k8s.io/v1alpha2") [] ≡ Ok (of.Document (Resources Hnc))
+unfolding ask_of resource_of document_on bad_parameter are_fields fields_in parameters_of form_urlencoded_on_literals utf8_lossy utf8_valid_len is_utf8 chars encode
+resources = refl
+
+made_document : ask_of Post (codes "/api/v1") [] ≡ Err NoMethod
+unfolding ask_of resource_of document_on
+made_document = refl
+
+no_document : ask_of Get (codes "/apis/apps/v1") [] ≡ Err NoPath
+unfolding ask_of resource_of document_on
+no_document = refl
+
+by_name : ask_of Get (codes "/api/v1/pods?fieldSelector=metadata.name%3Da") [] ≡ Ok (of.List Pod None everything (record { name = Some (codes "a"); ns = None }))
+unfolding ask_of resource_of bad_parameter are_fields fields_in parameters_of form_urlencoded_on_literals utf8_lossy utf8_valid_len is_utf8 chars encode
+by_name = refl
+
+by_both : ask_of Get (codes "/api/v1/pods?fieldSelector=metadata.namespace=b,metadata.name=a") [] ≡ Ok (of.List Pod None everything (record { name = Some (codes "a"); ns = Some (codes "b") }))
+unfolding ask_of resource_of bad_parameter are_fields fields_in parameters_of form_urlencoded_on_literals utf8_lossy utf8_valid_len is_utf8 chars encode
+by_both = refl
+
+other_field : ask_of Get (codes "/api/v1/pods?fieldSelector=status.phase=Running") [] ≡ Err (BadQuery (codes "fieldSelector"))
+unfolding ask_of resource_of bad_parameter are_fields fields_in parameters_of form_urlencoded_on_literals utf8_lossy utf8_valid_len is_utf8 chars encode
+other_field = refl
+
+field_twice : ask_of Get (codes "/api/v1/pods?fieldSelector=metadata.name=a,metadata.name=b") [] ≡ Err (BadQuery (codes "fieldSelector"))
+unfolding ask_of resource_of bad_parameter are_fields fields_in parameters_of form_urlencoded_on_literals utf8_lossy utf8_valid_len is_utf8 chars encode
+field_twice = refl
+
+field_of_an_object : ask_of Get (codes "/api/v1/namespaces/a?fieldSelector=metadata.name=a") [] ≡ Err (BadQuery (codes "fieldSelector"))
+unfolding ask_of resource_of segment_text bad_parameter are_fields fields_in parameters_of form_urlencoded_on_literals utf8_lossy utf8_valid_len is_utf8 chars encode
+field_of_an_object = refl

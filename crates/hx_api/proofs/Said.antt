@@ -1,5 +1,5 @@
 -- What a query says, by its parameters one after another.
-use Rattle.std.proofs.Common.{◌≡◌, ℕ, List, [], ◌∷◌, Bool, true, false, not, Option, Some, None, option_map, unwrap_or, codes, refl, sym, ap, ◌∙◌, map, true≢false}
+use Rattle.std.proofs.Common.{◌≡◌, ℕ, List, [], ◌∷◌, Bool, true, false, not, Option, Some, None, option_map, unwrap_or, codes, refl, sym, ap, ◌∙◌, map}
 use Rattle.std.specs.Prelude.{bytes_eq}
 use Rattle.std.specs.Cow.{cow_str_bytes}
 use Rattle.std.specs.Option.{option_or}
@@ -8,7 +8,7 @@ use Rattle.std.specs.declared.borrow.CowStr.{CowStr}
 use Rattle.std.proofs.lemmas.Slice.Eq.{bytes_eq-Decides}
 use Rattle.hx_object.specs.Pairs.{value_of}
 use Rattle.hx_json.specs.Reading.{is_long_decimal}
-use Rattle.hx_api.specs.Inside.{IsReading, given_in, is_filled, kept_text, name_of, over, said_by, selector_said}
+use Rattle.hx_api.specs.Inside.{IsReading, fields_said, given_in, is_filled, kept_text, name_of, over, said_by, selector_said}
 use Rattle.hx_api.specs.Queries.{Parameters, is_given, is_other_admission, is_since, is_skip, text_pair}
 use Rattle.hx_api.specs.declared.query.Parameter.{Parameter}
 use Rattle.hx_api.specs.declared.query.Parameter.TheVariants.{Watch, FieldSelector, DryRun, Continue}
@@ -79,10 +79,24 @@ pub selector : (kept : Option (CowStr Global)) (value : CowStr Global) (rest : P
     → option_or (kept_text (option_or kept (Some value))) (selector_said rest) ≡ option_or (kept_text kept) (selector_said ((codes "labelSelector", cow_str_bytes value) ∷ rest))
 selector kept value rest = ap (λ o. option_or o (selector_said rest)) (kept_or kept value) ∙ first_kept (kept_text kept) (cow_str_bytes value) rest
 
-pub no_selector : (kept : Option (List ℕ)) (name value : List ℕ) (rest : Parameters) → bytes_eq name (codes "labelSelector") ≡ false
+-- ---- the field selector
+
+first_fields : (kept : Option (List ℕ)) (value : List ℕ) (rest : Parameters) → option_or (option_or kept (Some value)) (fields_said rest) ≡ option_or kept (fields_said ((codes "fieldSelector", value) ∷ rest))
+first_fields None value rest = refl
+first_fields (Some text) value rest = refl
+
+pub fields : (kept : Option (CowStr Global)) (value : CowStr Global) (rest : Parameters)
+    → option_or (kept_text (option_or kept (Some value))) (fields_said rest) ≡ option_or (kept_text kept) (fields_said ((codes "fieldSelector", cow_str_bytes value) ∷ rest))
+fields kept value rest = ap (λ o. option_or o (fields_said rest)) (kept_or kept value) ∙ first_fields (kept_text kept) (cow_str_bytes value) rest
+
+-- one that is neither
+pub not_labels : (kept : Option (List ℕ)) (name value : List ℕ) (rest : Parameters) → (name ≡ codes "labelSelector" → ⊥)
     → option_or kept (selector_said rest) ≡ option_or kept (selector_said ((name, value) ∷ rest))
-no_selector kept name value rest other =
-    rw (differs name (codes "labelSelector") (λ e. true≢false (sym ((bytes_eq-Decides name (codes "labelSelector")).1 e) ∙ other))) refl
+not_labels kept name value rest other = rw (differs name (codes "labelSelector") other) refl
+
+pub not_fields : (kept : Option (List ℕ)) (name value : List ℕ) (rest : Parameters) → (name ≡ codes "fieldSelector" → ⊥)
+    → option_or kept (fields_said rest) ≡ option_or kept (fields_said ((name, value) ∷ rest))
+not_fields kept name value rest other = rw (differs name (codes "fieldSelector") other) refl
 
 -- ---- the end
 
@@ -90,8 +104,11 @@ or_none : {A : Type 0} (o : Option A) → option_or o None ≡ o
 or_none None = refl
 or_none (Some x) = refl
 
-pub no_more : (kept : Option (List ℕ)) → option_or kept (selector_said []) ≡ kept
+no_more : (kept : Option (List ℕ)) → option_or kept (selector_said []) ≡ kept
 no_more kept = or_none kept
+
+no_more_fields : (kept : Option (List ℕ)) → option_or kept (fields_said []) ≡ kept
+no_more_fields kept = or_none kept
 
 pub nothing_behind : (x : Said) → over x (said_by []) ≡ x
 unfolding over said_by
@@ -99,11 +116,13 @@ nothing_behind x =
     rw (or_none x.admission, or_none x.since, or_none x.watch, or_none x.field_selector, or_none x.dry_run, or_none x.continued) refl
 
 -- what was read where no pairs are left
-pub read_all : (said : Said) (kept : Option (CowStr Global)) (query : Parameters) (pairs : List (List ℕ × List ℕ)) → pairs ≡ []
-    → (said_by query ≡ over said (said_by (map text_pair pairs))) × (selector_said query ≡ option_or (kept_text kept) (selector_said (map text_pair pairs))) → IsReading query said kept
-read_all said kept query pairs end h = record {
+pub read_all : (said : Said) (kept asked : Option (CowStr Global)) (query : Parameters) (pairs : List (List ℕ × List ℕ)) → pairs ≡ []
+    → (said_by query ≡ over said (said_by (map text_pair pairs))) × (selector_said query ≡ option_or (kept_text kept) (selector_said (map text_pair pairs)))
+    × (fields_said query ≡ option_or (kept_text asked) (fields_said (map text_pair pairs))) → IsReading query said kept asked
+read_all said kept asked query pairs end h = record {
   says = sym (nothing_behind said) ∙ ap (λ ps. over said (said_by (map text_pair ps))) (sym end) ∙ sym h.0;
   selects = sym (no_more (kept_text kept)) ∙ ap (λ ps. option_or (kept_text kept) (selector_said (map text_pair ps))) (sym end) ∙ sym h.1;
+  asks = sym (no_more_fields (kept_text asked)) ∙ ap (λ ps. option_or (kept_text asked) (fields_said (map text_pair ps))) (sym end) ∙ sym h.2;
 }
 
 -- ---- what is asked of it

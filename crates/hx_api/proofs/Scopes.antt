@@ -3,14 +3,17 @@ use Rattle.std.proofs.Common.{◌≡◌, ℕ, List, [], ◌∷◌, Bool, true, f
 use Rattle.std.specs.Str.{bytes_eq}
 use Rattle.hx_object.specs.Kinds.{is_in_cluster}
 use Rattle.hx_object.specs.declared.kind.Kind.{Kind}
+use Rattle.std.specs.Option.{option_or}
+use Rattle.hx_discovery.specs.Documents.{document_on}
+use Rattle.hx_discovery.specs.declared.document.Document.{Document as DocumentOf}
 use Rattle.hx_model.specs.First.{so}
 use Rattle.hx_model.specs.declared.refusal.Refusal.TheVariants.{NoMethod}
 use Rattle.hx_api.specs.Asks.{resource_for, readable}
-use Rattle.hx_api.specs.Paths.{allows, decoded_object, decoded_resource, is_blank, is_namespaces, kind_under, cluster_kind, resource_of, resource_of_parts, resource_under, core_resource, group_resource, root_resource, parts_of, same_parts, segment_text}
+use Rattle.hx_api.specs.Paths.{allows, decoded_object, decoded_resource, is_blank, is_namespaces, kind_under, cluster_kind, named_by, resource_of, resource_of_parts, resource_under, core_resource, group_resource, root_resource, parts_of, same_parts, segment_text}
 use Rattle.hx_api.specs.Inside.{FitsScope}
 use Rattle.hx_http.specs.declared.method.Method.{Method}
 use Rattle.hx_api.specs.declared.resource_path.ResourcePath.{ResourcePath}
-use Rattle.hx_api.specs.declared.resource_path.ResourcePath.TheVariants.{Events, Collection, Object}
+use Rattle.hx_api.specs.declared.resource_path.ResourcePath.TheVariants.{Events, Document, Collection, Object}
 
 abbrev FitScope : Option (ResourcePath (List ℕ)) → Type 0
 FitScope o = IfSome o FitsScope
@@ -81,6 +84,17 @@ of_path : (path : List ℕ) → FitScope (resource_of path)
 unfolding resource_of
 of_path path = of_parts (parts_of path)
 
+at_document : (o : Option DocumentOf) → FitScope (option_map (λ document. Document document) o)
+at_document None = tt
+at_document (Some document) = tt
+
+first_of : (o p : Option (ResourcePath (List ℕ))) → FitScope o → FitScope p → FitScope (option_or o p)
+first_of None p h k = k
+first_of (Some resource) p h k = h
+
+named : (path : List ℕ) → FitScope (named_by path)
+named path = first_of (resource_of path) _ (of_path path) (at_document (document_on path))
+
 -- ---- decoded places
 
 collection_text : (kind : Kind) (o : Option (List ℕ)) → (is_in_cluster kind ≡ true → ⊥) → FitScope (option_map (λ text. Collection kind text) (option_map (λ text. Some text) o))
@@ -101,6 +115,7 @@ none ns e = cc
 
 decoded : (resource : ResourcePath (List ℕ)) → FitsScope resource → FitScope (decoded_resource resource)
 decoded Events h = tt
+decoded (Document document) h = tt
 decoded (Collection kind None) h = λ _. refl
 decoded (Collection kind (Some ns)) h = collection_text kind (segment_text ns) (λ cluster. none ns (h cluster))
 decoded (Object kind None name) h = object_text kind (segment_text name)
@@ -119,5 +134,5 @@ is_found method None resource h e = absurd (cc)
 is_found method (Some found) resource h e = is_taken (allows found method) found resource h e
 
 -- the resource of a request
-pub fits_scope : (method : Method) (path : List ℕ) (resource : ResourcePath (List ℕ)) → resource_for method (resource_of path) ≡ Ok resource → FitsScope resource
-fits_scope method path resource e = is_found method (resource_of path) resource (of_path path) e
+pub fits_scope : (method : Method) (path : List ℕ) (resource : ResourcePath (List ℕ)) → resource_for method (named_by path) ≡ Ok resource → FitsScope resource
+fits_scope method path resource e = is_found method (named_by path) resource (named path) e

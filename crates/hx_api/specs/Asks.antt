@@ -16,12 +16,15 @@ use Rattle.hx_model.specs.declared.ask.Ask.TheVariants as of
 use Rattle.hx_model.specs.declared.refusal.Refusal.{Refusal}
 use Rattle.hx_model.specs.declared.refusal.Refusal.TheVariants.{BadPath, BadQuery, NoPath, NoMethod, NotServed}
 use Rattle.hx_api.specs.Bodies.{Said, read_body, refusal_of}
-use Rattle.hx_api.specs.Paths.{allows, decoded_resource, resource_of}
+use Rattle.hx_model.specs.Fields.{no_fields}
+use Rattle.hx_model.specs.declared.fields.Fields.{Fields}
+use Rattle.hx_api.specs.FieldSelectors.{fields_in, fields_text}
+use Rattle.hx_api.specs.Paths.{allows, decoded_resource, named_by}
 use Rattle.hx_api.specs.Queries.{Parameters, bad_parameter, is_skip, parameters_of, path_of, query_of, selector_text}
 use Rattle.hx_http.specs.declared.method.Method.{Method}
 use Rattle.hx_http.specs.declared.method.Method.TheVariants.{Get, Post, Put, Delete}
 use Rattle.hx_api.specs.declared.resource_path.ResourcePath.{ResourcePath}
-use Rattle.hx_api.specs.declared.resource_path.ResourcePath.TheVariants.{Events, Collection, Object}
+use Rattle.hx_api.specs.declared.resource_path.ResourcePath.TheVariants.{Events, Document, Collection, Object}
 
 -- ---- places
 
@@ -41,9 +44,14 @@ abbrev pub is_feed : ResourcePath (List ℕ) → Bool
 is_feed Events = true
 is_feed _ = false
 
+-- the request is for a list
+abbrev pub is_list : Method → ResourcePath (List ℕ) → Bool
+is_list Get (Collection kind ns) = true
+is_list method resource = false
+
 -- the refusal of the first parameter whose value isn't taken
-abbrev pub query_refusal : ResourcePath (List ℕ) → Parameters → Option Refusal
-query_refusal resource query = option_map (λ name. BadQuery name) (bad_parameter (is_feed resource) query)
+abbrev pub query_refusal : Method → ResourcePath (List ℕ) → Parameters → Option Refusal
+query_refusal method resource query = option_map (λ name. BadQuery name) (bad_parameter (is_feed resource) (is_list method resource) query)
 
 -- the request's form is served: all but the feed are
 abbrev pub is_served : Method → ResourcePath (List ℕ) → Bool
@@ -52,7 +60,7 @@ is_served method resource = true
 
 -- the refusal of a request at a resource, but for its selector and its body
 abbrev pub form_refusal : Method → ResourcePath (List ℕ) → Parameters → Option Refusal
-form_refusal method resource query = first (query_refusal resource query ∷ so (not (is_served method resource)) NotServed ∷ [])
+form_refusal method resource query = first (query_refusal method resource query ∷ so (not (is_served method resource)) NotServed ∷ [])
 
 -- ---- selectors
 
@@ -70,6 +78,13 @@ selector_in (byte ∷ text) = selector_or_refusal (selector_of (byte ∷ text))
 abbrev pub selector_for : Method → ResourcePath (List ℕ) → Parameters → Result Selector Refusal
 selector_for Get (Collection kind ns) query = selector_in (selector_text query)
 selector_for method resource query = Ok everything
+
+-- ---- fields
+
+-- the fields of a request: only lists have some
+abbrev pub fields_for : Method → ResourcePath (List ℕ) → Parameters → Fields
+fields_for Get (Collection kind ns) query = fields_in (fields_text query)
+fields_for method resource query = no_fields
 
 -- ---- asks
 
@@ -92,13 +107,14 @@ replaced kind skip (Ok said) = Ok (of.Replace said.0 said.1 skip)
 replaced kind skip (Err fault) = Err (refusal_of kind fault)
 
 -- the ask of a method at a resource that takes it
-abbrev pub ask_at : Method → ResourcePath (List ℕ) → Selector → Bool → List ℕ → Result Ask Refusal
-ask_at Get (Collection kind ns) selector skip body = Ok (of.List kind ns selector)
-ask_at Get (Object kind ns name) selector skip body = Ok (of.Get (id_at kind ns name))
-ask_at Post (Collection kind ns) selector skip body = created kind skip (read_body (target_at kind (namespace ns) None) body)
-ask_at Put (Object kind ns name) selector skip body = replaced kind skip (read_body (target_at kind (namespace ns) (Some name)) body)
-ask_at Delete (Object kind ns name) selector skip body = Ok (of.Delete (id_at kind ns name) skip)
-ask_at method resource selector skip body = Err NoMethod
+abbrev pub ask_at : Method → ResourcePath (List ℕ) → Selector → Fields → Bool → List ℕ → Result Ask Refusal
+ask_at Get (Collection kind ns) selector fields skip body = Ok (of.List kind ns selector fields)
+ask_at Get (Document document) selector fields skip body = Ok (of.Document document)
+ask_at Get (Object kind ns name) selector fields skip body = Ok (of.Get (id_at kind ns name))
+ask_at Post (Collection kind ns) selector fields skip body = created kind skip (read_body (target_at kind (namespace ns) None) body)
+ask_at Put (Object kind ns name) selector fields skip body = replaced kind skip (read_body (target_at kind (namespace ns) (Some name)) body)
+ask_at Delete (Object kind ns name) selector fields skip body = Ok (of.Delete (id_at kind ns name) skip)
+ask_at method resource selector fields skip body = Err NoMethod
 
 -- a refusal, or else the ask
 abbrev pub ask_unless : Option Refusal → Result Ask Refusal → Result Ask Refusal
@@ -109,7 +125,7 @@ ask_unless None ask = ask
 abbrev pub asked_by : Method → Parameters → List ℕ → ResourcePath (List ℕ) → Result Selector Refusal → Result Ask Refusal
 asked_by method query body resource (Err refusal) = Err refusal
 asked_by method query body resource (Ok selector) =
-    ask_unless (form_refusal method resource query) (ask_at method resource selector (is_skip (value_of query (codes "admission"))) body)
+    ask_unless (form_refusal method resource query) (ask_at method resource selector (fields_for method resource query) (is_skip (value_of query (codes "admission"))) body)
 
 -- what is asked at the resource of a request
 abbrev pub asked_at : Method → Parameters → List ℕ → Result (ResourcePath (List ℕ)) Refusal → Result Ask Refusal
@@ -118,4 +134,4 @@ asked_at method query body (Ok resource) = asked_by method query body resource (
 
 -- the ask, or the first refusal that holds
 unfoldable pub ask_of : Method → List ℕ → List ℕ → Result Ask Refusal
-ask_of method target body = asked_at method (parameters_of (query_of target)) body (resource_for method (resource_of (path_of target)))
+ask_of method target body = asked_at method (parameters_of (query_of target)) body (resource_for method (named_by (path_of target)))

@@ -6,6 +6,7 @@
 --     said_by query          what the first values of a query's parameters say
 --     over x y               what two queries say, one behind the other
 --     selector_said query    the first text of its label selector
+--     fields_said query      the first text of its field selector
 --     IsReading              what was read of a query
 use Rattle.std.specs.Prelude.{◌≡◌, ℕ, Bool, true, not, List, [], ◌∷◌, codes, Option, None, option_map}
 use Rattle.std.specs.Option.{option_or}
@@ -23,19 +24,21 @@ use Rattle.hx_api.specs.declared.query.Parameter.{Parameter}
 use Rattle.hx_api.specs.declared.query.Parameter.TheVariants.{Watch, FieldSelector, DryRun, Continue}
 use Rattle.hx_api.specs.declared.query.Said.{Said}
 use Rattle.hx_api.specs.declared.resource_path.ResourcePath.{ResourcePath}
-use Rattle.hx_api.specs.declared.resource_path.ResourcePath.TheVariants.{Events, Collection, Object}
+use Rattle.hx_api.specs.declared.resource_path.ResourcePath.TheVariants.{Events, Document, Collection, Object}
 use Rattle.hx_api.specs.declared.served.Version.{Version}
 use Rattle.hx_api.specs.declared.served.Version.TheVariants.{Core, Group}
 
 -- a resource of code, whose segments lie in the path
 abbrev pub as_sent : ResourcePath (Bor (List ℕ)) → ResourcePath (List ℕ)
 as_sent Events = Events
+as_sent (Document document) = Document document
 as_sent (Collection kind ns) = Collection kind (option_map (λ segment. segment.now) ns)
 as_sent (Object kind ns name) = Object kind (option_map (λ segment. segment.now) ns) name.now
 
 -- objects of the cluster have no namespace
 abbrev pub FitsScope : ResourcePath (List ℕ) → Type 0
 FitsScope Events = Unit {0}
+FitsScope (Document document) = Unit {0}
 FitsScope (Collection kind ns) = is_in_cluster kind ≡ true → ns ≡ None
 FitsScope (Object kind ns name) = is_in_cluster kind ≡ true → ns ≡ None
 
@@ -94,11 +97,16 @@ over x y = record {
 abbrev pub selector_said : Parameters → Option (List ℕ)
 selector_said query = value_of query (codes "labelSelector")
 
+-- the first text of the field selector, where there is one
+abbrev pub fields_said : Parameters → Option (List ℕ)
+fields_said query = value_of query (codes "fieldSelector")
+
 -- what is kept of a text that may be borrowed
 abbrev pub kept_text : Option (CowStr Global) → Option (List ℕ)
 kept_text text = option_map cow_str_bytes text
 
 -- what was read of a query
-pub record IsReading (query : Parameters) (said : Said) (selector : Option (CowStr Global)) : Type 0 where
+pub record IsReading (query : Parameters) (said : Said) (selector fields : Option (CowStr Global)) : Type 0 where
   pub says : said ≡ said_by query
   pub selects : kept_text selector ≡ selector_said query
+  pub asks : kept_text fields ≡ fields_said query

@@ -1,4 +1,5 @@
 pub mod Paths
+pub mod FieldSelectors
 pub mod Queries
 pub mod Bodies
 pub mod Asks

@@ -1,10 +1,13 @@
 -- The paths that are served, and the methods that each takes.
 --     parts_of path              the parts of a path, between its slashes
---     resource_of path           what a path names, its segments as they were sent
+--     resource_of path           the objects that a path names, its segments as they were sent
+--     named_by path              what a path names: these, or a document
 --     allows resource method     the resource takes the method
 --     decoded_resource resource  the resource with its segments decoded, where they are UTF-8 then
 -- The prefix of a kind is `/api/` or, where its `apiVersion` has a group, `/apis/`, and then that `apiVersion`.
 use Rattle.std.specs.Prelude.{ℕ, Bool, true, false, not, ◌&&◌, ◌==◌, List, [], ◌∷◌, codes, Option, Some, None, option_and_then, option_map, if◌then◌else◌}
+use Rattle.std.specs.Option.{option_or}
+use Rattle.hx_discovery.specs.Documents.{document_on}
 use Rattle.std.specs.List.{slice_split}
 use Rattle.std.specs.Str.{bytes_eq, is_utf8}
 use Rattle.percent_encoding.specs.Percent.{percent_decode}
@@ -15,7 +18,7 @@ use Rattle.hx_model.specs.First.{so}
 use Rattle.hx_http.specs.declared.method.Method.{Method}
 use Rattle.hx_http.specs.declared.method.Method.TheVariants.{Get, Post, Put, Delete}
 use Rattle.hx_api.specs.declared.resource_path.ResourcePath.{ResourcePath}
-use Rattle.hx_api.specs.declared.resource_path.ResourcePath.TheVariants.{Events, Collection, Object}
+use Rattle.hx_api.specs.declared.resource_path.ResourcePath.TheVariants.{Events, Document, Collection, Object}
 
 -- ---- parts
 
@@ -114,15 +117,20 @@ abbrev pub resource_of_parts : List (List ℕ) → Option (ResourcePath (List �
 resource_of_parts (root ∷ word ∷ parts) = if is_blank root then root_resource word parts else None
 resource_of_parts _ = None
 
--- what a path names, its segments as they were sent
+-- the objects that a path names, or the feed, its segments as they were sent
 unfoldable pub resource_of : List ℕ → Option (ResourcePath (List ℕ))
 resource_of path = resource_of_parts (parts_of path)
+
+-- what a path names: these, or a document
+abbrev pub named_by : List ℕ → Option (ResourcePath (List ℕ))
+named_by path = option_or (resource_of path) (option_map (λ document. Document document) (document_on path))
 
 -- ---- methods
 
 -- the resource takes the method. Without a namespace only objects of the cluster are made
 abbrev pub allows : ResourcePath (List ℕ) → Method → Bool
 allows Events Get = true
+allows (Document document) Get = true
 allows (Collection kind ns) Get = true
 allows (Collection kind None) Post = is_in_cluster kind
 allows (Collection kind (Some ns)) Post = true
@@ -150,5 +158,6 @@ decoded_object kind ns name = None
 -- the resource with its segments decoded, where they are UTF-8 then
 abbrev pub decoded_resource : ResourcePath (List ℕ) → Option (ResourcePath (List ℕ))
 decoded_resource Events = Some Events
+decoded_resource (Document document) = Some (Document document)
 decoded_resource (Collection kind ns) = option_map (λ text. Collection kind text) (namespace_text ns)
 decoded_resource (Object kind ns name) = decoded_object kind (namespace_text ns) (segment_text name)

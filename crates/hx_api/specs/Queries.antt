@@ -2,7 +2,7 @@
 --     path_of, query_of target    the path, and the query behind its first `?`
 --     parameters_of query         its names and values, form decoded
 --     selector_text query         the text of the label selector
---     bad_parameter feed query    the first other parameter whose value isn't taken
+--     bad_parameter feed list query    the first other parameter whose value isn't taken
 -- Of several parameters of one name the first counts. Parameters that aren't named here are ignored.
 use Rattle.std.specs.Prelude.{ℕ, slice_index, Bool, true, false, not, ◌&&◌, ◌==◌, List, [], ◌∷◌, codes, map, Option, Some, None, unwrap_or}
 use Rattle.std.specs.List.{before_first, after_first}
@@ -12,6 +12,7 @@ use Rattle.form_urlencoded.specs.Form.{decode, raw_pairs}
 use Rattle.hx_json.specs.Reading.{is_long_decimal}
 use Rattle.hx_object.specs.Pairs.{value_of}
 use Rattle.hx_model.specs.First.{so, first}
+use Rattle.hx_api.specs.FieldSelectors.{are_fields, fields_text}
 
 -- ---- targets
 
@@ -69,13 +70,13 @@ is_since None = false
 abbrev pub selector_text : Parameters → List ℕ
 selector_text query = unwrap_or (value_of query (codes "labelSelector")) []
 
--- the first other parameter whose value isn't taken, at the feed of events or elsewhere
-unfoldable pub bad_parameter : Bool → Parameters → Option (List ℕ)
-bad_parameter feed query =
+-- the first other parameter whose value isn't taken, at the feed of events, at a list or elsewhere. A list takes a field selector
+unfoldable pub bad_parameter : Bool → Bool → Parameters → Option (List ℕ)
+bad_parameter feed list query =
     first (so (is_other_admission (value_of query (codes "admission"))) (codes "admission")
     ∷ so (feed && not (is_since (value_of query (codes "since")))) (codes "since")
     ∷ so (is_given (value_of query (codes "watch"))) (codes "watch")
-    ∷ so (is_given (value_of query (codes "fieldSelector"))) (codes "fieldSelector")
+    ∷ so (is_given (value_of query (codes "fieldSelector")) && not (list && are_fields (fields_text query))) (codes "fieldSelector")
     ∷ so (is_given (value_of query (codes "dryRun"))) (codes "dryRun")
     ∷ so (is_given (value_of query (codes "continue"))) (codes "continue")
     ∷ [])

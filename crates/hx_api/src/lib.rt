@@ -4,6 +4,7 @@
 #![tactic(auto)]
 
 mod body;
+mod fields;
 mod parts;
 mod query;
 mod reply;

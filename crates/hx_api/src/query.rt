@@ -2,10 +2,12 @@
 ghost use Rattle.std.specs.Prelude.{◌≡◌, ◌∷◌, IfOk, codes, option_copied};
 ghost use Rattle.std.specs.Cow.{cow_str_bytes};
 ghost use Rattle.std.specs.Option.{option_or};
-ghost use Rattle.hx_api.specs.Inside.{given_in, is_filled, kept_text, name_of, over, said_by, selector_said};
+ghost use Rattle.hx_api.specs.Inside.{fields_said, given_in, is_filled, kept_text, name_of, over, said_by, selector_said};
 ghost use Rattle.hx_api.specs.Queries.{Parameters, bad_parameter, is_given, is_other_admission, is_since, is_skip, parameters_of, path_of, query_of, selector_text};
+ghost use Rattle.hx_api.specs.FieldSelectors.{fields_text};
 ghost use Rattle.hx_object.specs.Pairs.{value_of};
 
+use crate::fields::are_fields;
 use hx_json::is_long_decimal;
 use hx_object::NoMemory;
 use std::alloc::Global;
@@ -23,7 +25,7 @@ pub fn cut(target: &str) -> (&str, &str)
     }
 }
 
-/// What the parameters of a query say, but for the selector: each that counts by its first value, `None` where it has none.
+/// What the parameters of a query say, but for the selectors: each that counts by its first value, `None` where it has none.
 #[derive(Clone, Copy)]
 pub struct Said {
     /// Whether it is `skip`.
@@ -117,6 +119,8 @@ pub struct Query<'a> {
     said: Said,
     /// The first text of the label selector.
     selector: Option<CowStr<'a, Global>>,
+    /// That of the field selector.
+    fields: Option<CowStr<'a, Global>>,
 }
 
 impl<'a> Model for Query<'a> {
@@ -128,7 +132,7 @@ impl<'a> Model for Query<'a> {
 
     ghost view = { λ query. parameters_of query.text.now };
 
-    ghost invariant = { λ query. IsReading (parameters_of query.text.now) query.said query.selector };
+    ghost invariant = { λ query. IsReading (parameters_of query.text.now) query.said query.selector query.fields };
 }
 
 impl<'a> Query<'a> {
@@ -138,15 +142,19 @@ impl<'a> Query<'a> {
     {
         let mut said = Said::NOTHING;
         let mut selector = None;
+        let mut fields = None;
         for pair in form_urlencoded::parse(alloc, query.as_bytes()) {
             let (name, value) = pair?;
             said = said.followed(name.as_str(), value.as_str());
-            selector = first_selector(selector, name.as_str(), value);
+            let firsts = first_texts(selector, fields, name.as_str(), value);
+            selector = firsts.0;
+            fields = firsts.1;
         }
         Ok(Query {
             text: query,
             said,
             selector,
+            fields,
         })
     }
 
@@ -155,6 +163,16 @@ impl<'a> Query<'a> {
         ensures { result.now ≡ selector_text self.now }
     {
         match &self.selector {
+            Some(text) => text.as_str(),
+            None => "",
+        }
+    }
+
+    /// The text of the field selector, empty where there is none.
+    pub fn fields(&self) -> &str
+        ensures { result.now ≡ fields_text self.now }
+    {
+        match &self.fields {
             Some(text) => text.as_str(),
             None => "",
         }
@@ -186,10 +204,10 @@ impl<'a> Query<'a> {
         self.said.since.unwrap_or(false)
     }
 
-    /// The first parameter beside the selector whose value isn't taken, at the feed of events or elsewhere.
+    /// The first parameter beside the label selector whose value isn't taken, at the feed of events, at a list or elsewhere.
     #[tactic(auto, unfolding(crate::specs::Queries::bad_parameter))]
-    pub fn bad_parameter(&self, feed: bool) -> Option<&'static str>
-        ensures { option_copied result ≡ bad_parameter feed self.now }
+    pub fn bad_parameter(&self, feed: bool, list: bool) -> Option<&'static str>
+        ensures { option_copied result ≡ bad_parameter feed list self.now }
     {
         if self.is_other_admission() {
             Some("admission")
@@ -197,7 +215,7 @@ impl<'a> Query<'a> {
             Some("since")
         } else if self.is_given(Parameter::Watch) {
             Some("watch")
-        } else if self.is_given(Parameter::FieldSelector) {
+        } else if self.is_given(Parameter::FieldSelector) && !(list && are_fields(self.fields())) {
             Some("fieldSelector")
         } else if self.is_given(Parameter::DryRun) {
             Some("dryRun")
@@ -209,17 +227,19 @@ impl<'a> Query<'a> {
     }
 }
 
-/// The first text of the label selector, with one more parameter behind the others.
-fn first_selector<'a>(
-    selector: Option<CowStr<'a, Global>>,
+/// The first texts of the label selector and of the field selector, with one more parameter behind the others.
+fn first_texts<'a>(
+    labels: Option<CowStr<'a, Global>>,
+    fields: Option<CowStr<'a, Global>>,
     name: &str,
     value: CowStr<'a, Global>,
-) -> Option<CowStr<'a, Global>>
-    ensures { (rest : Parameters) → option_or (kept_text result) (selector_said rest) ≡ option_or (kept_text selector.entry) (selector_said ((name.now, cow_str_bytes value.entry) ∷ rest)) }
+) -> (Option<CowStr<'a, Global>>, Option<CowStr<'a, Global>>)
+    ensures labels { (rest : Parameters) → option_or (kept_text result.0) (selector_said rest) ≡ option_or (kept_text labels.entry) (selector_said ((name.now, cow_str_bytes value.entry) ∷ rest)) }
+    ensures fields { (rest : Parameters) → option_or (kept_text result.1) (fields_said rest) ≡ option_or (kept_text fields.entry) (fields_said ((name.now, cow_str_bytes value.entry) ∷ rest)) }
 {
-    if name == "labelSelector" {
-        selector.or(Some(value))
-    } else {
-        selector
+    match name {
+        "labelSelector" => (labels.or(Some(value)), fields),
+        "fieldSelector" => (labels, fields.or(Some(value))),
+        _ => (labels, fields),
     }
 }

@@ -4,6 +4,7 @@ ghost use Rattle.hx_model.specs.Bodies.{answer_code, answer_text};
 ghost use Rattle.hx_model.specs.Serving.{IsLegalAnswer};
 ghost use Rattle.hx_api.specs.Replies.{IsReplyTo};
 
+use hx_discovery::push_document;
 use hx_json::{push_deleted, push_list, push_object, push_status};
 use hx_model::Answer;
 use hx_object::{NoMemory, Text};
@@ -42,6 +43,7 @@ pub fn status_of(answer: &Answer) -> u16
         Answer::One { fresh, .. } => { if *fresh { 201 } else { 200 } }
         Answer::Many { .. } => 200,
         Answer::Deleted { .. } => 200,
+        Answer::Document(_) => 200,
         Answer::Refused(refusal) => refusal.code(),
     }
 }
@@ -59,6 +61,7 @@ pub fn push_body(out: &mut String, answer: &Answer) -> Result<(), NoMemory>
             version,
         } => push_list(out, *kind, objects.as_slice(), *version),
         Answer::Deleted { version } => push_deleted(out, *version),
+        Answer::Document(document) => push_document(out, *document),
         Answer::Refused(refusal) => push_status(out, refusal),
     }
 }

@@ -1,17 +1,21 @@
 // Requests as asks.
 ghost use Rattle.std.specs.Prelude.{◌≡◌, ◌⊎◌, Ok, Err, None, Some, true, IfOk, IfErr, OnOk, codes, option_map};
 ghost use Rattle.hx_model.specs.Serving.{IsServedAsk};
-ghost use Rattle.hx_api.specs.Asks.{ask_of, form_refusal, namespace, is_feed, is_served, resource_for, ask_at, selector_for, selector_in};
+ghost use Rattle.hx_api.specs.Asks.{ask_of, fields_for, form_refusal, namespace, is_feed, is_list, is_served, resource_for, ask_at, selector_for, selector_in};
 ghost use Rattle.hx_api.specs.Inside.{FitsScope, as_sent};
-ghost use Rattle.hx_api.specs.Paths.{resource_of};
+ghost use Rattle.hx_api.specs.Paths.{named_by, resource_of};
+ghost use Rattle.hx_api.specs.declared.resource_path.ResourcePath.TheVariants.{Document as document_at};
+ghost use Rattle.hx_discovery.specs.Documents.{document_on};
 
 use crate::Method;
 use crate::body::{create, replace};
+use crate::fields::fields_in;
 use crate::query::{Query, cut};
 use crate::resource_path::{ResourcePath, allows, decoded};
 use crate::routes::Routes;
+use hx_discovery::document_on;
 use hx_json::BodyReader;
-use hx_model::{Ask, Refusal};
+use hx_model::{Ask, Fields, Refusal};
 use hx_object::{Id, NoMemory, Text};
 use hx_select::{SelectFault, Selector};
 use std::alloc::Global;
@@ -62,6 +66,7 @@ impl RequestReader {
         let query = Query::read(self.alloc, query)?;
         let selector = selector_for(self.alloc, method, &resource, &query)?;
         check_form(self.alloc, method, &resource, &query)?;
+        let fields = fields_for(self.alloc, method, &resource, &query)?;
         let skip = query.is_skip();
         ask_at(
             &mut self.bodies,
@@ -69,6 +74,7 @@ impl RequestReader {
             method,
             resource,
             selector,
+            fields,
             skip,
             body,
         )
@@ -82,10 +88,10 @@ fn resource_for(
     method: Method,
     path: &str,
 ) -> Result<ResourcePath<Text>, Refusal>
-    ensures ok { IfOk result (λ resource. resource_for method (resource_of path.now) ≡ Ok resource) }
-    ensures refused { IfErr result (λ refusal. (refusal ≡ Refusal.NoMemory) ⊎ (resource_for method (resource_of path.now) ≡ Err refusal)) }
+    ensures ok { IfOk result (λ resource. resource_for method (named_by path.now) ≡ Ok resource) }
+    ensures refused { IfErr result (λ refusal. (refusal ≡ Refusal.NoMemory) ⊎ (resource_for method (named_by path.now) ≡ Err refusal)) }
 {
-    let Some(resource) = resource_of(routes, alloc, path)? else {
+    let Some(resource) = named_by(routes, alloc, path)? else {
         return Err(Refusal::NoPath);
     };
     if !allows(&resource, method) {
@@ -97,7 +103,31 @@ fn resource_for(
     }
 }
 
-/// What a path names, its segments as they were sent, by the routes that are kept.
+/// What a path names, its segments as they were sent.
+fn named_by<'a>(
+    routes: &mut Option<Routes>,
+    alloc: Global,
+    path: &'a str,
+) -> Result<Option<ResourcePath<&'a str>>, NoMemory>
+    ensures { IfOk result (λ resource. option_map as_sent resource ≡ named_by path.now) }
+{
+    match resource_of(routes, alloc, path)? {
+        Some(resource) => Ok(Some(resource)),
+        None => Ok(document(path)),
+    }
+}
+
+/// The document that is found at a path.
+fn document(path: &str) -> Option<ResourcePath<&str>>
+    ensures { option_map as_sent result ≡ option_map (λ document. document_at document) (document_on path.now) }
+{
+    match document_on(path) {
+        Some(document) => Some(ResourcePath::Document(document)),
+        None => None,
+    }
+}
+
+/// The objects that a path names, or the feed, its segments as they were sent, by the routes that are kept.
 fn resource_of<'a>(
     routes: &mut Option<Routes>,
     alloc: Global,
@@ -121,7 +151,7 @@ fn check_form(
     ensures ok { OnOk result (form_refusal method resource.now query.now ≡ None) }
     ensures refused { IfErr result (λ refusal. (refusal ≡ Refusal.NoMemory) ⊎ (form_refusal method resource.now query.now ≡ Some refusal)) }
 {
-    if let Some(name) = query.bad_parameter(is_feed(resource)) {
+    if let Some(name) = query.bad_parameter(is_feed(resource), is_list(method, resource)) {
         return Err(Refusal::BadQuery {
             name: Text::of(alloc, name)?,
         });
@@ -137,6 +167,15 @@ fn is_feed(resource: &ResourcePath<Text>) -> bool
     ensures { result ≡ is_feed resource.now }
 {
     matches!(resource, ResourcePath::Events)
+}
+
+fn is_list(method: Method, resource: &ResourcePath<Text>) -> bool
+    ensures { result ≡ is_list method resource.now }
+{
+    matches!(
+        (method, resource),
+        (Method::Get, ResourcePath::Collection { .. })
+    )
 }
 
 /// Whether the request's form is served.
@@ -159,6 +198,21 @@ fn selector_for(
     match (method, resource) {
         (Method::Get, ResourcePath::Collection { .. }) => selector_in(alloc, query.selector()),
         _ => Ok(Selector::everything(alloc)),
+    }
+}
+
+/// The fields of a request: only lists have some.
+fn fields_for(
+    alloc: Global,
+    method: Method,
+    resource: &ResourcePath<Text>,
+    query: &Query<'_>,
+) -> Result<Fields, NoMemory>
+    ensures { IfOk result (λ fields. fields ≡ fields_for method resource.now query.now) }
+{
+    match (method, resource) {
+        (Method::Get, ResourcePath::Collection { .. }) => fields_in(alloc, query.fields()),
+        _ => Ok(Fields::none()),
     }
 }
 
@@ -204,18 +258,23 @@ fn ask_at(
     method: Method,
     resource: ResourcePath<Text>,
     selector: Selector,
+    fields: Fields,
     skip: bool,
     body: &[u8],
 ) -> Result<Ask, Refusal>
     requires scope { FitsScope resource }
-    ensures ok { IfOk result (λ ask. ask_at method resource selector skip body.now ≡ Ok ask) }
-    ensures refused { IfErr result (λ refusal. (refusal ≡ Refusal.NoMemory) ⊎ (ask_at method resource selector skip body.now ≡ Err refusal)) }
+    ensures ok { IfOk result (λ ask. ask_at method resource selector fields skip body.now ≡ Ok ask) }
+    ensures refused { IfErr result (λ refusal. (refusal ≡ Refusal.NoMemory) ⊎ (ask_at method resource selector fields skip body.now ≡ Err refusal)) }
     ensures served { IfOk result IsServedAsk }
 {
     match (method, resource) {
-        (Method::Get, ResourcePath::Collection { kind, ns }) => {
-            Ok(Ask::List { kind, ns, selector })
-        }
+        (Method::Get, ResourcePath::Document(document)) => Ok(Ask::Document(document)),
+        (Method::Get, ResourcePath::Collection { kind, ns }) => Ok(Ask::List {
+            kind,
+            ns,
+            selector,
+            fields,
+        }),
         (Method::Get, ResourcePath::Object { kind, ns, name }) => {
             let ns = namespace(alloc, ns);
             Ok(Ask::Get {

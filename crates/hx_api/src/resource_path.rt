@@ -5,6 +5,7 @@ ghost use Rattle.hx_api.specs.Paths.{allows, decoded_resource, namespace_text, s
 ghost use Rattle.hx_api.specs.Inside.{as_sent};
 
 use crate::Method;
+use hx_discovery::Document;
 use hx_object::{Kind, NoMemory, Text};
 use percent_encoding::{DecodeError, percent_decode};
 use std::alloc::Global;
@@ -15,6 +16,8 @@ use std::borrow::CowStr;
 pub enum ResourcePath<S> {
     /// The feed of events.
     Events,
+    /// What the server says of itself.
+    Document(Document),
     /// The objects of a kind, in a namespace or in all of them.
     Collection { kind: Kind, ns: Option<S> },
     /// One object. It has a namespace unless its kind lies in none.
@@ -27,6 +30,7 @@ pub fn allows(resource: &ResourcePath<&str>, method: Method) -> bool
 {
     match (resource, method) {
         (ResourcePath::Events, Method::Get) => true,
+        (ResourcePath::Document(_), Method::Get) => true,
         (ResourcePath::Collection { .. }, Method::Get) => true,
         (ResourcePath::Collection { kind, ns: None }, Method::Post) => kind.is_in_cluster(),
         (ResourcePath::Collection { ns: Some(_), .. }, Method::Post) => true,
@@ -78,6 +82,7 @@ pub fn decoded(
 {
     match resource {
         ResourcePath::Events => Ok(Some(ResourcePath::Events)),
+        ResourcePath::Document(document) => Ok(Some(ResourcePath::Document(*document))),
         ResourcePath::Collection { kind, ns } => match namespace_text(alloc, *ns)? {
             Some(ns) => Ok(Some(ResourcePath::Collection { kind: *kind, ns })),
             None => Ok(None),

@@ -18,7 +18,7 @@ use Rattle.hx_model.specs.Requests.{request_entry}
 use Rattle.hx_model.specs.State.{State, state_after, object_at}
 use Rattle.hx_model.specs.Valid.{IsValid}
 use Rattle.hx_model.specs.declared.ask.Ask.{Ask}
-use Rattle.hx_model.specs.declared.ask.Ask.TheVariants.{Get, List as ListOf, Create, Replace, Delete}
+use Rattle.hx_model.specs.declared.ask.Ask.TheVariants.{Get, List as ListOf, Create, Replace, Delete, Document as DocumentOf}
 use Rattle.hx_model.specs.declared.ask.Answer.{Answer}
 use Rattle.hx_model.specs.declared.ask.Answer.TheVariants.{Refused as Refusing}
 use Rattle.hx_model.specs.declared.key.Key.{Key}
@@ -47,10 +47,11 @@ shown_entry ask (Some x) fresh id = refl
 
 success_entry : (s t : State) (ask : Ask) → request_entry ask (success s t ask) ≡ Request ask (success s t ask)
 success_entry s t (Get id) = shown_entry (Get id) (object_at s.objects id) false id
-success_entry s t (ListOf kind ns selector) = refl
+success_entry s t (ListOf kind ns selector fields) = refl
 success_entry s t (Create x skip) = shown_entry (Create x skip) (object_at t.objects x.id) true x.id
 success_entry s t (Replace x expected skip) = shown_entry (Replace x expected skip) (object_at t.objects x.id) false x.id
 success_entry s t (Delete id skip) = refl
+success_entry s t (DocumentOf document) = refl
 
 pub passes_entry : (s : State) (ask : Ask) (ws : List Write) (answer : Answer) → Passes s ask ws answer → request_entry ask answer ≡ Request ask answer
 passes_entry s ask ws answer passes = subst (λ a. request_entry ask a ≡ Request ask a) passes.says (success_entry s (state_after s ws) ask)

@@ -23,6 +23,7 @@ use Rattle.hx_model.specs.State.{State, Objects, put, cut, ascends, objects_from
 use Rattle.hx_model.specs.Texts.{key_text, new_namespace}
 use Rattle.hx_model.specs.Json.{list_text}
 use Rattle.hx_model.specs.Replies.{status_text, deleted_text, message_about, version_message, said_of}
+use Rattle.hx_model.specs.Fields.{no_fields}
 use Rattle.hx_model.specs.Limits.{is_copy, counts, names_in, objects_in, bytes_in}
 use Rattle.hx_model.specs.Answers.{with_status, same_object, answer_to, refusal_of}
 use Rattle.hx_model.specs.Machine.{World, History, Refused, Request, LostRequest, KeeperFault, opening_world, IsLegal, IsHistory, replay, loses_to_fault}
@@ -237,12 +238,12 @@ config_requests =
     Request (Create (config acme (codes "c") 0) false) (Refusing (NotFound Namespace acme))
     ∷ Request (Create (new_namespace acme) false) (One (stored acme 1) true)
     ∷ Request (Create (config acme (codes "c") 0) false) (One (config acme (codes "c") 2) true)
-    ∷ Request (ListOf ConfigMap (Some acme) everything) (Many ConfigMap (config acme (codes "c") 2 ∷ []) 2)
-    ∷ Request (ListOf ConfigMap (Some team) everything) (Many ConfigMap [] 2)
+    ∷ Request (ListOf ConfigMap (Some acme) everything no_fields) (Many ConfigMap (config acme (codes "c") 2 ∷ []) 2)
+    ∷ Request (ListOf ConfigMap (Some team) everything no_fields) (Many ConfigMap [] 2)
     ∷ Request (Delete (config_id acme (codes "c")) false) (Deleted 3)
     ∷ Request (Get (config_id acme (codes "c"))) (Refusing (NotFound ConfigMap (codes "c")))
     ∷ Request (Delete (config_id acme (codes "c")) false) (Refusing (NotFound ConfigMap (codes "c")))
-    ∷ Request (ListOf ConfigMap None everything) (Many ConfigMap [] 3)
+    ∷ Request (ListOf ConfigMap None everything no_fields) (Many ConfigMap [] 3)
     ∷ []
 
 pub config_requests_legal : IsHistory (opening_world false (opening_state no_config 0)) config_requests
@@ -262,9 +263,9 @@ listings =
     ∷ Request (Create (new_namespace (codes "a")) false) (One (stored (codes "a") 3) true)
     ∷ Request (Create (config (codes "a") (codes "d") 0) false) (One (config (codes "a") (codes "d") 4) true)
     ∷ Request (Create (config (codes "a") (codes "b") 0) false) (One (config (codes "a") (codes "b") 5) true)
-    ∷ Request (ListOf ConfigMap None everything) (Many ConfigMap (config (codes "a") (codes "b") 5 ∷ config (codes "a") (codes "d") 4 ∷ config (codes "a-b") (codes "c") 2 ∷ []) 5)
-    ∷ Request (ListOf ConfigMap (Some (codes "a")) everything) (Many ConfigMap (config (codes "a") (codes "b") 5 ∷ config (codes "a") (codes "d") 4 ∷ []) 5)
-    ∷ Request (ListOf Namespace None everything) (Many Namespace (stored (codes "a") 3 ∷ stored (codes "a-b") 1 ∷ []) 5)
+    ∷ Request (ListOf ConfigMap None everything no_fields) (Many ConfigMap (config (codes "a") (codes "b") 5 ∷ config (codes "a") (codes "d") 4 ∷ config (codes "a-b") (codes "c") 2 ∷ []) 5)
+    ∷ Request (ListOf ConfigMap (Some (codes "a")) everything no_fields) (Many ConfigMap (config (codes "a") (codes "b") 5 ∷ config (codes "a") (codes "d") 4 ∷ []) 5)
+    ∷ Request (ListOf Namespace None everything no_fields) (Many Namespace (stored (codes "a") 3 ∷ stored (codes "a-b") 1 ∷ []) 5)
     ∷ []
 
 pub listings_legal : IsHistory (opening_world false (opening_state no_config 0)) listings
@@ -284,7 +285,7 @@ abbrev used_up : History
 used_up =
     Request (Create (new_namespace acme) false) (Refusing (Broken L4))
     ∷ Request (Get (namespace_id acme)) (Refusing (NotFound Namespace acme))
-    ∷ Request (ListOf Namespace None everything) (Many Namespace [] 9223372036854775807)
+    ∷ Request (ListOf Namespace None everything no_fields) (Many Namespace [] 9223372036854775807)
     ∷ []
 
 pub used_up_legal : IsHistory (opening_world false (opening_state no_config 9223372036854775807)) used_up

@@ -3,7 +3,7 @@ use Rattle.std.proofs.Common.{◌≡◌, Some, Bool, true, false, [], ◌∷◌,
 use Rattle.std.specs.Prelude.{◌||◌}
 use Rattle.hx_model.specs.declared.ask.Ask.{Ask}
 use Rattle.hx_model.specs.declared.ask.Answer.{Answer}
-use Rattle.hx_model.specs.declared.ask.Answer.TheVariants.{One, Many, Deleted, Refused as Refusing}
+use Rattle.hx_model.specs.declared.ask.Answer.TheVariants.{One, Many, Deleted, Document, Refused as Refusing}
 use Rattle.hx_model.specs.declared.refusal.Refusal.TheVariants.{BadLine, BadPath, BadQuery, NotJson, NotWhole, NotKind, OtherPlace, Broken, OverQuota, NoPath, NotFound, NoMethod, Exists, OtherVersion, TooLong, Missing, WrongType, NoQuantity, BadName, BadLabel, TooManyLabels, TooLarge, StoreFailed, NotServed, NoMemory as NoRoom}
 use Rattle.hx_model.specs.Machine.{World, History, IsHistory, world_after, replay, loses_to_fault, is_lost_to_fault, answer_of}
 use Rattle.hx_model.specs.Requests.{request_entry}
@@ -29,6 +29,7 @@ pub answer_of-request_entry : (ask : Ask) (answer : Answer) → answer_of (reque
 answer_of-request_entry ask (One x fresh) = refl
 answer_of-request_entry ask (Many kind objects version) = refl
 answer_of-request_entry ask (Deleted version) = refl
+answer_of-request_entry ask (Document document) = refl
 answer_of-request_entry ask (Refusing BadLine) = refl
 answer_of-request_entry ask (Refusing BadPath) = refl
 answer_of-request_entry ask (Refusing (BadQuery name)) = refl

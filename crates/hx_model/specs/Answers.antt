@@ -21,9 +21,10 @@ use Rattle.hx_object.specs.declared.object.Payload.TheVariants.{Namespace as Nam
 use Rattle.hx_select.specs.Selectors.{selects}
 use Rattle.hx_select.specs.declared.selector.Selector.{Selector}
 use Rattle.hx_model.specs.declared.ask.Ask.{Ask}
-use Rattle.hx_model.specs.declared.ask.Ask.TheVariants.{Get, List as ListOf, Create, Replace, Delete}
+use Rattle.hx_model.specs.declared.ask.Ask.TheVariants.{Get, List as ListOf, Create, Replace, Delete, Document as DocumentOf}
 use Rattle.hx_model.specs.declared.ask.Answer.{Answer}
-use Rattle.hx_model.specs.declared.ask.Answer.TheVariants.{One, Many, Deleted, Refused}
+use Rattle.hx_model.specs.declared.ask.Answer.TheVariants.{One, Many, Deleted, Document as Told, Refused}
+use Rattle.hx_model.specs.declared.fields.Fields.{Fields}
 use Rattle.hx_model.specs.declared.refusal.Refusal.{Refusal}
 use Rattle.hx_model.specs.declared.refusal.Refusal.TheVariants.{NotFound, Exists, OtherVersion, Broken}
 use Rattle.hx_model.specs.declared.rule.Rule.TheVariants.{L1, L2, L3, L4}
@@ -33,6 +34,7 @@ use Rattle.hx_model.specs.First.{so, first}
 use Rattle.hx_model.specs.Limits.{is_namespace, is_anchor, is_named, counts, names_in, objects_in, bytes_in, most_names, most_objects, most_bytes, greatest_version}
 use Rattle.hx_model.specs.Cases.{Case, Family}
 use Rattle.hx_model.specs.Denials.{refusal_by}
+use Rattle.hx_model.specs.Fields.{has_fields}
 use Rattle.hx_model.specs.Conflicts.{with_written, makes_conflict}
 use Rattle.hx_model.specs.Modes.{config_id}
 use Rattle.hx_model.specs.Quotas.{refused_by_quotas}
@@ -94,10 +96,11 @@ deleting s id skip =
 -- what an ask changes. Every object that it puts has the new version
 abbrev pub writes_of : State → Ask → List Write
 writes_of s (Get id) = []
-writes_of s (ListOf kind ns selector) = []
+writes_of s (ListOf kind ns selector fields) = []
 writes_of s (Create x skip) = Put (with_version x (s.last + 1)) ∷ []
 writes_of s (Replace x expected skip) = replacing (object_at s.objects x.id) x (s.last + 1)
 writes_of s (Delete id skip) = deleting s id skip
+writes_of s (DocumentOf document) = []
 
 -- ---- refusals
 
@@ -114,10 +117,11 @@ lacks_namespace s id = not (is_in_cluster id.kind) && is_none (home_in s.objects
 -- the object or its namespace isn't there, or the object is there already
 abbrev pub place_refusal : State → Ask → Option Refusal
 place_refusal s (Get id) = so (is_none (object_at s.objects id)) (not_found id)
-place_refusal s (ListOf kind ns selector) = None
+place_refusal s (ListOf kind ns selector fields) = None
 place_refusal s (Create x skip) = first (so (lacks_namespace s x.id) (NotFound Namespace x.id.ns) ∷ so (is_some (object_at s.objects x.id)) (already_there x.id) ∷ [])
 place_refusal s (Replace x expected skip) = so (is_none (object_at s.objects x.id)) (not_found x.id)
 place_refusal s (Delete id skip) = so (is_none (object_at s.objects id)) (not_found id)
+place_refusal s (DocumentOf document) = None
 
 -- an object has another version than the one that is expected
 abbrev pub other_version : Option ℕ → Option Object → Option Refusal
@@ -193,9 +197,9 @@ refusal_of s ask = first (place_refusal s ask ∷ version_refusal s ask ∷ rule
 
 -- ---- answers
 
--- the objects of a list, in order: those of its kind and namespace whose labels the selector holds for
-abbrev pub selected : Kind → Option (List ℕ) → Selector → Objects → Objects
-selected kind ns selector objects = filter (λ (x : Object). selects selector x.labels) (filter (is_listed kind ns) objects)
+-- the objects of a list, in order: those of its kind and namespace whose labels the selector holds for, and which have the fields
+abbrev pub selected : Kind → Option (List ℕ) → Selector → Fields → Objects → Objects
+selected kind ns selector fields objects = filter (λ (x : Object). has_fields fields x.id) (filter (λ (x : Object). selects selector x.labels) (filter (is_listed kind ns) objects))
 
 -- the object that is found
 abbrev pub answer_found : Option Object → Bool → Id → Answer
@@ -205,10 +209,11 @@ answer_found (Some x) fresh id = One x fresh
 -- the answer of a success, by the state before it and the one after
 abbrev pub success : State → State → Ask → Answer
 success s t (Get id) = answer_found (object_at s.objects id) false id
-success s t (ListOf kind ns selector) = Many kind (selected kind ns selector s.objects) s.last
+success s t (ListOf kind ns selector fields) = Many kind (selected kind ns selector fields s.objects) s.last
 success s t (Create x skip) = answer_found (object_at t.objects x.id) true x.id
 success s t (Replace x expected skip) = answer_found (object_at t.objects x.id) false x.id
 success s t (Delete id skip) = Deleted t.last
+success s t (DocumentOf document) = Told document
 
 abbrev pub answer_by : State → Ask → Option Refusal → Answer × State
 answer_by s ask (Some refusal) = (Refused refusal, s)

@@ -28,6 +28,7 @@ pub mod RulesCopies
 pub mod RulesQuotas
 pub mod Rules
 pub mod Quotas
+pub mod Fields
 pub mod Answers
 pub mod Reports
 pub mod Wanted

@@ -25,9 +25,9 @@ use Rattle.hx_object.specs.declared.object.Object.{Object}
 use Rattle.hx_object.specs.declared.object.Payload.{Payload}
 use Rattle.hx_object.specs.declared.object.Payload.TheVariants.{Namespace as NamespaceOf, Config, Hierarchy, Anchor, Quota, Plain}
 use Rattle.hx_model.specs.declared.ask.Ask.{Ask}
-use Rattle.hx_model.specs.declared.ask.Ask.TheVariants.{Get, List as ListOf, Create, Replace, Delete}
+use Rattle.hx_model.specs.declared.ask.Ask.TheVariants.{Get, List as ListOf, Create, Replace, Delete, Document as DocumentOf}
 use Rattle.hx_model.specs.declared.ask.Answer.{Answer}
-use Rattle.hx_model.specs.declared.ask.Answer.TheVariants.{One, Many, Deleted, Refused}
+use Rattle.hx_model.specs.declared.ask.Answer.TheVariants.{One, Many, Deleted, Document as Told, Refused}
 
 -- the modes that bodies may name so far
 abbrev pub is_given_mode : Mode → Bool
@@ -90,14 +90,16 @@ pub record IsServed (x : Object) : Type 0 where
 -- an object that is to be stored is one that requests give, and has no version yet
 abbrev pub IsServedAsk : Ask → Type 0
 IsServedAsk (Get id) = Unit {0}
-IsServedAsk (ListOf kind ns selector) = Unit {0}
+IsServedAsk (ListOf kind ns selector fields) = Unit {0}
 IsServedAsk (Create x skip) = IsServed x × (is_given x.payload ≡ true) × (x.version ≡ 0)
 IsServedAsk (Replace x expected skip) = IsServed x × (is_given x.payload ≡ true) × (x.version ≡ 0)
 IsServedAsk (Delete id skip) = Unit {0}
+IsServedAsk (DocumentOf document) = Unit {0}
 
 -- the objects of an answer are legal
 abbrev pub IsLegalAnswer : Answer → Type 0
 IsLegalAnswer (One x fresh) = IsLegal x
 IsLegalAnswer (Many kind objects version) = AllByRecursion IsLegal objects
 IsLegalAnswer (Deleted version) = Unit {0}
+IsLegalAnswer (Told document) = Unit {0}
 IsLegalAnswer (Refused refusal) = Unit {0}

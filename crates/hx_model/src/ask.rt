@@ -1,5 +1,6 @@
 // Requests and their answers.
-use crate::Refusal;
+use crate::{Fields, Refusal};
+use hx_discovery::Document;
 use hx_object::{Id, Kind, List, Object, Shared, Text};
 use hx_select::Selector;
 
@@ -10,11 +11,12 @@ pub enum Ask {
     Get {
         id: Id,
     },
-    /// The objects of a kind, in a namespace or in all of them, whose labels the selector holds for.
+    /// The objects of a kind, in a namespace or in all of them, whose labels the selector holds for and which have the fields.
     List {
         kind: Kind,
         ns: Option<Text>,
         selector: Selector,
+        fields: Fields,
     },
     /// To store an object that isn't there. Its version is 0: the write gives it one.
     Create {
@@ -32,6 +34,8 @@ pub enum Ask {
         id: Id,
         skip: bool,
     },
+    /// What the server says of itself.
+    Document(Document),
 }
 
 /// What a cluster answers.
@@ -51,6 +55,8 @@ pub enum Answer {
     Deleted {
         version: u64,
     },
+    /// What the server says of itself.
+    Document(Document),
     Refused(Refusal),
 }
 
@@ -67,6 +73,7 @@ impl Drop for Answer {
                 version: _,
             } => {}
             Answer::Deleted { version: _ } => {}
+            Answer::Document(_) => {}
             Answer::Refused(_) => {}
         }
     }

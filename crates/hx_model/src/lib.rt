@@ -6,6 +6,7 @@
 mod ask;
 mod config;
 mod denial;
+mod fields;
 mod key;
 mod law;
 mod mode;
@@ -22,6 +23,7 @@ mod tree;
 pub use ask::{Answer, Ask};
 pub use config::RunConfig;
 pub use denial::Denial;
+pub use fields::Fields;
 pub use key::{Finish, Guard, Key, Write};
 pub use law::{law_of_excess, law_of_known_keys, law_of_parents, law_of_quotas};
 pub use mode::{entries_of, mode_in, names_kind};

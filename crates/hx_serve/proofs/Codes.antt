@@ -4,7 +4,7 @@ use Rattle.http.specs.StatusCode.{IsStatusCode}
 use Rattle.hx_model.specs.Bodies.{answer_code}
 use Rattle.hx_model.specs.Replies.{reason_row, status_of}
 use Rattle.hx_model.specs.declared.ask.Answer.{Answer}
-use Rattle.hx_model.specs.declared.ask.Answer.TheVariants.{One, Many, Deleted, Refused}
+use Rattle.hx_model.specs.declared.ask.Answer.TheVariants.{One, Many, Deleted, Document, Refused}
 use Rattle.hx_model.specs.declared.reason.Reason.{Reason}
 use Rattle.hx_model.specs.declared.reason.Reason.TheVariants as reason
 
@@ -27,4 +27,5 @@ is_code (One x true) = (lit≤ tt, lit< tt)
 is_code (One x false) = (lit≤ tt, lit< tt)
 is_code (Many kind objects version) = (lit≤ tt, lit< tt)
 is_code (Deleted version) = (lit≤ tt, lit< tt)
+is_code (Document document) = (lit≤ tt, lit< tt)
 is_code (Refused refusal) = reason_code (status_of refusal).reason

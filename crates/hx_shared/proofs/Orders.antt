@@ -14,7 +14,7 @@ use Rattle.hx_model.specs.declared.ask.Ask.{Ask}
 use Rattle.hx_model.specs.declared.ask.Answer.{Answer}
 use Rattle.hx_model.specs.declared.key.Key.{Key}
 use Rattle.hx_model.specs.declared.refusal.Refusal.TheVariants.{BadLine, BadPath, BadQuery, NotJson, NotWhole, NotKind, OtherPlace, Broken, OverQuota, NoPath, NotFound, NoMethod, Exists, OtherVersion, TooLong, Missing, WrongType, NoQuantity, BadName, BadLabel, TooManyLabels, TooLarge, StoreFailed, NotServed, NoMemory as NoRoom}
-use Rattle.hx_model.specs.declared.ask.Answer.TheVariants.{One, Many, Deleted, Refused as Refusing}
+use Rattle.hx_model.specs.declared.ask.Answer.TheVariants.{One, Many, Deleted, Document, Refused as Refusing}
 use Rattle.hx_reconcile.specs.declared.brief.Brief.{Brief}
 use Rattle.hx_model.specs.declared.key.Finish.{Finish}
 use Rattle.hx_model.specs.declared.key.Finish.TheVariants as ending
@@ -109,6 +109,7 @@ request_hands : (w : World) (ask : Ask) (answer : Answer) → (world_after w (re
 request_hands w ask (One x fresh) = refl
 request_hands w ask (Many kind objects version) = refl
 request_hands w ask (Deleted version) = refl
+request_hands w ask (Document document) = refl
 request_hands w ask (Refusing BadLine) = refl
 request_hands w ask (Refusing BadPath) = refl
 request_hands w ask (Refusing (BadQuery name)) = refl
