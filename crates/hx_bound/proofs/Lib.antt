@@ -1,0 +1,11 @@
+mod Counting
+mod Deepening
+mod EarlyFalls
+mod Examples
+mod KeysStaying
+mod LateOrder
+mod LateSteps
+pub mod Ledgers
+pub mod Ranking
+mod Turning
+mod WithinBound

@@ -1,0 +1,4 @@
+pub mod Rank
+pub mod Bound
+pub mod Turns
+pub mod Settles
