@@ -1,5 +1,5 @@
 -- What runs leave.
-use Rattle.std.proofs.Common.{◌≡◌, ◌≢◌, ◌<◌, ◌≤◌, ℕ, Bool, true, false, if◌then◌else◌, option_and_then, List, [], ◌++◌, None, Some, Ok, is_some, length, refl, sym, ap, subst, ◌∙◌, true≢false, ◌⊎◌, inl, inr}
+use Rattle.std.proofs.Common.{◌≡◌, ◌≢◌, ◌<◌, ◌≤◌, ℕ, Bool, true, false, if◌then◌else◌, List, [], ◌++◌, None, Some, Ok, is_some, length, refl, sym, ap, subst, ◌∙◌, true≢false, ◌⊎◌, inl, inr}
 use Rattle.std.specs.Prelude.{IfSome, IsSome, IsSomeAnd}
 use Rattle.std.specs.declared.option.Option.{Option}
 use Rattle.hx_ports.specs.Keeping.{Kept}

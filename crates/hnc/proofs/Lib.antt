@@ -1,4 +1,4 @@
 pub mod Leaving
 pub mod Quiet
 mod Reporting
-mod Serving
+mod Linking

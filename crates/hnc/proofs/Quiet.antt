@@ -1,6 +1,6 @@
 -- What a history leaves that ends quiet.
 --     quiet_settled      a settled state
-use Rattle.std.proofs.Common.{◌≡◌, [], ◌∷◌, refl, sym, subst}
+use Rattle.std.proofs.Common.{[], ◌∷◌, refl, sym, subst}
 use Rattle.hx_model.specs.Machine.{World, Entry, History, IsLegal, IsHistory, world_after, replay}
 use Rattle.hx_model.specs.Settled.{IsSettled}
 use Rattle.hnc.specs.Headline.{EndsQuiet}

@@ -2,7 +2,7 @@
 --     says_whole, says_front     a text that was written, or a front of it
 --     on_state                   what holds of rows holds of a state that has them
 --     found_as, audited_none     what an audit finds, by its cases;  one that finds nothing
-use Rattle.std.proofs.Common.{◌≡◌, ℕ, List, [], ◌++◌, Option, None, sym, subst}
+use Rattle.std.proofs.Common.{◌≡◌, ℕ, List, [], Option, None, sym, subst}
 use Rattle.std.proofs.lemmas.List.{append-nil}
 use Rattle.std.specs.Io.KnownBytes.{Appends}
 use Rattle.hx_ports.specs.Views.{SinkView}

@@ -6,7 +6,8 @@
 --     Leaves                     what a run of a script leaves: such a history of its lines, and what it writes
 --     LeavesWhole, LeavesFront   the same of a run to the script's end;  of one that was cut short
 --     LeavesRead                 of one whose source failed: each line that ended before has its answer
---     LeavesServed               what serving links leaves: such a history of their messages and of the settles behind them
+--     LeavesServed               what serving links one after the other leaves: such a history of their messages and of the settles behind them
+--     LeavesShared               what serving them beside one another leaves: such a history of the calls of all sessions and workers
 --     OfRun words source P       there is a script with P, for the run that the words ask for: the one that the source tells, where it tells
 --     IsCarriedOut, IsCutShort   a run reached its script's end, a report was printed, or links were served;  the first part of a run or a report was
 --     is_cut_short, has_not_begun      what a status says of a command
@@ -35,9 +36,12 @@ use Rattle.hx_core.specs.Starting.{IsUndamaged}
 use Rattle.hnc.specs.declared.top.Status.{Status}
 use Rattle.hnc.specs.declared.top.Status.TheVariants.{Done, Usage, ReadFault, WriteFault, KeeperFault, Damaged, NoMemory, DoorFault, Unsettled, TooLong, NotFound}
 use Rattle.hnc.specs.Reports.{PrintsWhole, PrintsFront}
+use Rattle.hnc.specs.Serving.{is_alone}
 use Rattle.hx_door.specs.Doors.{DoorView}
 use Rattle.hx_door.specs.declared.door.DoorFault.{DoorFault as Fault}
 use Rattle.hx_serve.specs.Visits.{Visit, IsVisit, HaveVisited, EndsServing, visits_entries}
+use Rattle.hx_shared.specs.Calls.{Log, IsOrderly, entries as called_entries}
+use Rattle.hx_team.specs.Team.{IsServedOut, EndsServing as EndsSharing}
 use Rattle.hx_script.specs.Lines.{Line, script_lines, unended}
 use Rattle.hx_script.specs.Running.{LacksLast, OfScript, most_bytes}
 use Rattle.hx_script.specs.Exchanges.{Exchange, IsExchange, lines_of, entries_of, answer_lines}
@@ -123,9 +127,18 @@ pub record LeavesServed (served : Command) (result : Result ℕ Fault) (links : 
   pub few : length visits ≤ links
   pub ends : EndsServing result (Some links) visits between door'
 
--- so it was with a task that serves
+-- Links were served beside one another, by sessions and workers that shared the cluster. There is one history of the machine: its entries are the calls of all of them, each with its answer, in one order. A key that a worker took was finished or dropped by who took it.
+-- The door was asked until no link more came: it handed out as many as asked, or it is closed; or it failed.
+pub record LeavesShared (served : Command) (result : Result ℕ Fault) (links : ℕ) (door door' : DoorView) (keeper keeper' : KeeperView) : Type 0 where
+  pub calls : Log
+  pub carries : Carries served (called_entries calls) keeper keeper'
+  pub orderly : IsOrderly [] calls
+  pub handed : IsServedOut links door result door'
+  pub ends : EndsSharing links result door'
+
+-- so it was with a task that serves: links were served beside one another or, by one session that is alone and where no memory was left for what is shared, one after the other
 abbrev pub LeavesServedBy : Command → Task → Result ℕ Fault → DoorView → DoorView → KeeperView → KeeperView → Type 0
-LeavesServedBy served (Serve serving) result door door' keeper keeper' = LeavesServed served result serving.links door door' keeper keeper'
+LeavesServedBy served (Serve serving) result door door' keeper keeper' = LeavesServed served result serving.links door door' keeper keeper' ⊎ ((is_alone serving ≡ false) × LeavesShared served result serving.links door door' keeper keeper')
 LeavesServedBy served _ result door door' keeper keeper' = ⊥
 
 -- links were served to the end of the task, or where the door failed

@@ -2,6 +2,7 @@
 #![tactic(auto)]
 
 mod printing;
+mod serving;
 #[cfg(test)]
 mod tests;
 mod top;
@@ -20,6 +21,8 @@ use hx_words::{Command, WordsFault, first_untaken, read_words};
 use std::alloc::Global;
 use std::hash::RandomState;
 use std::process::ExitCode;
+use std::sync::Wait;
+use std::thread::Threads;
 use std::{env, io};
 
 /// How the commands are used.
@@ -45,7 +48,11 @@ fn main(rt: HostRuntime) -> ExitCode {
         Err(error) => return exit_without_words(&rt, error.kind()),
     };
     match RandomState::new(&rt) {
-        Ok(keys) => exit_with(&rt, words.as_slice(), &run(&rt, words.as_slice(), keys)),
+        Ok(keys) => exit_with(
+            &rt,
+            words.as_slice(),
+            &run(&rt, &rt, words.as_slice(), keys),
+        ),
         Err(error) => exit_without_keys(&rt, words.as_slice(), error.kind()),
     }
 }
@@ -86,11 +93,16 @@ enum Access {
 }
 
 /// Runs the command over standard input and output.
-fn run(rt: &HostRuntime, words: &[String], keys: RandomState) -> Outcome {
+fn run<T: Threads + Wait + Sync>(
+    rt: &HostRuntime,
+    threads: &T,
+    words: &[String],
+    keys: RandomState,
+) -> Outcome {
     match access_of_words(rt.alloc(), words) {
-        Ok(Access::Memory) => run_in_memory(rt, words, keys),
-        Ok(Access::Read) => run_over(rt, words, keys, SqlKeeper::for_reading(rt)),
-        Ok(Access::Written) => run_over_written(rt, words, keys),
+        Ok(Access::Memory) => run_in_memory(rt, threads, words, keys),
+        Ok(Access::Read) => run_over(rt, threads, words, keys, SqlKeeper::for_reading(rt)),
+        Ok(Access::Written) => run_over_written(rt, threads, words, keys),
         Err(NoMemory) => Outcome {
             status: Status::NoMemory,
             damaged: None,
@@ -129,27 +141,37 @@ fn access_of(command: &Command) -> Access
 }
 
 /// Runs the command with the rows in a map of the program's own memory, which is gone with it.
-fn run_in_memory(rt: &HostRuntime, words: &[String], keys: RandomState) -> Outcome
+fn run_in_memory<T: Threads + Wait + Sync>(
+    rt: &HostRuntime,
+    threads: &T,
+    words: &[String],
+    keys: RandomState,
+) -> Outcome
     requires { IsSomeAnd (command_of (map string_bytes words.now)) (λ command. command.db ≡ []) }
 {
     let mut source = StdSource::new(rt.stdin());
     let mut sink = StdSink::new(rt.stdout());
-    let mut door = TcpDoor::new(rt);
     let notices = LinkNotices { rt: *rt };
     let keeper = SureKeeper::new(Vec::new(rt.alloc()), NO_ROWS, keys);
-    let ended = top(
+    let Ended {
+        status,
+        damaged,
+        keeper: _,
+        door,
+    } = top(
+        threads,
         rt.alloc(),
         words,
         &mut source,
         &mut sink,
-        &mut door,
+        TcpDoor::new(rt),
         &notices,
         keeper,
         keys,
     );
     Outcome {
-        status: ended.status,
-        damaged: ended.damaged,
+        status,
+        damaged,
         database_fault: None,
         close_fault: None,
         read_fault: source.last_fault(),
@@ -159,30 +181,42 @@ fn run_in_memory(rt: &HostRuntime, words: &[String], keys: RandomState) -> Outco
 }
 
 /// Runs the command with the rows in a database that it may write. No command that only reads gets one.
-fn run_over_written(rt: &HostRuntime, words: &[String], keys: RandomState) -> Outcome
+fn run_over_written<T: Threads + Wait + Sync>(
+    rt: &HostRuntime,
+    threads: &T,
+    words: &[String],
+    keys: RandomState,
+) -> Outcome
     requires { reading_of (map string_bytes words.now) ≡ None }
 {
-    run_over(rt, words, keys, SqlKeeper::new(rt))
+    run_over(rt, threads, words, keys, SqlKeeper::new(rt))
 }
 
 /// Runs the command over a keeper of a database.
-fn run_over(rt: &HostRuntime, words: &[String], keys: RandomState, keeper: SqlKeeper) -> Outcome
+fn run_over<T: Threads + Wait + Sync>(
+    rt: &HostRuntime,
+    threads: &T,
+    words: &[String],
+    keys: RandomState,
+    keeper: SqlKeeper,
+) -> Outcome
     requires { (⟦<SqlKeeper as Keeper>⟧.shown keeper).place ≡ None }
 {
     let mut source = StdSource::new(rt.stdin());
     let mut sink = StdSink::new(rt.stdout());
-    let mut door = TcpDoor::new(rt);
     let notices = LinkNotices { rt: *rt };
     let Ended {
         status,
         damaged,
         keeper,
+        door,
     } = top(
+        threads,
         rt.alloc(),
         words,
         &mut source,
         &mut sink,
-        &mut door,
+        TcpDoor::new(rt),
         &notices,
         keeper,
         keys,

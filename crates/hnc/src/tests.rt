@@ -3,19 +3,23 @@ ghost use Rattle.std.specs.Prelude.{◌<◌};
 
 use self::serving::{Counted, no_door};
 use crate::top::{Ended, Status, top};
+use hx_door::MemDoor;
 use hx_object::{List, NoMemory, Text};
 use hx_ports::{
     FailCommit, MemKeeper, MemSink, MemSource, Meta, Row, SureKeeper, SureSink, SureSource,
 };
 use std::alloc::{AllocError, Global};
 use std::hash::RandomState;
-use std::mem;
+use std::sync::Wait;
 use std::test::Fail;
+use std::thread::Threads;
 
 mod ample;
 mod damage;
 mod reports;
 mod serving;
+mod sharing;
+mod stopped;
 
 // What the ports of a run do.
 #[derive(Drop)]
@@ -120,7 +124,11 @@ fn fails_of(alloc: Global, setting: &Setting) -> Result<(Vec<FailCommit>, Vec<u6
 }
 
 // What an end over these ports leaves.
-fn left_by(alloc: Global, ended: &mut Ended<MemKeeper>, sink: &MemSink) -> Result<Left, NoMemory> {
+fn left_by(
+    alloc: Global,
+    ended: &mut Ended<MemKeeper, MemDoor>,
+    sink: &MemSink,
+) -> Result<Left, NoMemory> {
     let answers = Vec::from_slice(alloc, sink.bytes())?;
     let rows = ended.keeper.rows()?;
     Ok(Left {
@@ -134,12 +142,19 @@ fn left_by(alloc: Global, ended: &mut Ended<MemKeeper>, sink: &MemSink) -> Resul
 }
 
 // The run of a script over no rows. The words are joined by spaces.
-fn run(alloc: Global, words: &str, script: &[u8], setting: &Setting) -> Result<Left, NoMemory> {
-    run_on(alloc, Vec::new(alloc), words, script, setting)
+fn run<R: Threads + Wait + Sync>(
+    rt: &R,
+    alloc: Global,
+    words: &str,
+    script: &[u8],
+    setting: &Setting,
+) -> Result<Left, NoMemory> {
+    run_on(rt, alloc, Vec::new(alloc), words, script, setting)
 }
 
 // The run of a script over rows.
-fn run_on(
+fn run_on<R: Threads + Wait + Sync>(
+    rt: &R,
     alloc: Global,
     rows: Vec<Row>,
     words: &str,
@@ -149,14 +164,15 @@ fn run_on(
     let (commits, calls) = fails_of(alloc, setting)?;
     let words = split_words(alloc, words)?;
     let mut ports = ports_of(alloc, script, setting)?;
-    let mut door = no_door(alloc)?;
+    let door = no_door(alloc)?;
     let keeper = MemKeeper::new(rows, setting.meta, commits, calls, setting.keys);
     let mut ended = top(
+        rt,
         alloc,
         words.as_slice(),
         &mut ports.source,
         &mut ports.sink,
-        &mut door,
+        door,
         &Counted::new(),
         keeper,
         setting.keys,
@@ -167,18 +183,24 @@ fn run_on(
 }
 
 // What is answered over ports that can't fail.
-fn sure_answers(alloc: Global, keys: RandomState, script: &[u8]) -> Result<SureSink, NoMemory> {
+fn sure_answers<R: Threads + Wait + Sync>(
+    rt: &R,
+    alloc: Global,
+    keys: RandomState,
+    script: &[u8],
+) -> Result<SureSink, NoMemory> {
     let words = split_words(alloc, "run")?;
     let mut sink = SureSink::new(Vec::with_capacity(alloc, 8192)?);
     let mut source = SureSource::new(Vec::from_slice(alloc, script)?, 4096);
-    let mut door = no_door(alloc)?;
+    let door = no_door(alloc)?;
     let keeper = SureKeeper::new(Vec::new(alloc), NO_ROWS, keys);
     drop(top(
+        rt,
         alloc,
         words.as_slice(),
         &mut source,
         &mut sink,
-        &mut door,
+        door,
         &Counted::new(),
         keeper,
         keys,
@@ -265,27 +287,36 @@ fn kept(alloc: Global, left: &Left, letters: &str, version: u64) -> Result<bool,
 }
 
 // Whether five lines in these pieces are answered as told.
-fn is_answered(alloc: Global, setting: &Setting, answers: &[u8]) -> Result<bool, NoMemory> {
+fn is_answered<R: Threads + Wait + Sync>(
+    rt: &R,
+    alloc: Global,
+    setting: &Setting,
+    answers: &[u8],
+) -> Result<bool, NoMemory> {
     let script = five_lines(alloc)?;
-    let left = run(alloc, "run", script.as_slice(), setting)?;
+    let left = run(rt, alloc, "run", script.as_slice(), setting)?;
     Ok(left.status == Status::Done && left.answers.as_slice() == answers)
 }
 
 // What five lines are answered over ports that can't fail.
-fn five_answers(alloc: Global, keys: RandomState) -> Result<SureSink, NoMemory> {
+fn five_answers<R: Threads + Wait + Sync>(
+    rt: &R,
+    alloc: Global,
+    keys: RandomState,
+) -> Result<SureSink, NoMemory> {
     let script = five_lines(alloc)?;
-    sure_answers(alloc, keys, script.as_slice())
+    sure_answers(rt, alloc, keys, script.as_slice())
 }
 
 #[test]
 fn pieces_change_nothing(rt: HostRuntime) -> Result<(), Fail> {
     let random = RandomState::new(&rt)?;
-    let whole = five_answers(rt.alloc(), random)?;
+    let whole = five_answers(&rt, rt.alloc(), random)?;
     for (read_piece, write_piece) in [(4096, 4096), (1, 7), (2, 3), (3, 2), (7, 1)] {
         let mut setting = plain(random);
         setting.read_piece = read_piece;
         setting.write_piece = write_piece;
-        let is_answered = is_answered(rt.alloc(), &setting, whole.bytes())?;
+        let is_answered = is_answered(&rt, rt.alloc(), &setting, whole.bytes())?;
         assert!(rt; is_answered, "pieces of {read_piece}");
     }
     Ok(())
@@ -312,21 +343,26 @@ fn is_row_of_acme(alloc: Global, left: &Left) -> Result<bool, AllocError> {
     )
 }
 
-fn makes_acme(alloc: Global, setting: &Setting) -> Result<bool, NoMemory> {
+fn makes_acme<R: Threads + Wait + Sync>(
+    rt: &R,
+    alloc: Global,
+    setting: &Setting,
+) -> Result<bool, NoMemory> {
     let script = create(alloc, "acme")?;
-    let left = run(alloc, "run", script.as_str().as_bytes(), setting)?;
+    let left = run(rt, alloc, "run", script.as_str().as_bytes(), setting)?;
     Ok(is_row_of_acme(alloc, &left)?)
 }
 
 #[test]
 fn a_row_is_kept(rt: HostRuntime) -> Result<(), Fail> {
     let random = RandomState::new(&rt)?;
-    assert!(rt; makes_acme(rt.alloc(), &plain(random))?);
+    assert!(rt; makes_acme(&rt, rt.alloc(), &plain(random))?);
     Ok(())
 }
 
 // Whether five lines are answered with these codes, and leave rows whose keys have these last letters.
-fn keeps(
+fn keeps<R: Threads + Wait + Sync>(
+    rt: &R,
     alloc: Global,
     setting: &Setting,
     codes: &str,
@@ -335,7 +371,7 @@ fn keeps(
     is_broken: bool,
 ) -> Result<bool, NoMemory> {
     let script = five_lines(alloc)?;
-    let left = run(alloc, "run", script.as_slice(), setting)?;
+    let left = run(rt, alloc, "run", script.as_slice(), setting)?;
     let is_ended = ended_with(alloc, &left, Status::Done, codes)?;
     let is_kept = kept(alloc, &left, letters, version)?;
     Ok(is_ended && is_kept && left.is_broken == is_broken)
@@ -360,16 +396,22 @@ fn a_commit_fails(rt: HostRuntime) -> Result<(), Fail> {
     for (call, landed, codes, keys, version) in COMMITS {
         let mut setting = plain(random);
         setting.failing_commit = FailCommit { call, landed };
-        let keeps = keeps(rt.alloc(), &setting, codes, keys, version, call < 5)?;
+        let keeps = keeps(&rt, rt.alloc(), &setting, codes, keys, version, call < 5)?;
         assert!(rt; keeps, "commit {call}, {landed}");
     }
     Ok(())
 }
 
 // Whether five lines end so, with these codes.
-fn ends(alloc: Global, setting: &Setting, status: Status, codes: &str) -> Result<bool, NoMemory> {
+fn ends<R: Threads + Wait + Sync>(
+    rt: &R,
+    alloc: Global,
+    setting: &Setting,
+    status: Status,
+    codes: &str,
+) -> Result<bool, NoMemory> {
     let script = five_lines(alloc)?;
-    let left = run(alloc, "run", script.as_slice(), setting)?;
+    let left = run(rt, alloc, "run", script.as_slice(), setting)?;
     ended_with(alloc, &left, status, codes)
 }
 
@@ -395,7 +437,7 @@ fn a_read_or_a_write_fails(rt: HostRuntime) -> Result<(), Fail> {
         setting.failing_read = read;
         setting.failing_write = write;
         setting.room = room;
-        let ends = ends(rt.alloc(), &setting, status, codes)?;
+        let ends = ends(&rt, rt.alloc(), &setting, status, codes)?;
         assert!(rt; ends, "read {read}, write {write}, room {room}");
     }
     Ok(())
@@ -412,7 +454,8 @@ fn settled_lines(alloc: Global) -> Result<Vec<u8>, AllocError> {
 }
 
 // Whether these lines end so, with these codes and this version.
-fn settles(
+fn settles<R: Threads + Wait + Sync>(
+    rt: &R,
     alloc: Global,
     setting: &Setting,
     status: Status,
@@ -420,7 +463,7 @@ fn settles(
     version: u64,
 ) -> Result<bool, NoMemory> {
     let script = settled_lines(alloc)?;
-    let left = run(alloc, "run", script.as_slice(), setting)?;
+    let left = run(rt, alloc, "run", script.as_slice(), setting)?;
     let is_ended = ended_with(alloc, &left, status, codes)?;
     Ok(is_ended && left.version == version)
 }
@@ -468,7 +511,7 @@ fn a_write_fails_in_a_settle(rt: HostRuntime) -> Result<(), Fail> {
         let mut setting = plain(random);
         setting.failing_write = write;
         setting.room = room;
-        let settles = settles(rt.alloc(), &setting, status, codes, version)?;
+        let settles = settles(&rt, rt.alloc(), &setting, status, codes, version)?;
         assert!(rt; settles, "write {write}, room {room}");
     }
     Ok(())
@@ -513,8 +556,13 @@ const WORDS: [(&str, Status); 31] = [
 ];
 
 // How a run of these words over an empty script ends.
-fn status_of(alloc: Global, words: &str, setting: &Setting) -> Result<Status, NoMemory> {
-    let left = run(alloc, words, b"", setting)?;
+fn status_of<R: Threads + Wait + Sync>(
+    rt: &R,
+    alloc: Global,
+    words: &str,
+    setting: &Setting,
+) -> Result<Status, NoMemory> {
+    let left = run(rt, alloc, words, b"", setting)?;
     Ok(left.status)
 }
 
@@ -522,7 +570,7 @@ fn status_of(alloc: Global, words: &str, setting: &Setting) -> Result<Status, No
 fn words(rt: HostRuntime) -> Result<(), Fail> {
     let random = RandomState::new(&rt)?;
     for (words, status) in WORDS {
-        let found = status_of(rt.alloc(), words, &plain(random))?;
+        let found = status_of(&rt, rt.alloc(), words, &plain(random))?;
         assert_eq!(rt; found, status, "{words}");
     }
     Ok(())
@@ -555,13 +603,14 @@ fn is_untouched(left: &Left, version: u64) -> bool {
 }
 
 // The status and the damaged row of a run on acme that creates b, where it answers nothing and leaves all as it was.
-fn end_on_acme(
+fn end_on_acme<R: Threads + Wait + Sync>(
+    rt: &R,
     alloc: Global,
     setting: &Setting,
 ) -> Result<Option<(Status, Option<u64>)>, NoMemory> {
     let script = create(alloc, "b")?;
     let rows = acme(alloc)?;
-    let left = run_on(alloc, rows, "run", script.as_str().as_bytes(), setting)?;
+    let left = run_on(rt, alloc, rows, "run", script.as_str().as_bytes(), setting)?;
     Ok(if is_untouched(&left, setting.meta.version) {
         Some((left.status, left.damaged_row))
     } else {
@@ -595,7 +644,7 @@ fn no_run_begins(rt: HostRuntime) -> Result<(), Fail> {
             rows,
         };
         setting.failing_keeper = fails;
-        let end = end_on_acme(rt.alloc(), &setting)?;
+        let end = end_on_acme(&rt, rt.alloc(), &setting)?;
         assert!(rt;
             end == Some((status, row)),
             "schema {schema}, version {version}, call {fails}"
@@ -605,10 +654,14 @@ fn no_run_begins(rt: HostRuntime) -> Result<(), Fail> {
 }
 
 // Whether a run on acme that asks for it is done and gives it.
-fn gives_acme(alloc: Global, setting: &Setting) -> Result<bool, NoMemory> {
+fn gives_acme<R: Threads + Wait + Sync>(
+    rt: &R,
+    alloc: Global,
+    setting: &Setting,
+) -> Result<bool, NoMemory> {
     let script = get(alloc, "acme")?;
     let rows = acme(alloc)?;
-    let left = run_on(alloc, rows, "run", script.as_str().as_bytes(), setting)?;
+    let left = run_on(rt, alloc, rows, "run", script.as_str().as_bytes(), setting)?;
     let is_given = match left.answers.as_slice().strip_prefix(b"200 ".as_slice()) {
         Some(rest) => rest.starts_with(ACME.as_bytes()),
         None => false,
@@ -627,125 +680,13 @@ fn a_run_begins(rt: HostRuntime) -> Result<(), Fail> {
             rows: 1,
         };
         setting.failing_keeper = fails;
-        let gives = gives_acme(rt.alloc(), &setting)?;
+        let gives = gives_acme(&rt, rt.alloc(), &setting)?;
         assert!(rt; gives, "version {version}");
     }
     Ok(())
 }
 
-// ---- a run that is stopped and begun again
-
-// Requests over several kinds, with a tree among them.
-const LINES: [&str; 15] = [
-    r#"POST /api/v1/namespaces {"apiVersion":"v1","kind":"Namespace","metadata":{"labels":{"b":"2","a":"1"},"name":"acme"}}"#,
-    r#"POST /api/v1/namespaces {"apiVersion":"v1","kind":"Namespace","metadata":{"annotations":{"a/b":"é\n"},"name":"team"}}"#,
-    r#"POST /apis/hnc.x-k8s.io/v1alpha2/namespaces/team/hierarchyconfigurations {"apiVersion":"hnc.x-k8s.io/v1alpha2","kind":"HierarchyConfiguration","metadata":{"name":"hierarchy"},"spec":{"parent":"acme"}}"#,
-    r#"POST /api/v1/namespaces/acme/configmaps {"apiVersion":"v1","kind":"ConfigMap","metadata":{"name":"c"},"data":{"l":"","k":[1,{}]}}"#,
-    r#"POST /apis/hnc.x-k8s.io/v1alpha2/hncconfigurations {"apiVersion":"hnc.x-k8s.io/v1alpha2","kind":"HNCConfiguration","metadata":{"name":"config"},"spec":{"resources":[{"resource":"secrets"}]}}"#,
-    r#"PUT /api/v1/namespaces/acme/configmaps/c {"apiVersion":"v1","kind":"ConfigMap","metadata":{"resourceVersion":"3"}}"#,
-    r#"PUT /api/v1/namespaces/acme/configmaps/c {"apiVersion":"v1","kind":"ConfigMap","metadata":{"resourceVersion":"4"},"data":{"k":"v"}}"#,
-    r#"POST /apis/rbac.authorization.k8s.io/v1/namespaces/team/roles {"apiVersion":"rbac.authorization.k8s.io/v1","kind":"Role","metadata":{"name":"system:r"},"rules":[]}"#,
-    r#"POST /apis/hnc.x-k8s.io/v1alpha2/namespaces/acme/hierarchyconfigurations {"apiVersion":"hnc.x-k8s.io/v1alpha2","kind":"HierarchyConfiguration","metadata":{"name":"hierarchy"},"spec":{"parent":"team"}}"#,
-    "DELETE /api/v1/namespaces/acme/configmaps/c",
-    r#"PUT /apis/hnc.x-k8s.io/v1alpha2/namespaces/team/hierarchyconfigurations/hierarchy {"apiVersion":"hnc.x-k8s.io/v1alpha2","kind":"HierarchyConfiguration","metadata":{},"spec":{"allowCascadingDeletion":true}}"#,
-    r#"POST /apis/hnc.x-k8s.io/v1alpha2/namespaces/acme/hierarchyconfigurations {"apiVersion":"hnc.x-k8s.io/v1alpha2","kind":"HierarchyConfiguration","metadata":{"name":"hierarchy"},"spec":{"parent":"team"}}"#,
-    r#"PUT /api/v1/namespaces/acme {"apiVersion":"v1","kind":"Namespace","metadata":{"labels":{"a":"2"}}}"#,
-    "DELETE /apis/rbac.authorization.k8s.io/v1/namespaces/team/roles/system:r",
-    "GET /api/v1/namespaces",
-];
-
-const LINE_CODES: &str = "201 201 201 201 201 409 200 201 403 H2 200 200 201 200 200 200 ";
-
-// The lines from one on, up to another.
-fn lines(alloc: Global, from: usize, to: usize) -> Result<String, NoMemory> {
-    let mut script = String::new(alloc);
-    for line in LINES.iter().take(to).skip(from) {
-        script.push_str(line)?;
-        script.push('\n')?;
-    }
-    Ok(script)
-}
-
-// Runs a part of the lines on rows of a version.
-fn run_part(
-    alloc: Global,
-    keys: RandomState,
-    from: usize,
-    to: usize,
-    rows: Vec<Row>,
-    version: u64,
-) -> Result<Left, NoMemory> {
-    let mut setting = plain(keys);
-    setting.meta = Meta {
-        schema: 2,
-        version,
-        rows: rows.len() as u64,
-    };
-    let script = lines(alloc, from, to)?;
-    run_on(alloc, rows, "run", script.as_str().as_bytes(), &setting)
-}
-
-fn is_same_row(row: &Row, other: &Row) -> bool {
-    row.version == other.version
-        && row.key.as_slice() == other.key.as_slice()
-        && row.body.as_str() == other.body.as_str()
-}
-
-fn are_same_rows(rows: &[Row], others: &[Row]) -> bool {
-    for (at, row) in rows.iter().enumerate() {
-        match others.get(at) {
-            Some(other) if is_same_row(row, other) => {}
-            _ => return false,
-        }
-    }
-    rows.len() == others.len()
-}
-
-// Whether a run and another that begins on what it kept leave the same as one, and answer the same between them.
-fn are_same(whole: &Left, first: &Left, rest: &Left) -> bool {
-    let are_answered = match whole
-        .answers
-        .as_slice()
-        .strip_prefix(first.answers.as_slice())
-    {
-        Some(left) => left == rest.answers.as_slice(),
-        None => false,
-    };
-    are_answered
-        && whole.version == rest.version
-        && are_same_rows(whole.rows.as_slice(), rest.rows.as_slice())
-}
-
-// Whether the lines in two runs leave the same as in one.
-fn is_same_in_two(
-    alloc: Global,
-    keys: RandomState,
-    first: usize,
-    whole: &Left,
-) -> Result<bool, NoMemory> {
-    let mut left = run_part(alloc, keys, 0, first, Vec::new(alloc), 0)?;
-    let rows = mem::replace(&mut left.rows, Vec::new(alloc));
-    let rest = run_part(alloc, keys, first, LINES.len(), rows, left.version)?;
-    Ok(are_same(whole, &left, &rest))
-}
-
-// Whether the lines have their codes in one run, and keep what they should.
-fn is_whole(alloc: Global, whole: &Left) -> Result<bool, NoMemory> {
-    let codes = codes_of(alloc, whole.answers.as_slice())?;
-    Ok(codes.as_slice() == LINE_CODES.as_bytes() && (whole.version, whole.rows.len()) == (12, 5))
-}
-
-#[test]
-fn a_stop_changes_nothing(rt: HostRuntime) -> Result<(), Fail> {
-    let random = RandomState::new(&rt)?;
-    let whole = run_part(rt.alloc(), random, 0, LINES.len(), Vec::new(rt.alloc()), 0)?;
-    assert!(rt; is_whole(rt.alloc(), &whole)?);
-    for first in 0..16usize {
-        let is_same = is_same_in_two(rt.alloc(), random, first, &whole)?;
-        assert!(rt; is_same, "after {first} lines");
-    }
-    Ok(())
-}
+// ---- the greatest version
 
 // A request that skips admission, where a limit would refuse it too.
 const SKIPS: &str =
@@ -760,9 +701,14 @@ fn last_lines(alloc: Global) -> Result<String, AllocError> {
 }
 
 // Whether these lines are done with these codes, and leave the greatest version.
-fn reaches_most(alloc: Global, setting: &Setting, codes: &str) -> Result<bool, NoMemory> {
+fn reaches_most<R: Threads + Wait + Sync>(
+    rt: &R,
+    alloc: Global,
+    setting: &Setting,
+    codes: &str,
+) -> Result<bool, NoMemory> {
     let script = last_lines(alloc)?;
-    let left = run(alloc, "run", script.as_str().as_bytes(), setting)?;
+    let left = run(rt, alloc, "run", script.as_str().as_bytes(), setting)?;
     let is_ended = ended_with(alloc, &left, Status::Done, codes)?;
     Ok(is_ended && left.version == MOST_VERSION)
 }
@@ -776,7 +722,7 @@ fn no_version_is_left(rt: HostRuntime) -> Result<(), Fail> {
     ] {
         let mut setting = plain(random);
         setting.meta.version = version;
-        let reaches = reaches_most(rt.alloc(), &setting, codes)?;
+        let reaches = reaches_most(&rt, rt.alloc(), &setting, codes)?;
         assert!(rt; reaches, "version {version}");
     }
     Ok(())

@@ -5,21 +5,22 @@ ghost use Rattle.hx_ports.specs.Causes.{Rose};
 ghost use Rattle.hx_core.specs.Starting.{IsUndamaged, Tells};
 ghost use Rattle.hnc.specs.Headline.{LeavesFront, LeavesRead, OfRun, IsCarriedOut, IsCutShort, IsLeftByDoor, IsUnbegun, is_complete, is_cut_short, has_not_begun, code_of_status};
 ghost use Rattle.hnc.specs.Reports.{PrintsWhole};
-ghost use Rattle.hnc.specs.Serving.{HasServed};
 ghost use Rattle.hx_words.specs.Words.{command_of, reading_of, run_of, serving_of};
-ghost use Rattle.hx_script.specs.Inside.{IsIdle};
 ghost use Rattle.hx_script.specs.Running.{IsCalm, most_bytes};
 
 use crate::printing::print;
+use crate::serving::serve_at;
 use hx_core::{Cluster, Damage, StartFault, Unstarted};
-use hx_door::{Door, DoorFault};
+use hx_door::Door;
 use hx_object::List;
 use hx_ports::{KeepFault, Keeper, Sink, Source};
 use hx_script::{RunEnd, run_script};
-use hx_serve::{ClusterService, Notices, serve};
-use hx_words::{Command, Serving, Task, WordsFault, read_words};
+use hx_serve::Notices;
+use hx_words::{Command, Task, WordsFault, read_words};
 use std::alloc::Global;
 use std::hash::RandomState;
+use std::sync::Wait;
+use std::thread::Threads;
 
 /// How a command ended. The discriminant is the exit status of the program.
 #[derive(Clone, Copy, Debug, PartialEq, Eq)]
@@ -55,13 +56,14 @@ impl Status {
     }
 }
 
-/// The end of a command: its status, and the keeper that was handed in.
+/// The end of a command: its status, and the keeper and the door that were handed in.
 #[derive(Drop)]
-pub struct Ended<K> {
+pub struct Ended<K, D> {
     pub status: Status,
     /// Where the status is `Damaged`, the first damaged row.
     pub damaged: Option<DamagedRow>,
     pub keeper: K,
+    pub door: D,
 }
 
 /// A damaged row of a keeper.
@@ -76,28 +78,39 @@ pub struct DamagedRow {
 
 /// Does all that the program does, over a keeper of the stored rows, which takes its place at the path that the words give, or in memory: reads the script of `run` and answers its lines, answers the messages of the links that the door of `serve` gives, or prints a report on the rows.
 ///
-/// `notices` is told of links that end otherwise than closed.
+/// Links are answered by several sessions, with workers beside them, each in a thread of its own. `notices` is told of links that end otherwise than closed.
 ///
 /// The keys hash what is held in memory, so that names can't be chosen to collide. Nothing that is answered or stored depends on them.
-pub fn top<S: Source, W: Sink, K: Keeper, D: Door, N: Notices>(
+pub fn top<
+    T: Threads + Wait + Sync,
+    S: Source,
+    W: Sink,
+    K: Keeper + Send,
+    D: Door + Send,
+    N: Notices + Sync,
+>(
+    threads: &T,
     alloc: Global,
     words: &[String],
     source: &mut S,
     sink: &mut W,
-    door: &mut D,
+    door: D,
     notices: &N,
     mut keeper: K,
     keys: RandomState,
-) -> Ended<K>
+) -> Ended<K, D>
+where
+    D::Input: Send,
+    D::Output: Send,
     requires { (K.shown keeper).place ≡ None }
 
     // Answers and stored objects are a run of the machine. A report is one on the rows, which stay.
-    ensures done { result.status ≡ Status.Done → IsCarriedOut (run_of (map string_bytes words.now)) (reading_of (map string_bytes words.now)) (serving_of (map string_bytes words.now)) Status.Done (S.shown source.old) (W.shown sink.old) (W.shown sink.new) (K.shown keeper) (K.shown result.keeper) (D.shown door.old) (D.shown door.new) }
+    ensures done { result.status ≡ Status.Done → IsCarriedOut (run_of (map string_bytes words.now)) (reading_of (map string_bytes words.now)) (serving_of (map string_bytes words.now)) Status.Done (S.shown source.old) (W.shown sink.old) (W.shown sink.new) (K.shown keeper) (K.shown result.keeper) (D.shown door) (D.shown result.door) }
     ensures cut { is_cut_short result.status ≡ true → IsCutShort (run_of (map string_bytes words.now)) (reading_of (map string_bytes words.now)) (S.shown source.old) (W.shown sink.old) (W.shown sink.new) (K.shown keeper) (K.shown result.keeper) }
     ensures unbegun { has_not_begun result.status ≡ true → IsUnbegun (command_of (map string_bytes words.now)) source.old source.new sink.old sink.new (K.shown keeper) (K.shown result.keeper) }
     ensures memory { result.status ≡ Status.NoMemory → IsUnbegun (command_of (map string_bytes words.now)) source.old source.new sink.old sink.new (K.shown keeper) (K.shown result.keeper) ⊎ OfRun (run_of (map string_bytes words.now)) (S.shown source.old) (λ command script. LeavesFront command script (W.shown sink.old) (W.shown sink.new) (K.shown keeper) (K.shown result.keeper)) }
     ensures unread { result.status ≡ Status.ReadFault → IsSomeAnd (run_of (map string_bytes words.now)) (λ command. LeavesRead command (S.shown source.old) (S.shown source.new) (W.shown sink.old) (W.shown sink.new) (K.shown keeper) (K.shown result.keeper)) }
-    ensures left { result.status ≡ Status.DoorFault → IsLeftByDoor (command_of (map string_bytes words.now)) (serving_of (map string_bytes words.now)) source.old source.new sink.old sink.new (K.shown keeper) (K.shown result.keeper) (D.shown door.old) (D.shown door.new) }
+    ensures left { result.status ≡ Status.DoorFault → IsLeftByDoor (command_of (map string_bytes words.now)) (serving_of (map string_bytes words.now)) source.old source.new sink.old sink.new (K.shown keeper) (K.shown result.keeper) (D.shown door) (D.shown result.door) }
     ensures unsettled { result.status ≡ Status.Unsettled → IsSomeAnd (reading_of (map string_bytes words.now)) (λ command. PrintsWhole command Status.Unsettled (W.shown sink.old) (W.shown sink.new) (K.shown keeper) (K.shown result.keeper)) }
     ensures not_found { result.status ≡ Status.NotFound → IsSomeAnd (reading_of (map string_bytes words.now)) (λ command. PrintsWhole command Status.NotFound (W.shown sink.old) (W.shown sink.new) (K.shown keeper) (K.shown result.keeper)) }
 
@@ -107,32 +120,32 @@ pub fn top<S: Source, W: Sink, K: Keeper, D: Door, N: Notices>(
     ensures read_fault { result.status ≡ Status.ReadFault → Rose (S.shown source.old).faults (S.shown source.new).faults }
     ensures write_fault { result.status ≡ Status.WriteFault → Rose (W.shown sink.old).faults (W.shown sink.new).faults ⊎ Rose (W.shown sink.old).stalls (W.shown sink.new).stalls }
     ensures keeper_fault { result.status ≡ Status.KeeperFault → Rose (K.shown keeper).faults (K.shown result.keeper).faults }
-    ensures door_fault { result.status ≡ Status.DoorFault → Rose (D.shown door.old).faults (D.shown door.new).faults }
+    ensures door_fault { result.status ≡ Status.DoorFault → Rose (D.shown door).faults (D.shown result.door).faults }
     ensures damaged { result.status ≡ Status.Damaged → IsSomeAnd result.damaged (λ damaged. IfSome (K.shown keeper).kept (λ held. Tells held damaged.row damaged.damage damaged.key)) }
     ensures whole { result.status ≢ Status.Damaged → result.damaged ≡ None }
     ensures too_long { result.status ≡ Status.TooLong → OfRun (run_of (map string_bytes words.now)) (S.shown source.old) (λ command script. (most_bytes < length script) × LeavesFront command script (W.shown sink.old) (W.shown sink.new) (K.shown keeper) (K.shown result.keeper)) }
     ensures unasked { result.status ≡ Status.Usage → result.keeper ≡ keeper }
     ensures read_calm { result.status ≢ Status.ReadFault → (S.shown source.new).faults ≡ (S.shown source.old).faults }
     ensures write_calm { result.status ≢ Status.WriteFault → IsCalm (W.shown sink.old) (W.shown sink.new) }
-    ensures door_calm { result.status ≢ Status.DoorFault → (D.shown door.new).faults ≡ (D.shown door.old).faults }
+    ensures door_calm { result.status ≢ Status.DoorFault → (D.shown result.door).faults ≡ (D.shown door).faults }
     ensures end { result.status ≡ Status.Done → run_of (map string_bytes words.now) ≢ None → IsAtEnd (S.shown source.new).left }
     ensures unscripted { run_of (map string_bytes words.now) ≡ None → source.new ≡ source.old }
     ensures unprinted { serving_of (map string_bytes words.now) ≢ None → sink.new ≡ sink.old }
-    ensures unserved { serving_of (map string_bytes words.now) ≡ None → door.new ≡ door.old }
+    ensures unserved { serving_of (map string_bytes words.now) ≡ None → result.door ≡ door }
     ensures complete { command_of (map string_bytes words.now) ≢ None
         → (Rose (S.shown source.old).faults (S.shown source.new).faults → ⊥)
         → (Rose (W.shown sink.old).faults (W.shown sink.new).faults ⊎ Rose (W.shown sink.old).stalls (W.shown sink.new).stalls → ⊥)
         → (Rose (K.shown keeper).faults (K.shown result.keeper).faults → ⊥)
-        → (Rose (D.shown door.old).faults (D.shown door.new).faults → ⊥)
+        → (Rose (D.shown door).faults (D.shown result.door).faults → ⊥)
         → IsSomeAnd (K.shown keeper).kept IsUndamaged
         → is_complete result.status ≡ true }
 {
     let Command { task, db, config } = match read_words(alloc, words) {
         Ok(command) => command,
-        Err(fault) => return end_with(status_of_words(fault), keeper),
+        Err(fault) => return end_with(status_of_words(fault), keeper, door),
     };
     if let Err(fault) = keeper.attach(db.as_str()) {
-        return end_with(status_of_keeper(fault), keeper);
+        return end_with(status_of_keeper(fault), keeper, door);
     }
     match Cluster::start(alloc, keeper, config, keys) {
         Err(
@@ -145,63 +158,31 @@ pub fn top<S: Source, W: Sink, K: Keeper, D: Door, N: Notices>(
             status: status_of_start(fault),
             damaged: damaged_row_of(fault, damaged_key),
             keeper,
+            door,
         },
         Ok(mut cluster) => match &task {
             Task::Run => {
                 let end = run_script(alloc, source, sink, &mut cluster);
-                end_with(status_of_end(end), cluster.close())
+                end_with(status_of_end(end), cluster.close(), door)
             }
-            Task::Serve(serving) => serve_at(alloc, door, notices, cluster, serving),
+            Task::Serve(serving) => serve_at(threads, alloc, door, notices, cluster, serving),
             Task::Print(report) => {
                 let status = print(alloc, &cluster, report, sink);
-                end_with(status, cluster.close())
+                end_with(status, cluster.close(), door)
             }
         },
     }
 }
 
-/// Serves the links that a door gives at an address, over a cluster that was started.
-fn serve_at<D: Door, K: Keeper, N: Notices>(
-    alloc: Global,
-    door: &mut D,
-    notices: &N,
-    cluster: Cluster<K>,
-    serving: &Serving,
-) -> Ended<K>
-    requires { IsIdle cluster }
-    ensures served { result.status ≡ Status.Done → HasServed IsOk serving.now.links cluster (D.shown door.old) (D.shown door.new) (K.shown result.keeper) }
-    ensures left { result.status ≡ Status.DoorFault → (K.shown result.keeper ≡ cluster.keeper) ⊎ HasServed IsErr serving.now.links cluster (D.shown door.old) (D.shown door.new) (K.shown result.keeper) }
-    ensures ends { (result.status ≡ Status.Done) ⊎ (result.status ≡ Status.DoorFault) }
-    ensures whole { result.damaged ≡ None }
-    ensures door_fault { result.status ≡ Status.DoorFault → Rose (D.shown door.old).faults (D.shown door.new).faults }
-    ensures door_calm { result.status ≢ Status.DoorFault → (D.shown door.new).faults ≡ (D.shown door.old).faults }
-{
-    if let Err(DoorFault) = door.listen(serving.listen.as_str()) {
-        return end_with(Status::DoorFault, cluster.close());
-    }
-    let mut service = ClusterService::new(alloc, cluster);
-    let end = serve(alloc, door, &mut service, notices, Some(serving.links));
-    end_with(status_of_serving(end), service.into_cluster().close())
-}
-
-/// The status of a door that served.
-fn status_of_serving(end: Result<u64, DoorFault>) -> Status
-    ensures { (IsOk end × (result ≡ Status.Done)) ⊎ (IsErr end × (result ≡ Status.DoorFault)) }
-{
-    match end {
-        Ok(_links) => Status::Done,
-        Err(DoorFault) => Status::DoorFault,
-    }
-}
-
 /// The end of a command that found no damaged row.
-fn end_with<K>(status: Status, keeper: K) -> Ended<K>
-    ensures { (result.status ≡ status) × (result.keeper ≡ keeper) × (result.damaged ≡ None) }
+pub(crate) fn end_with<K, D>(status: Status, keeper: K, door: D) -> Ended<K, D>
+    ensures { (result.status ≡ status) × (result.keeper ≡ keeper) × (result.damaged ≡ None) × (result.door ≡ door) }
 {
     Ended {
         status,
         damaged: None,
         keeper,
+        door,
     }
 }
 

@@ -1,10 +1,13 @@
 // Scripts with lines of each form, whose answers say of no want of memory where it is ample.
-use super::{LINES, Setting, lines, plain, run};
+use super::stopped::{LINES, lines};
+use super::{Setting, plain, run};
 use crate::top::Status;
 use hx_object::NoMemory;
 use std::alloc::Global;
 use std::hash::RandomState;
+use std::sync::Wait;
 use std::test::Fail;
+use std::thread::Threads;
 
 // Scripts with lines of each form.
 const SCRIPTS: [&str; 5] = [
@@ -31,8 +34,13 @@ fn meets_want(answers: &[u8]) -> bool {
 }
 
 // Whether a script is read to its end, and no answer says that memory is wanting.
-fn meets_none(alloc: Global, setting: &Setting, script: &str) -> Result<bool, NoMemory> {
-    let left = run(alloc, "run --allow-skip", script.as_bytes(), setting)?;
+fn meets_none<R: Threads + Wait + Sync>(
+    rt: &R,
+    alloc: Global,
+    setting: &Setting,
+    script: &str,
+) -> Result<bool, NoMemory> {
+    let left = run(rt, alloc, "run --allow-skip", script.as_bytes(), setting)?;
     Ok(left.status == Status::Done && !meets_want(left.answers.as_slice()))
 }
 
@@ -40,10 +48,10 @@ fn meets_none(alloc: Global, setting: &Setting, script: &str) -> Result<bool, No
 fn ample_memory_meets_no_want(rt: HostRuntime) -> Result<(), Fail> {
     let random = RandomState::new(&rt)?;
     for script in SCRIPTS {
-        let meets_none = meets_none(rt.alloc(), &plain(random), script)?;
+        let meets_none = meets_none(&rt, rt.alloc(), &plain(random), script)?;
         assert!(rt; meets_none, "{script}");
     }
     let lines = lines(rt.alloc(), 0, LINES.len())?;
-    assert!(rt; meets_none(rt.alloc(), &plain(random), lines.as_str())?);
+    assert!(rt; meets_none(&rt, rt.alloc(), &plain(random), lines.as_str())?);
     Ok(())
 }

@@ -6,7 +6,9 @@ use hx_ports::Meta;
 use std::alloc::Global;
 use std::hash::RandomState;
 use std::mem;
+use std::sync::Wait;
 use std::test::Fail;
+use std::thread::Threads;
 
 // acme over team over app, a quota in each of the first two, and three Pods in app. Reconcilers have done nothing yet.
 const SCRIPT: &str =
@@ -38,13 +40,14 @@ const REPORTS: [(&str, u64, Status, &str); 8] = [
 ];
 
 // Whether a report on what the script left ends so, and leaves the version of the rows.
-fn ends_so(
+fn ends_so<R: Threads + Wait + Sync>(
+    rt: &R,
     alloc: Global,
     keys: RandomState,
     (words, fails, status, text): (&str, u64, Status, &str),
 ) -> Result<bool, NoMemory> {
     let mut setting: Setting = plain(keys);
-    let mut left = run(alloc, "run", SCRIPT.as_bytes(), &setting)?;
+    let mut left = run(rt, alloc, "run", SCRIPT.as_bytes(), &setting)?;
     let rows = mem::replace(&mut left.rows, Vec::new(alloc));
     setting.failing_write = fails;
     setting.meta = Meta {
@@ -52,7 +55,7 @@ fn ends_so(
         version: left.version,
         rows: rows.len() as u64,
     };
-    let told = run_on(alloc, rows, words, b"GET /x\n", &setting)?;
+    let told = run_on(rt, alloc, rows, words, b"GET /x\n", &setting)?;
     let is_kept = told.version == left.version && !told.is_broken;
     Ok(is_kept && told.status == status && told.answers.as_slice() == text.as_bytes())
 }
@@ -61,7 +64,7 @@ fn ends_so(
 fn reports_are_printed(rt: HostRuntime) -> Result<(), Fail> {
     let random = RandomState::new(&rt)?;
     for row in REPORTS {
-        let ends_so = ends_so(rt.alloc(), random, row)?;
+        let ends_so = ends_so(&rt, rt.alloc(), random, row)?;
         assert!(rt; ends_so, "{} {}", row.0, row.1);
     }
     Ok(())

@@ -10,8 +10,10 @@ use hx_ports::{MemSink, MemSource, SureKeeper, SureSink, SureSource};
 use hx_serve::Notices;
 use std::alloc::Global;
 use std::hash::RandomState;
+use std::sync::Wait;
 use std::sync::atomic::{AtomicU64, Ordering};
 use std::test::Fail;
+use std::thread::Threads;
 
 // What the clients of two links send, and what is sent to them, of the second how it begins: behind the first link the tree's labels were written. The second link ends within a request.
 const FIRST_SENT: &str =
@@ -33,6 +35,9 @@ const CASES: [(usize, u64, Status, usize, u64); 5] = [
     (3, 1, Status::DoorFault, 0, 0),
     (2, 3, Status::DoorFault, 1, 0),
 ];
+
+// Links are served one after the other.
+const ONE_SESSION: &str = "serve --listen 127.0.0.1:0 --sessions 1 --workers 0 --links 2";
 
 // Counts the links that ended otherwise than closed.
 pub(super) struct Counted {
@@ -65,7 +70,7 @@ pub(super) fn no_door(alloc: Global) -> Result<MemDoor, NoMemory> {
 }
 
 // A link whose client sends a text, which comes in pieces.
-fn line(alloc: Global, text: &str, piece: usize) -> Result<MemLine, NoMemory>
+pub(super) fn sent_line(alloc: Global, text: &str, piece: usize) -> Result<MemLine, NoMemory>
     requires { 0 < piece }
 {
     let sent = Vec::from_slice(alloc, text.as_bytes())?;
@@ -79,8 +84,8 @@ fn door(alloc: Global, piece: usize, fails: u64) -> Result<MemDoor, NoMemory>
     requires { 0 < piece }
 {
     let mut lines = Vec::new(alloc);
-    lines.push(line(alloc, FIRST_SENT, piece)?)?;
-    lines.push(line(alloc, SECOND_SENT, piece)?)?;
+    lines.push(sent_line(alloc, FIRST_SENT, piece)?)?;
+    lines.push(sent_line(alloc, SECOND_SENT, piece)?)?;
     MemDoor::new(lines, vec![in alloc; fails; 1]?)
 }
 
@@ -100,7 +105,9 @@ fn are_answered(door: &MemDoor, links: usize) -> bool {
         && begins(sinks.get(1), SECOND_ANSWER)
 }
 
-fn ends_so(
+// Serves two links by one session, which settles behind each, and tells whether that ends so.
+fn ends_so<R: Threads + Wait + Sync>(
+    rt: &R,
     alloc: Global,
     keys: RandomState,
     (piece, fails, status, links, noticed): (usize, u64, Status, usize, u64),
@@ -108,30 +115,32 @@ fn ends_so(
     if piece == 0 {
         return Ok(false);
     }
-    let words = split_words(alloc, "serve --listen 127.0.0.1:0 --links 2")?;
-    let mut door = door(alloc, piece, fails)?;
+    let words = split_words(alloc, ONE_SESSION)?;
+    let door = door(alloc, piece, fails)?;
     let notices = Counted::new();
     let keeper = SureKeeper::new(Vec::new(alloc), NO_ROWS, keys);
     let ended = top(
+        rt,
         alloc,
         words.as_slice(),
         &mut SureSource::new(Vec::new(alloc), 1),
         &mut SureSink::new(Vec::new(alloc)),
-        &mut door,
+        door,
         &notices,
         keeper,
         keys,
     );
     let so = ended.status == status && notices.ended.load(Ordering::SeqCst) == noticed;
+    let so = so && are_answered(&ended.door, links);
     drop(ended);
-    Ok(so && are_answered(&door, links))
+    Ok(so)
 }
 
 #[test]
 fn links_are_answered_in_order(rt: HostRuntime) -> Result<(), Fail> {
     let keys = RandomState::new(&rt)?;
     for row in CASES {
-        let ends_so = ends_so(rt.alloc(), keys, row)?;
+        let ends_so = ends_so(&rt, rt.alloc(), keys, row)?;
         assert!(rt; ends_so, "{} {}", row.0, row.1);
     }
     Ok(())

@@ -1,4 +1,4 @@
-use Rattle.std.proofs.Common.{◌∙◌, ap, subst, string_bytes}
+use Rattle.std.proofs.Common.{◌∙◌, ap, string_bytes}
 use Rattle.hnc.proofs.Reporting.{audited_none, found_as}
 use Rattle.hnc.proofs.printing.audit_on.Goals as goal
 

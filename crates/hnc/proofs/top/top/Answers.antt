@@ -1,7 +1,7 @@
-use Rattle.std.proofs.Common.{◌≡◌, ◌∙◌, ◌⊎◌, Some, true, ap, inl, inr, refl, subst, sym}
+use Rattle.std.proofs.Common.{◌≡◌, ◌∙◌, Some, true, ap, inl, inr, refl, subst, sym}
 use Rattle.hnc.proofs.Leaving.{Starts, cut_by_fault, ends_unharmed, nothing_printed, of_report, of_report-front, of_run-front, of_run-long, of_run-read, of_run-whole, reads_of, report_ends, runs_of, starts_on, not_done, still_ok, told_as, wants_memory}
 use Rattle.std.specs.Prelude.{IsErr, IsOk}
-use Rattle.hnc.proofs.Serving.{of_serving, serves_of, serving_ends}
+use Rattle.hnc.proofs.Linking.{of_serving, serves_of}
 use Rattle.hnc.specs.Headline.{is_complete, is_cut_short}
 use Rattle.hnc.specs.declared.top.Status.{Status}
 use Rattle.hnc.specs.declared.top.Status.TheVariants as ending
@@ -124,12 +124,12 @@ serving_started g c =
 
 pub returns-in-Serve-clause-done : goal.returns-in-Serve-clause-done
 returns-in-Serve-clause-done g c = λ e.
-    inr (inr (of_serving IsOk _ c.in-Ok.command c.in-Serve.serving (g.D.Door.shown c.args.door.now) (g.D.Door.shown c.serve_at.new.door) (g.K.Keeper.shown c.args.keeper) (g.K.Keeper.shown c.serve_at.result.keeper) c.in-Ok-start.cluster
+    inr (inr (of_serving IsOk _ c.in-Ok.command c.in-Serve.serving (g.D.Door.shown c.args.door) (g.D.Door.shown c.serve_at.result.door) (g.K.Keeper.shown c.args.keeper) (g.K.Keeper.shown c.serve_at.result.keeper) c.in-Ok-start.cluster
     (serves_of _ c.in-Ok.command c.in-Serve.serving c.in-Ok.ensures.words c.in-Serve.is) c.in-Serve.is (serving_started g c) (c.serve_at.ensures.served e)))
 
 pub returns-in-Serve-clause-left : goal.returns-in-Serve-clause-left
 returns-in-Serve-clause-left g c = λ e. elim (c.serve_at.ensures.left e) [
   | inl kept ↦ inl (nothing_printed _ c.in-Ok.command _ _ _ (g.K.Keeper.shown c.args.keeper) (g.K.Keeper.shown c.serve_at.result.keeper) c.in-Ok-start.cluster c.in-Ok.ensures.words (serving_started g c) kept refl)
-  | inr has ↦ inr (of_serving IsErr _ c.in-Ok.command c.in-Serve.serving (g.D.Door.shown c.args.door.now) (g.D.Door.shown c.serve_at.new.door) (g.K.Keeper.shown c.args.keeper) (g.K.Keeper.shown c.serve_at.result.keeper) c.in-Ok-start.cluster
+  | inr has ↦ inr (of_serving IsErr _ c.in-Ok.command c.in-Serve.serving (g.D.Door.shown c.args.door) (g.D.Door.shown c.serve_at.result.door) (g.K.Keeper.shown c.args.keeper) (g.K.Keeper.shown c.serve_at.result.keeper) c.in-Ok-start.cluster
       (serves_of _ c.in-Ok.command c.in-Serve.serving c.in-Ok.ensures.words c.in-Serve.is) c.in-Serve.is (serving_started g c) has)
 ]
