@@ -30,7 +30,7 @@ use Rattle.hx_model.specs.Quotas.{quotas_in, quotas_for, charge_below, used, cha
 use Rattle.hx_model.specs.State.{State, Objects, object_at, put, ascends, is_listed, with_version, state_after}
 use Rattle.hx_model.specs.Tree.{forest_of}
 use Rattle.hx_model.specs.declared.ask.Ask.{Ask}
-use Rattle.hx_model.specs.declared.ask.Ask.TheVariants.{Get, List as ListOf, Create, Replace, Delete, Document as DocumentOf}
+use Rattle.hx_model.specs.declared.ask.Ask.TheVariants.{Get, List as ListOf, Create, Replace, Delete, Document as DocumentOf, Events as EventsSince}
 use Rattle.hx_model.specs.declared.key.Write.TheVariants.{Put}
 use Rattle.hx_model.specs.declared.resource.Resource.{Resource}
 use Rattle.hx_model.specs.declared.resource.Resource.TheVariants.{Pods, RequestsCpu, RequestsMemory, LimitsCpu, LimitsMemory, RequestsStorage}
@@ -261,4 +261,5 @@ held_at_admission s (Replace y expected skip) x r up given none rises =
 held_at_admission s (Get id) x r up given none rises = absurd (true≢false (sym (ap is_some given)))
 held_at_admission s (ListOf kind ns selector fields) x r up given none rises = absurd (true≢false (sym (ap is_some given)))
 held_at_admission s (DocumentOf document) x r up given none rises = absurd (true≢false (sym (ap is_some given)))
+held_at_admission s (EventsSince version) x r up given none rises = absurd (true≢false (sym (ap is_some given)))
 held_at_admission s (Delete id skip) x r up given none rises = absurd (true≢false (sym (ap is_some given)))

@@ -36,6 +36,8 @@ use Rattle.hx_model.specs.Limits.{is_copy, is_anchor, is_namespace, counts}
 use Rattle.hx_model.specs.Machine.{History, Request, Took, Finished, opening_world, IsHistory, replay}
 use Rattle.hx_model.specs.Propagation.{id_in}
 use Rattle.hx_model.specs.Settled.{IsSettled, IsSettledIn, HasCopies, HasChild, HasReport, HasStatus, HasUsages}
+use Rattle.hx_model.specs.Windows.{opened}
+use Rattle.hx_model.proofs.Quiet.{quiet, quietly}
 use Rattle.hx_model.specs.State.{State, Objects, ascends, least_in, namespace_id, opening_state, with_version}
 use Rattle.hx_model.specs.Subnamespaces.{anchor_id, is_reached}
 use Rattle.hx_model.specs.Texts.{new_namespace, two_digits}
@@ -84,7 +86,7 @@ abbrev role_in : List ℕ → ℕ → Object
 role_in ns version = record { id = id_in Role (codes "r") ns; labels = []; annotations = []; payload = Plain (codes "{}") no_need; version = version }
 
 abbrev state : Objects → ℕ → State
-state objects last = record { objects = objects; last = last; config = no_config }
+state objects last = record { objects = objects; last = last; config = no_config; window = opened 0 }
 
 -- ---- an anchor
 
@@ -110,7 +112,7 @@ asked_legal = (
   ),
 )
 
-pub asked_leaves : (replay (opening_world false (opening_state no_config 0)) asked).state ≡ state (stored acme 1 ∷ owned team acme 3 ∷ anchor acme team (Some Ok) 4 ∷ []) 4
+pub asked_leaves : quiet (replay (opening_world false (opening_state no_config 0)) asked).state ≡ state (stored acme 1 ∷ owned team acme 3 ∷ anchor acme team (Some Ok) 4 ∷ []) 4
 unfolding is_copy is_tree_key is_reconciled_key is_counted counts size_of digits same_object same_key
 asked_leaves = refl
 
@@ -155,12 +157,12 @@ removed_legal = (
 )
 
 -- the namespace is on its way out, with the version of the removal
-pub removed_begins : (answer_to pair (Delete (namespace_id a) false)).1 ≡ state (leaving (stored a 3) ∷ role_in a 2 ∷ []) 3
+pub removed_begins : quiet (answer_to pair (Delete (namespace_id a) false)).1 ≡ state (leaving (stored a 3) ∷ role_in a 2 ∷ []) 3
 unfolding is_copy is_tree_key is_reconciled_key is_counted counts size_of
 removed_begins = refl
 
 -- nothing is left
-pub removed_leaves : (replay (opening_world false pair) removed).state ≡ state [] 5
+pub removed_leaves : quiet (replay (opening_world false pair) removed).state ≡ state [] 5
 unfolding is_copy is_tree_key is_reconciled_key is_counted counts size_of digits same_object same_key
 removed_leaves = refl
 
@@ -201,7 +203,7 @@ late_legal = (
 )
 
 -- no object lies in team
-pub late_leaves : (replay (opening_world false tree) late).state ≡ state (stored acme 1 ∷ role_in acme 4 ∷ []) 7
+pub late_leaves : quiet (replay (opening_world false tree) late).state ≡ state (stored acme 1 ∷ role_in acme 4 ∷ []) 7
 unfolding is_copy is_tree_key is_reconciled_key is_counted counts size_of digits same_object same_key
 late_leaves = refl
 
@@ -248,16 +250,16 @@ flagged = state (stored a 1 ∷ owned b a 2 ∷ owned c b 3 ∷ hierarchy a None
 pub flagged_in_order : ascends flagged.objects ≡ true
 flagged_in_order = refl
 
-pub all_go : answer_to flagged (Delete (namespace_id a) false) ≡ (Deleted 5, state (leaving (stored a 5) ∷ leaving (owned b a 5) ∷ leaving (owned c b 5) ∷ hierarchy a None true 4 ∷ []) 5)
+pub all_go : quietly (answer_to flagged (Delete (namespace_id a) false)) ≡ (Deleted 5, state (leaving (stored a 5) ∷ leaving (owned b a 5) ∷ leaving (owned c b 5) ∷ hierarchy a None true 4 ∷ []) 5)
 unfolding is_copy is_tree_key is_reconciled_key is_counted counts size_of
 all_go = refl
 
-pub flag_above : answer_to flagged (Delete (namespace_id b) false) ≡ (Deleted 5, state (stored a 1 ∷ leaving (owned b a 5) ∷ leaving (owned c b 5) ∷ hierarchy a None true 4 ∷ []) 5)
+pub flag_above : quietly (answer_to flagged (Delete (namespace_id b) false)) ≡ (Deleted 5, state (stored a 1 ∷ leaving (owned b a 5) ∷ leaving (owned c b 5) ∷ hierarchy a None true 4 ∷ []) 5)
 unfolding is_copy is_tree_key is_reconciled_key is_counted counts size_of
 flag_above = refl
 
 -- what is on its way out already keeps its version
-pub some_went_before : answer_to (state (stored a 1 ∷ leaving (owned b a 2) ∷ owned c b 3 ∷ hierarchy a None true 4 ∷ []) 4) (Delete (namespace_id a) false)
+pub some_went_before : quietly (answer_to (state (stored a 1 ∷ leaving (owned b a 2) ∷ owned c b 3 ∷ hierarchy a None true 4 ∷ []) 4) (Delete (namespace_id a) false))
     ≡ (Deleted 5, state (leaving (stored a 5) ∷ leaving (owned b a 2) ∷ leaving (owned c b 5) ∷ hierarchy a None true 4 ∷ []) 5)
 unfolding is_copy is_tree_key is_reconciled_key is_counted counts size_of
 some_went_before = refl
@@ -270,19 +272,20 @@ family cascade allow_skip = record {
   objects = stored acme 1 ∷ owned b acme 2 ∷ owned c b 3 ∷ hierarchy b None cascade 4 ∷ anchor acme b (Some Ok) 5 ∷ anchor b c (Some Ok) 6 ∷ [];
   last = 6;
   config = record { excluded = []; allow_skip = allow_skip };
+  window = opened 0;
 }
 
 pub family_in_order : ascends (family true false).objects ≡ true
 family_in_order = refl
 
 -- the anchor goes at once, and what it asked for is on its way out
-pub anchor_goes : answer_to (family true false) (Delete (anchor_id acme b) false)
+pub anchor_goes : quietly (answer_to (family true false) (Delete (anchor_id acme b) false))
     ≡ (Deleted 7, record (family true false) { objects = stored acme 1 ∷ leaving (owned b acme 7) ∷ leaving (owned c b 7) ∷ hierarchy b None true 4 ∷ anchor b c (Some Ok) 6 ∷ []; last = 7 })
 unfolding is_copy is_tree_key is_reconciled_key is_counted counts size_of
 anchor_goes = refl
 
 -- where rules are passed over, it goes alone, whether the flag is there or not
-pub anchor_goes_alone : answer_to (family false true) (Delete (anchor_id acme b) true)
+pub anchor_goes_alone : quietly (answer_to (family false true) (Delete (anchor_id acme b) true))
     ≡ (Deleted 7, record (family false true) { objects = stored acme 1 ∷ owned b acme 2 ∷ owned c b 3 ∷ hierarchy b None false 4 ∷ anchor b c (Some Ok) 6 ∷ []; last = 7 })
 unfolding is_copy is_tree_key is_reconciled_key is_counted counts size_of
 anchor_goes_alone = refl
@@ -291,7 +294,7 @@ pub flag_is_not_asked : writes_of (family true true) (Delete (anchor_id acme b) 
 flag_is_not_asked = refl
 
 -- an anchor whose name is another's namespace goes alone
-pub conflict_goes_alone : answer_to (state (stored acme 1 ∷ stored team 2 ∷ anchor acme team (Some stands.Conflict) 3 ∷ []) 3) (Delete (anchor_id acme team) false) ≡ (Deleted 4, state (stored acme 1 ∷ stored team 2 ∷ []) 4)
+pub conflict_goes_alone : quietly (answer_to (state (stored acme 1 ∷ stored team 2 ∷ anchor acme team (Some stands.Conflict) 3 ∷ []) 3) (Delete (anchor_id acme team) false)) ≡ (Deleted 4, state (stored acme 1 ∷ stored team 2 ∷ []) 4)
 unfolding is_copy is_tree_key is_reconciled_key is_counted counts size_of
 conflict_goes_alone = refl
 
@@ -333,7 +336,7 @@ unfolding is_copy
 parting_is_not_changed = refl
 
 -- what lies in it may be removed
-pub parting_gives : answer_to parting (Delete (role_in a 0).id false) ≡ (Deleted 4, state (leaving (stored a 1) ∷ stored b 2 ∷ []) 4)
+pub parting_gives : quietly (answer_to parting (Delete (role_in a 0).id false)) ≡ (Deleted 4, state (leaving (stored a 1) ∷ stored b 2 ∷ []) 4)
 unfolding is_copy is_tree_key is_reconciled_key is_counted counts size_of
 parting_gives = refl
 
@@ -351,7 +354,7 @@ name_is_its_own = refl
 
 -- app is excluded
 abbrev kept_out : State
-kept_out = record { objects = stored acme 1 ∷ stored app 2 ∷ []; last = 2; config = record { excluded = app ∷ []; allow_skip = true } }
+kept_out = record { objects = stored acme 1 ∷ stored app 2 ∷ []; last = 2; config = record { excluded = app ∷ []; allow_skip = true }; window = opened 0 }
 
 pub excluded_asks : refusal_of kept_out (Create (anchor app team None 0) false) ≡ Some (Broken A2)
 excluded_asks = refl
@@ -505,7 +508,7 @@ pub labelling_legal : IsHistory (replay (opening_world false (opening_state no_c
 unfolding is_copy is_tree_key is_reconciled_key is_counted counts size_of digits same_object same_key
 labelling_legal = ((refl, refl, λ _. refl), ((refl, refl, refl, omega arith), ((refl, refl, λ _. refl), ((refl, refl, refl, omega arith), ((refl, refl, λ _. refl), ((refl, refl, refl, omega arith), tt))))))
 
-pub labelling_leaves : (replay (opening_world false (opening_state no_config 0)) (asked ++ labelling)).state ≡ done
+pub labelling_leaves : quiet (replay (opening_world false (opening_state no_config 0)) (asked ++ labelling)).state ≡ done
 unfolding is_copy is_tree_key is_reconciled_key is_counted counts size_of digits same_object same_key
 labelling_leaves = refl
 

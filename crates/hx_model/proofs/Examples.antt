@@ -1,6 +1,6 @@
 -- Short histories, texts and counts, computed. Each expected value is written out.
 use Rattle.std.specs.Prelude.{codes, replicate}
-use Rattle.std.proofs.Common.{◌≡◌, ℕ, Bool, true, false, true≢false, List, [], ◌∷◌, Option, None, Some, refl}
+use Rattle.std.proofs.Common.{◌≡◌, ℕ, Bool, true, false, true≢false, List, [], ◌∷◌, Option, None, Some, refl, option_map}
 use Rattle.std.specs.Fmt.{digits}
 use Rattle.serde_json.proofs.OnLiterals.{serde_json_on_literals}
 use Rattle.hx_object.specs.Json.{object_text}
@@ -19,6 +19,8 @@ use Rattle.hx_model.specs.declared.ask.Answer.TheVariants.{One, Many, Deleted, R
 use Rattle.hx_model.specs.declared.refusal.Refusal.TheVariants.{BadQuery, NotKind, Broken, NoPath, NotFound, NoMethod, Exists, OtherVersion, TooLong, Missing, WrongType, NotServed}
 use Rattle.hx_model.specs.declared.rule.Rule.TheVariants.{N4, L1, L2, L3, L4}
 use Rattle.hx_model.specs.declared.key.Write.TheVariants.{Put, Cut}
+use Rattle.hx_model.specs.Windows.{opened}
+use Rattle.hx_model.proofs.Quiet.{quiet}
 use Rattle.hx_model.specs.State.{State, Objects, put, cut, ascends, objects_from, with_version, opening_state, state_after, namespace_id}
 use Rattle.hx_model.specs.Texts.{key_text, new_namespace}
 use Rattle.hx_model.specs.Json.{list_text}
@@ -54,7 +56,7 @@ record Left : Type 0 where
   torn : Option State
 
 abbrev left : World → Left
-left w = record { state = w.state; broken = w.broken; torn = w.torn }
+left w = record { state = quiet w.state; broken = w.broken; torn = option_map quiet w.torn }
 
 -- a ConfigMap's identity
 abbrev config_id : List ℕ → List ℕ → Id
@@ -172,15 +174,15 @@ pub out_of_order : ascends (stored team 1 ∷ stored acme 2 ∷ []) ≡ false
 out_of_order = refl
 
 -- one write of two objects takes one version
-pub one_version : state_after (opening_state no_config 0) (Put (stored acme 1) ∷ Put (stored team 1) ∷ []) ≡ record { objects = stored acme 1 ∷ stored team 1 ∷ []; last = 1; config = no_config }
+pub one_version : quiet (state_after (opening_state no_config 0) (Put (stored acme 1) ∷ Put (stored team 1) ∷ [])) ≡ record { objects = stored acme 1 ∷ stored team 1 ∷ []; last = 1; config = no_config; window = opened 0 }
 one_version = refl
 
 -- a write goes on from the last version of the store
-pub next_version : state_after (opening_state no_config 6) (Cut (namespace_id team) ∷ []) ≡ record { objects = []; last = 7; config = no_config }
+pub next_version : quiet (state_after (opening_state no_config 6) (Cut (namespace_id team) ∷ [])) ≡ record { objects = []; last = 7; config = no_config; window = opened 0 }
 next_version = refl
 
 -- a write of nothing takes no version
-pub no_version : state_after (opening_state no_config 6) [] ≡ record { objects = []; last = 6; config = no_config }
+pub no_version : quiet (state_after (opening_state no_config 6) []) ≡ record { objects = []; last = 6; config = no_config; window = opened 0 }
 no_version = refl
 
 -- ---- histories
@@ -199,7 +201,7 @@ pub first_requests_legal : IsHistory (opening_world false (opening_state no_conf
 unfolding counts
 first_requests_legal = ((refl, λ _. refl), ((refl, λ _. refl), ((refl, λ _. refl), ((refl, λ _. refl), (tt, tt)))))
 
-pub first_requests_leave : left (replay (opening_world false (opening_state no_config 0)) first_requests) ≡ record { state = record { objects = stored acme 1 ∷ []; last = 1; config = no_config }; broken = false; torn = None }
+pub first_requests_leave : left (replay (opening_world false (opening_state no_config 0)) first_requests) ≡ record { state = record { objects = stored acme 1 ∷ []; last = 1; config = no_config; window = opened 0 }; broken = false; torn = None }
 unfolding counts
 first_requests_leave = refl
 
@@ -217,18 +219,18 @@ pub replacements_legal : IsHistory (opening_world false (opening_state no_config
 unfolding same_object counts is_copy
 replacements_legal = ((refl, λ _. refl), ((refl, λ _. refl), ((refl, λ _. refl), ((refl, λ _. refl), ((refl, λ _. refl), tt)))))
 
-pub replacements_leave : left (replay (opening_world false (opening_state no_config 0)) replacements) ≡ record { state = record { objects = labelled 2 ∷ []; last = 2; config = no_config }; broken = false; torn = None }
+pub replacements_leave : left (replay (opening_world false (opening_state no_config 0)) replacements) ≡ record { state = record { objects = labelled 2 ∷ []; last = 2; config = no_config; window = opened 0 }; broken = false; torn = None }
 unfolding same_object counts is_copy
 replacements_leave = refl
 
 -- the same content leaves the state as it is
-pub same_content : answer_to (record { objects = stored acme 1 ∷ []; last = 4; config = no_config }) (Replace (new_namespace acme) (Some 1) false) ≡ (One (stored acme 1) false, record { objects = stored acme 1 ∷ []; last = 4; config = no_config })
+pub same_content : answer_to (record { objects = stored acme 1 ∷ []; last = 4; config = no_config; window = opened 0 }) (Replace (new_namespace acme) (Some 1) false) ≡ (One (stored acme 1) false, record { objects = stored acme 1 ∷ []; last = 4; config = no_config; window = opened 0 })
 unfolding same_object counts is_copy
 same_content = refl
 
 -- a namespace on its way out isn't changed any more
-pub same_phase : answer_to (record { objects = record (stored acme 1) { payload = NamespaceOf true } ∷ []; last = 4; config = no_config }) (Replace (labelled 0) None false)
-    ≡ (Refusing (Broken N4), record { objects = record (stored acme 1) { payload = NamespaceOf true } ∷ []; last = 4; config = no_config })
+pub same_phase : answer_to (record { objects = record (stored acme 1) { payload = NamespaceOf true } ∷ []; last = 4; config = no_config; window = opened 0 }) (Replace (labelled 0) None false)
+    ≡ (Refusing (Broken N4), record { objects = record (stored acme 1) { payload = NamespaceOf true } ∷ []; last = 4; config = no_config; window = opened 0 })
 unfolding same_object counts is_copy
 same_phase = refl
 
@@ -251,7 +253,7 @@ unfolding counts is_copy size_of
 config_requests_legal =
     ((refl, λ _. refl), ((refl, λ _. refl), ((refl, λ _. refl), ((refl, λ _. refl), ((refl, λ _. refl), ((refl, λ _. refl), ((refl, λ _. refl), ((refl, λ _. refl), ((refl, λ _. refl), tt)))))))))
 
-pub config_requests_leave : left (replay (opening_world false (opening_state no_config 0)) config_requests) ≡ record { state = record { objects = stored acme 1 ∷ []; last = 3; config = no_config }; broken = false; torn = None }
+pub config_requests_leave : left (replay (opening_world false (opening_state no_config 0)) config_requests) ≡ record { state = record { objects = stored acme 1 ∷ []; last = 3; config = no_config; window = opened 0 }; broken = false; torn = None }
 unfolding counts is_copy size_of
 config_requests_leave = refl
 
@@ -273,7 +275,7 @@ unfolding counts is_copy size_of
 listings_legal = ((refl, λ _. refl), ((refl, λ _. refl), ((refl, λ _. refl), ((refl, λ _. refl), ((refl, λ _. refl), ((refl, λ _. refl), ((refl, λ _. refl), ((refl, λ _. refl), tt))))))))
 
 pub listings_leave : left (replay (opening_world false (opening_state no_config 0)) listings) ≡ record {
-  state = record { objects = stored (codes "a") 3 ∷ stored (codes "a-b") 1 ∷ config (codes "a") (codes "b") 5 ∷ config (codes "a") (codes "d") 4 ∷ config (codes "a-b") (codes "c") 2 ∷ []; last = 5; config = no_config };
+  state = record { objects = stored (codes "a") 3 ∷ stored (codes "a-b") 1 ∷ config (codes "a") (codes "b") 5 ∷ config (codes "a") (codes "d") 4 ∷ config (codes "a-b") (codes "c") 2 ∷ []; last = 5; config = no_config; window = opened 0 };
   broken = false;
   torn = None;
 }
@@ -292,7 +294,7 @@ pub used_up_legal : IsHistory (opening_world false (opening_state no_config 9223
 unfolding counts
 used_up_legal = ((refl, λ _. refl), ((refl, λ _. refl), ((refl, λ _. refl), tt)))
 
-pub used_up_leaves : left (replay (opening_world false (opening_state no_config 9223372036854775807)) used_up) ≡ record { state = record { objects = []; last = 9223372036854775807; config = no_config }; broken = false; torn = None }
+pub used_up_leaves : left (replay (opening_world false (opening_state no_config 9223372036854775807)) used_up) ≡ record { state = record { objects = []; last = 9223372036854775807; config = no_config; window = opened 0 }; broken = false; torn = None }
 unfolding counts
 used_up_leaves = refl
 
@@ -316,9 +318,9 @@ unfolding counts
 third_fails_legal = ((refl, λ _. refl), ((refl, λ _. refl), ((refl, λ none. cc), ((refl, λ changes. absurd (changes.1 refl)), ((refl, λ none. cc), tt)))))
 
 pub third_fails_leaves : left (replay (opening_world false (opening_state no_config 0)) third_fails) ≡ record {
-  state = record { objects = stored (codes "a") 1 ∷ stored (codes "b") 2 ∷ []; last = 2; config = no_config };
+  state = record { objects = stored (codes "a") 1 ∷ stored (codes "b") 2 ∷ []; last = 2; config = no_config; window = opened 0 };
   broken = true;
-  torn = Some (record { objects = stored (codes "a") 1 ∷ stored (codes "b") 2 ∷ stored (codes "c") 3 ∷ []; last = 3; config = no_config });
+  torn = Some (record { objects = stored (codes "a") 1 ∷ stored (codes "b") 2 ∷ stored (codes "c") 3 ∷ []; last = 3; config = no_config; window = opened 0 });
 }
 unfolding counts
 third_fails_leaves = refl
@@ -332,7 +334,7 @@ unfolding counts
 no_write_when_broken legal = true≢false (legal.1 (refl, λ none. cc))
 
 -- a broken store answers a replacement by the same content, which writes nothing
-pub same_content_when_broken : IsLegal (record { state = record { objects = stored acme 1 ∷ []; last = 1; config = no_config }; hands = []; marked = λ _. false; broken = true; torn = None }) (Request (Replace (new_namespace acme) None false) (One (stored acme 1) false))
+pub same_content_when_broken : IsLegal (record { state = record { objects = stored acme 1 ∷ []; last = 1; config = no_config; window = opened 0 }; hands = []; marked = λ _. false; broken = true; torn = None }) (Request (Replace (new_namespace acme) None false) (One (stored acme 1) false))
 unfolding same_object counts is_copy
 same_content_when_broken = (refl, λ changes. absurd (changes.1 refl))
 
@@ -409,7 +411,7 @@ service_counts = refl
 
 -- acme, and so many objects of one kind, of which only the number counts here
 abbrev crowd : ℕ → Object → State
-crowd count x = record { objects = stored acme 1 ∷ replicate count x; last = 1; config = no_config }
+crowd count x = record { objects = stored acme 1 ∷ replicate count x; last = 1; config = no_config; window = opened 0 }
 
 -- the 4,096th name is taken, and the next one isn't
 pub last_name : refusal_of (crowd 4094 (stored team 1)) (Create (new_namespace (codes "a")) false) ≡ None
@@ -453,7 +455,7 @@ no_byte_is_left = refl
 
 -- a namespace and a ConfigMap, and no version is left
 abbrev ended : State
-ended = record { objects = stored acme 1 ∷ config acme (codes "c") 2 ∷ []; last = 9223372036854775807; config = no_config }
+ended = record { objects = stored acme 1 ∷ config acme (codes "c") 2 ∷ []; last = 9223372036854775807; config = no_config; window = opened 0 }
 
 pub place_before_version : refusal_of ended (Replace (new_namespace team) (Some 7) false) ≡ Some (NotFound Namespace team)
 place_before_version = refl

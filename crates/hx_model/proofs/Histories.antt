@@ -3,8 +3,8 @@ use Rattle.std.proofs.Common.{◌≡◌, Some, Bool, true, false, [], ◌∷◌,
 use Rattle.std.specs.Prelude.{◌||◌}
 use Rattle.hx_model.specs.declared.ask.Ask.{Ask}
 use Rattle.hx_model.specs.declared.ask.Answer.{Answer}
-use Rattle.hx_model.specs.declared.ask.Answer.TheVariants.{One, Many, Deleted, Document, Refused as Refusing}
-use Rattle.hx_model.specs.declared.refusal.Refusal.TheVariants.{BadLine, BadPath, BadQuery, NotJson, NotWhole, NotKind, OtherPlace, Broken, OverQuota, NoPath, NotFound, NoMethod, Exists, OtherVersion, TooLong, Missing, WrongType, NoQuantity, BadName, BadLabel, TooManyLabels, TooLarge, StoreFailed, NotServed, NoMemory as NoRoom}
+use Rattle.hx_model.specs.declared.ask.Answer.TheVariants.{One, Many, Deleted, Document, Events, Refused as Refusing}
+use Rattle.hx_model.specs.declared.refusal.Refusal.TheVariants.{BadLine, BadPath, BadQuery, NotJson, NotWhole, NotKind, OtherPlace, Broken, OverQuota, NoPath, NotFound, NoMethod, Exists, OtherVersion, Expired, TooLong, Missing, WrongType, NoQuantity, BadName, BadLabel, TooManyLabels, TooLarge, StoreFailed, NotServed, NoMemory as NoRoom}
 use Rattle.hx_model.specs.Machine.{World, History, IsHistory, world_after, replay, loses_to_fault, is_lost_to_fault, answer_of}
 use Rattle.hx_model.specs.Requests.{request_entry}
 
@@ -30,6 +30,7 @@ answer_of-request_entry ask (One x fresh) = refl
 answer_of-request_entry ask (Many kind objects version) = refl
 answer_of-request_entry ask (Deleted version) = refl
 answer_of-request_entry ask (Document document) = refl
+answer_of-request_entry ask (Events events version) = refl
 answer_of-request_entry ask (Refusing BadLine) = refl
 answer_of-request_entry ask (Refusing BadPath) = refl
 answer_of-request_entry ask (Refusing (BadQuery name)) = refl
@@ -44,6 +45,7 @@ answer_of-request_entry ask (Refusing (NotFound kind name)) = refl
 answer_of-request_entry ask (Refusing NoMethod) = refl
 answer_of-request_entry ask (Refusing (Exists kind name)) = refl
 answer_of-request_entry ask (Refusing (OtherVersion kind name version)) = refl
+answer_of-request_entry ask (Refusing (Expired floor)) = refl
 answer_of-request_entry ask (Refusing TooLong) = refl
 answer_of-request_entry ask (Refusing (Missing path)) = refl
 answer_of-request_entry ask (Refusing (WrongType path)) = refl

@@ -11,6 +11,7 @@ use Rattle.hx_object.specs.declared.object.Payload.{Payload}
 use Rattle.hx_object.specs.declared.object.Payload.TheVariants.{Namespace as NamespaceOf, Hierarchy, Quota, Plain}
 use Rattle.hx_model.specs.Keys.{same_key}
 use Rattle.hx_model.specs.Machine.{Took, Idle}
+use Rattle.hx_model.specs.Windows.{opened}
 use Rattle.hx_model.specs.State.{State, Objects, namespace_id, state_after}
 use Rattle.hx_model.specs.Tree.{forest_of, hierarchy_id}
 use Rattle.hx_model.specs.declared.key.Key.TheVariants as key
@@ -59,7 +60,7 @@ config ns = holds ConfigMap ns (codes "a") (Plain (codes "{}") (record { finishe
 
 -- acme over team, and ops beside them, with these objects
 abbrev tree : Objects → State
-tree objects = record { objects = namespace acme ∷ namespace ops ∷ namespace team ∷ under team (Some acme) ∷ objects; last = 1; config = record { excluded = []; allow_skip = true } }
+tree objects = record { objects = namespace acme ∷ namespace ops ∷ namespace team ∷ under team (Some acme) ∷ objects; last = 1; config = record { excluded = []; allow_skip = true }; window = opened 0 }
 
 -- an excess may begin below team at these writes, or below acme
 abbrev begins : Objects → List Write → Bool

@@ -9,6 +9,7 @@ use Rattle.hx_object.specs.declared.object.Object.{Object}
 use Rattle.hx_object.specs.declared.object.Payload.{Payload}
 use Rattle.hx_object.specs.declared.object.Payload.TheVariants.{Anchor, Hierarchy, Plain, Quota}
 use Rattle.hx_model.specs.Keys.{may_mark}
+use Rattle.hx_model.specs.Windows.{opened}
 use Rattle.hx_model.specs.State.{State, Objects, with_version}
 use Rattle.hx_model.specs.Texts.{new_namespace}
 use Rattle.hx_model.specs.Tree.{hierarchy_id}
@@ -51,7 +52,7 @@ abbrev anchor : List ℕ → List ℕ → Object
 anchor ns name = holds SubnamespaceAnchor ns name (Anchor None)
 
 abbrev tree : Objects → State
-tree objects = record { objects = stored acme ∷ stored ops ∷ stored team ∷ under team acme ∷ objects; last = 1; config = record { excluded = []; allow_skip = true } }
+tree objects = record { objects = stored acme ∷ stored ops ∷ stored team ∷ under team acme ∷ objects; last = 1; config = record { excluded = []; allow_skip = true }; window = opened 0 }
 
 abbrev waits : Objects → Write → Key → Bool
 waits objects write k = may_mark (tree objects) (write ∷ []) k

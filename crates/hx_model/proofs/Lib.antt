@@ -6,6 +6,8 @@ pub mod Distinct
 pub mod Naming
 pub mod NamesAfter
 pub mod Legality
+pub mod Lasting
+pub mod Happening
 pub mod Writes
 pub mod Replying
 pub mod Climbing
@@ -18,6 +20,7 @@ pub mod Opening
 pub mod Planting
 pub mod Conflicting
 pub mod Listing
+mod Quiet
 pub mod Examples
 pub mod TreeExamples
 pub mod RuleExamples
@@ -42,6 +45,8 @@ pub mod Knowing
 pub mod Staying
 pub mod Limiting
 pub mod Beginning
+pub mod InOrder
+mod EventExamples
 pub mod Housing
 pub mod Others
 pub mod HistoryExamples

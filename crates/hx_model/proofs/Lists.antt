@@ -1,11 +1,12 @@
 -- Properties of each item of a list, and tests of its items.
 --     all_more          what holds of each item, and more that follows from it
 --     all_pushed        with one item more behind the others
+--     all_joined, all_dropped   of two lists;  without the first items
 --     all_filtered, all_kept   of those that pass a test;  and back
 --     any_witness       an item that passes, of those of which something holds
 --     none_passes, none_found   none passes;  and back
 --     each_is_in        each item is in the list
-use Rattle.std.proofs.Common.{◌≡◌, Bool, true, false, cond, ◌||◌, List, [], ◌∷◌, ◌++◌, filter, inl, inr, refl, sym, ap, ◌∙◌, true≢false}
+use Rattle.std.proofs.Common.{◌≡◌, ℕ, zero, suc, drop, Bool, true, false, cond, ◌||◌, List, [], ◌∷◌, ◌++◌, filter, inl, inr, refl, sym, ap, ◌∙◌, true≢false}
 use Rattle.std.specs.List.{AllByRecursion, list_any}
 use Rattle.std.proofs.lemmas.Bool.{or_cases, or_left, or_right}
 
@@ -16,6 +17,15 @@ all_more P Q (x ∷ xs) more all = (more x all.0, all_more P Q xs more all.1)
 pub all_pushed : {A : Type 0} (P : A → Type 0) (xs : List A) (x : A) → AllByRecursion P xs → P x → AllByRecursion P (xs ++ x ∷ [])
 all_pushed P [] x all new = (new, tt)
 all_pushed P (y ∷ xs) x all new = (all.0, all_pushed P xs x all.1 new)
+
+pub all_joined : {A : Type 0} (P : A → Type 0) (xs ys : List A) → AllByRecursion P xs → AllByRecursion P ys → AllByRecursion P (xs ++ ys)
+all_joined P [] ys all more = more
+all_joined P (x ∷ xs) ys all more = (all.0, all_joined P xs ys all.1 more)
+
+pub all_dropped : {A : Type 0} (P : A → Type 0) (n : ℕ) (xs : List A) → AllByRecursion P xs → AllByRecursion P (drop n xs)
+all_dropped P zero xs all = all
+all_dropped P (suc n) [] all = tt
+all_dropped P (suc n) (x ∷ xs) all = all_dropped P n xs all.1
 
 pub all_filtered : {A : Type 0} (P : A → Type 0) (t : A → Bool) (xs : List A) → AllByRecursion (λ x. t x ≡ true → P x) xs → AllByRecursion P (filter t xs)
 all_filtered P t [] all = tt

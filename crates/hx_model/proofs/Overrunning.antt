@@ -21,7 +21,7 @@ use Rattle.hx_model.specs.Tree.{forest_of}
 use Rattle.hx_model.specs.Wanted.{wanted_write}
 use Rattle.hx_model.specs.Writes.{id_written}
 use Rattle.hx_model.specs.declared.ask.Ask.{Ask}
-use Rattle.hx_model.specs.declared.ask.Ask.TheVariants.{Get, List as ListOf, Create, Replace, Delete, Document as DocumentOf}
+use Rattle.hx_model.specs.declared.ask.Ask.TheVariants.{Get, List as ListOf, Create, Replace, Delete, Document as DocumentOf, Events as EventsSince}
 use Rattle.hx_model.specs.declared.key.Finish.{Finish}
 use Rattle.hx_model.specs.declared.key.Finish.TheVariants as ending
 use Rattle.hx_model.specs.declared.key.Write.{Write}
@@ -183,6 +183,7 @@ module _ (s : State) (a : List ℕ) (r : Resource) (up : ascends s.objects ≡ t
   request_held (Get id) none = stays_held s a r
   request_held (ListOf kind ns selector fields) none = stays_held s a r
   request_held (DocumentOf document) none = stays_held s a r
+  request_held (EventsSince version) none = stays_held s a r
   request_held (Create x skip) none = put_held x (writes_of s (Create x skip)) (raises_or_not x x.payload (s.last + 1) (alike_itself x.payload)) (held_at_admission s (Create x skip) x r up refl none) (refl, tt)
   request_held (Replace x expected skip) none =
       put_held x (writes_of s (Replace x expected skip)) (replacing_raises x (object_at s.objects x.id)) (held_at_admission s (Replace x expected skip) x r up refl none) (replacing_there x (object_at s.objects x.id))

@@ -23,6 +23,7 @@ use Rattle.hx_model.specs.Limits.{is_copy, counts}
 use Rattle.hx_model.specs.Answers.{same_object, refusal_of}
 use Rattle.hx_model.specs.Modes.{config_id, mode_of}
 use Rattle.hx_model.specs.Propagation.{id_in, is_hnc_key}
+use Rattle.hx_model.specs.Windows.{opened}
 use Rattle.hx_model.specs.State.{State, Objects, ascends, with_version}
 use Rattle.hx_model.specs.Texts.{new_namespace}
 use Rattle.hx_model.specs.Tree.{hierarchy_id}
@@ -53,7 +54,7 @@ abbrev role_in : List ℕ → ℕ → Object
 role_in ns version = record { id = id_in Role (codes "r") ns; labels = []; annotations = []; payload = Plain (codes "{}") no_need; version = version }
 
 abbrev state : Objects → ℕ → State
-state objects last = record { objects = objects; last = last; config = no_config }
+state objects last = record { objects = objects; last = last; config = no_config; window = opened 0 }
 
 -- ---- acme over team over app
 

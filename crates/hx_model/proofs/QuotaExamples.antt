@@ -22,6 +22,7 @@ use Rattle.hx_model.specs.Charges.{resource_named, charge_of, is_unstated}
 use Rattle.hx_model.specs.Limits.{is_copy}
 use Rattle.hx_model.specs.Quotas.{used, same_need}
 use Rattle.hx_model.specs.Replies.{quota_message, message_of, status_text}
+use Rattle.hx_model.specs.Windows.{opened}
 use Rattle.hx_model.specs.State.{State, Objects, ascends, with_version}
 use Rattle.hx_model.specs.Texts.{new_namespace}
 use Rattle.hx_model.specs.Tree.{hierarchy_id}
@@ -82,7 +83,7 @@ stored name = with_version (new_namespace name) 1
 
 -- acme over ops and team, with these objects
 abbrev quotas : Objects → State
-quotas objects = record { objects = stored acme ∷ stored ops ∷ stored team ∷ under ops ∷ under team ∷ objects; last = 1; config = record { excluded = []; allow_skip = true } }
+quotas objects = record { objects = stored acme ∷ stored ops ∷ stored team ∷ under ops ∷ under team ∷ objects; last = 1; config = record { excluded = []; allow_skip = true }; window = opened 0 }
 
 abbrev configs : List ℕ
 configs = codes "count/configmaps"

@@ -21,6 +21,8 @@ use Rattle.hx_select.specs.TreeSelects.{tree_select_of}
 use Rattle.hx_model.specs.Answers.{same_object, answer_to, refusal_of}
 use Rattle.hx_model.specs.Limits.{is_copy, counts}
 use Rattle.hx_model.specs.Modes.{config_id}
+use Rattle.hx_model.specs.Windows.{opened}
+use Rattle.hx_model.proofs.Quiet.{quietly}
 use Rattle.hx_model.specs.State.{State, Objects, ascends, with_version}
 use Rattle.hx_model.specs.Texts.{new_namespace}
 use Rattle.hx_model.specs.Tree.{hierarchy_id}
@@ -69,7 +71,7 @@ unknown = entry [] (codes "roles")
 
 -- kube is excluded, and admission may be skipped
 abbrev state : Objects → ℕ → State
-state objects last = record { objects = objects; last = last; config = record { excluded = kube ∷ []; allow_skip = true } }
+state objects last = record { objects = objects; last = last; config = record { excluded = kube ∷ []; allow_skip = true }; window = opened 0 }
 
 abbrev two : State
 two = state (stored acme 1 ∷ stored kube 2 ∷ []) 2
@@ -123,7 +125,7 @@ pub put_same_entries : answer_to with_config (Replace (configured (pods ∷ []) 
 unfolding is_copy
 put_same_entries = refl
 
-pub config_is_removed : answer_to with_config (Delete config_id false) ≡ (Deleted 4, state (stored acme 1 ∷ stored kube 2 ∷ []) 4)
+pub config_is_removed : quietly (answer_to with_config (Delete config_id false)) ≡ (Deleted 4, state (stored acme 1 ∷ stored kube 2 ∷ []) 4)
 unfolding is_copy counts size_of config_size serde_json_on_literals
 config_is_removed = refl
 

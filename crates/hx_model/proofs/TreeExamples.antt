@@ -14,6 +14,8 @@ use Rattle.hx_model.specs.declared.ask.Answer.TheVariants.{One, Refused}
 use Rattle.hx_model.specs.declared.node.Halt.TheVariants.{InCycle, Ancestor}
 use Rattle.hx_model.specs.declared.refusal.Refusal.TheVariants.{Broken}
 use Rattle.hx_model.specs.declared.rule.Rule.TheVariants.{X1, H7, N3, H1, H2, H3, H4, H6, H8}
+use Rattle.hx_model.specs.Windows.{opened}
+use Rattle.hx_model.proofs.Quiet.{quietly}
 use Rattle.hx_model.specs.State.{State, Objects, ascends, with_version}
 use Rattle.hx_model.specs.Texts.{new_namespace, two_digits}
 use Rattle.hx_model.specs.Replies.{status_text}
@@ -64,7 +66,7 @@ abbrev sub : List ℕ → List ℕ → ℕ → Object
 sub name parent version = record (stored name version) { annotations = (codes "hnc.x-k8s.io/subnamespace-of", parent) ∷ [] }
 
 abbrev state : Objects → ℕ → State
-state objects last = record { objects = objects; last = last; config = no_config }
+state objects last = record { objects = objects; last = last; config = no_config; window = opened 0 }
 
 -- ---- acme over team over app
 
@@ -132,16 +134,16 @@ c = codes "c"
 
 -- b under a, and c under b, where admission may be skipped or not
 abbrev open_ring : Bool → State
-open_ring allow_skip = record { objects = stored a 1 ∷ stored b 2 ∷ stored c 3 ∷ under b a 4 ∷ under c b 5 ∷ []; last = 5; config = record { excluded = []; allow_skip = allow_skip } }
+open_ring allow_skip = record { objects = stored a 1 ∷ stored b 2 ∷ stored c 3 ∷ under b a 4 ∷ under c b 5 ∷ []; last = 5; config = record { excluded = []; allow_skip = allow_skip }; window = opened 0 }
 
 abbrev ring : State
-ring = record { objects = stored a 1 ∷ stored b 2 ∷ stored c 3 ∷ under a b 6 ∷ under b a 4 ∷ under c b 5 ∷ []; last = 6; config = record { excluded = []; allow_skip = true } }
+ring = record { objects = stored a 1 ∷ stored b 2 ∷ stored c 3 ∷ under a b 6 ∷ under b a 4 ∷ under c b 5 ∷ []; last = 6; config = record { excluded = []; allow_skip = true }; window = opened 0 }
 
 pub ring_in_order : ascends ring.objects ≡ true
 ring_in_order = refl
 
 -- the ring is closed where rules are passed over
-pub skips : answer_to (open_ring true) (Create (under a b 0) true) ≡ (One (under a b 6) true, ring)
+pub skips : quietly (answer_to (open_ring true) (Create (under a b 0) true)) ≡ (One (under a b 6) true, ring)
 unfolding counts
 skips = refl
 
@@ -229,7 +231,7 @@ another_parent = refl
 -- ---- excluded namespaces
 
 abbrev kept_out : State
-kept_out = record { objects = stored kube 1 ∷ stored team 2 ∷ []; last = 2; config = record { excluded = kube ∷ []; allow_skip = false } }
+kept_out = record { objects = stored kube 1 ∷ stored team 2 ∷ []; last = 2; config = record { excluded = kube ∷ []; allow_skip = false }; window = opened 0 }
 
 pub kept_out_in_order : ascends kept_out.objects ≡ true
 kept_out_in_order = refl
@@ -247,7 +249,7 @@ abbrev lost : State
 lost = state (stored team 1 ∷ under team gone 2 ∷ []) 2
 
 -- a PUT that names the same parent brings no new one
-pub same_parent : answer_to lost (Replace (named team (Some gone) true 0) None false) ≡ (One (named team (Some gone) true 3) false, record lost { objects = stored team 1 ∷ named team (Some gone) true 3 ∷ []; last = 3 })
+pub same_parent : quietly (answer_to lost (Replace (named team (Some gone) true 0) None false)) ≡ (One (named team (Some gone) true 3) false, record lost { objects = stored team 1 ∷ named team (Some gone) true 3 ∷ []; last = 3 })
 unfolding is_copy same_object counts
 same_parent = refl
 

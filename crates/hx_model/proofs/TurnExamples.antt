@@ -20,6 +20,7 @@ use Rattle.hx_model.specs.Keys.{same_key}
 use Rattle.hx_model.specs.Limits.{is_copy, counts}
 use Rattle.hx_model.specs.Machine.{History, Request, Took, Finished, Already, HeldBy, Dropped, opening_world, IsHistory, IsLegal, replay}
 use Rattle.hx_model.specs.Propagation.{id_in}
+use Rattle.hx_model.specs.Windows.{opened}
 use Rattle.hx_model.specs.State.{State, Objects, object_at, with_version}
 use Rattle.hx_model.specs.Texts.{new_namespace}
 use Rattle.hx_model.specs.Tree.{hierarchy_id}
@@ -46,7 +47,7 @@ abbrev role_in : List ℕ → List ℕ → ℕ → Object
 role_in ns members version = record { id = id_in Role (codes "r") ns; labels = []; annotations = []; payload = Plain members no_need; version = version }
 
 abbrev state : Objects → ℕ → State
-state objects last = record { objects = objects; last = last; config = no_config }
+state objects last = record { objects = objects; last = last; config = no_config; window = opened 0 }
 
 -- ---- a source that changes meanwhile
 

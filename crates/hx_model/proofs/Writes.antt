@@ -22,6 +22,7 @@ use Rattle.hx_model.specs.Writes.{MayPut, MayWrite, MayWriteAll}
 use Rattle.hx_model.specs.declared.key.Write.{Write}
 use Rattle.hx_model.specs.declared.key.Write.TheVariants.{Put, Cut}
 use Rattle.hx_model.proofs.Objects.{id_total, same_from_Equal, ascends-put, ascends-cut}
+use Rattle.hx_model.proofs.Happening.{recent_after}
 use Rattle.hx_model.proofs.Homes.{housed_after}
 use Rattle.hx_model.proofs.Storing.{HasNoSlash, key_text-injective, same_bytes, All-put, All-cut}
 
@@ -54,6 +55,7 @@ valid_after s (w ∷ ws) valid may = record {
   stored = stored_after s (w ∷ ws) s.objects may.each (stored_next s.last s.objects valid.stored);
   housed = housed_after s (w ∷ ws) may valid.housed;
   fits = let less : s.last + 1 ≤ greatest_version = omega (arith, may.fits (λ none. cc)) in less;
+  recent = recent_after s (w ∷ ws) valid may.each;
 }
 
 -- ---- keys

@@ -1,4 +1,5 @@
 -- What is answered to an ask, and the state that it leaves.
+--     since_refusal     the refusal because the events after a version aren't there
 --     place_refusal     the refusal for want of the object or its namespace, or because the object is there
 --     version_refusal   the refusal because the object has another version than the one that is expected
 --     rule_refusal      the refusal by the first rule of admission that is broken
@@ -8,7 +9,7 @@
 --     writes_of         what an ask changes where nothing refuses it
 --     selected          the objects of a list, in order
 --     answer_to         the answer and the next state. A refusal and a read leave the state
-use Rattle.std.specs.Prelude.{◌≡◌, ◌≢◌, ℕ, ◌+◌, Bool, true, false, not, ◌&&◌, ◌||◌, ◌==◌, nat_lt, nat_le, is_some, is_none, List, [], ◌∷◌, filter, map, Option, Some, None, if◌then◌else◌, option_map, option_and_then}
+use Rattle.std.specs.Prelude.{◌≡◌, ◌≢◌, ℕ, ◌+◌, Bool, true, false, not, ◌&&◌, ◌||◌, ◌==◌, nat_lt, nat_le, is_some, is_none, List, [], ◌∷◌, filter, map, Option, Some, None, if◌then◌else◌, codes, option_map, option_and_then}
 use Rattle.std.specs.Option.{option_map_or}
 use Rattle.hx_object.specs.Kinds.{is_in_cluster}
 use Rattle.hx_object.specs.contracts.object.ObjectPartialEq.TheImpl as object_eq
@@ -21,12 +22,12 @@ use Rattle.hx_object.specs.declared.object.Payload.TheVariants.{Namespace as Nam
 use Rattle.hx_select.specs.Selectors.{selects}
 use Rattle.hx_select.specs.declared.selector.Selector.{Selector}
 use Rattle.hx_model.specs.declared.ask.Ask.{Ask}
-use Rattle.hx_model.specs.declared.ask.Ask.TheVariants.{Get, List as ListOf, Create, Replace, Delete, Document as DocumentOf}
+use Rattle.hx_model.specs.declared.ask.Ask.TheVariants.{Get, List as ListOf, Create, Replace, Delete, Document as DocumentOf, Events as EventsSince}
 use Rattle.hx_model.specs.declared.ask.Answer.{Answer}
-use Rattle.hx_model.specs.declared.ask.Answer.TheVariants.{One, Many, Deleted, Document as Told, Refused}
+use Rattle.hx_model.specs.declared.ask.Answer.TheVariants.{One, Many, Deleted, Document as Told, Events as Happened, Refused}
 use Rattle.hx_model.specs.declared.fields.Fields.{Fields}
 use Rattle.hx_model.specs.declared.refusal.Refusal.{Refusal}
-use Rattle.hx_model.specs.declared.refusal.Refusal.TheVariants.{NotFound, Exists, OtherVersion, Broken}
+use Rattle.hx_model.specs.declared.refusal.Refusal.TheVariants.{BadQuery, NotFound, Exists, OtherVersion, Expired, Broken}
 use Rattle.hx_model.specs.declared.rule.Rule.TheVariants.{L1, L2, L3, L4}
 use Rattle.hx_model.specs.declared.key.Write.{Write}
 use Rattle.hx_model.specs.declared.key.Write.TheVariants.{Put, Cut}
@@ -40,6 +41,7 @@ use Rattle.hx_model.specs.Modes.{config_id}
 use Rattle.hx_model.specs.Quotas.{refused_by_quotas}
 use Rattle.hx_model.specs.Rules.{rules}
 use Rattle.hx_model.specs.Subnamespaces.{is_anchored, is_owned_by, is_reached, has_followers, has_children, cascades}
+use Rattle.hx_model.specs.Windows.{events_since}
 use Rattle.hx_model.specs.Tree.{forest_of, namespaces_in, is_terminating}
 pub use Rattle.hx_model.specs.State.{is_listed}
 use Rattle.hx_model.specs.State.{State, Objects, object_at, namespace_id, home_in, with_version, after_writes, state_after}
@@ -101,6 +103,7 @@ writes_of s (Create x skip) = Put (with_version x (s.last + 1)) ∷ []
 writes_of s (Replace x expected skip) = replacing (object_at s.objects x.id) x (s.last + 1)
 writes_of s (Delete id skip) = deleting s id skip
 writes_of s (DocumentOf document) = []
+writes_of s (EventsSince version) = []
 
 -- ---- refusals
 
@@ -114,7 +117,11 @@ already_there id = Exists id.kind id.name
 abbrev pub lacks_namespace : State → Id → Bool
 lacks_namespace s id = not (is_in_cluster id.kind) && is_none (home_in s.objects id)
 
--- the object or its namespace isn't there, or the object is there already
+-- no state of this version was, or not all of the events after it are kept
+abbrev pub since_refusal : State → ℕ → Option Refusal
+since_refusal s version = first (so (nat_lt s.last version) (BadQuery (codes "since")) ∷ so (nat_lt version s.window.floor) (Expired s.window.floor) ∷ [])
+
+-- the object or its namespace isn't there, or the object is there already; or events aren't there
 abbrev pub place_refusal : State → Ask → Option Refusal
 place_refusal s (Get id) = so (is_none (object_at s.objects id)) (not_found id)
 place_refusal s (ListOf kind ns selector fields) = None
@@ -122,6 +129,7 @@ place_refusal s (Create x skip) = first (so (lacks_namespace s x.id) (NotFound N
 place_refusal s (Replace x expected skip) = so (is_none (object_at s.objects x.id)) (not_found x.id)
 place_refusal s (Delete id skip) = so (is_none (object_at s.objects id)) (not_found id)
 place_refusal s (DocumentOf document) = None
+place_refusal s (EventsSince version) = since_refusal s version
 
 -- an object has another version than the one that is expected
 abbrev pub other_version : Option ℕ → Option Object → Option Refusal
@@ -214,6 +222,7 @@ success s t (Create x skip) = answer_found (object_at t.objects x.id) true x.id
 success s t (Replace x expected skip) = answer_found (object_at t.objects x.id) false x.id
 success s t (Delete id skip) = Deleted t.last
 success s t (DocumentOf document) = Told document
+success s t (EventsSince version) = Happened (events_since version s.window.events) s.last
 
 abbrev pub answer_by : State → Ask → Option Refusal → Answer × State
 answer_by s ask (Some refusal) = (Refused refusal, s)

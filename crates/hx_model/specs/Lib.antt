@@ -2,6 +2,7 @@ pub mod First
 pub mod Forest
 pub mod ForestChanges
 pub mod Walks
+pub mod Windows
 pub mod State
 pub mod Tree
 pub mod Texts
@@ -34,12 +35,14 @@ pub mod Reports
 pub mod Wanted
 pub mod Serving
 pub mod Valid
+pub mod Counts
 pub mod Writes
 pub mod Keys
 pub mod Hands
 pub mod Settled
 pub mod Covered
 pub mod Machine
+pub mod Happening
 pub mod Requests
 pub mod Parents
 pub mod Overruns

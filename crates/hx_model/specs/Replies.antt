@@ -16,11 +16,11 @@ use Rattle.hx_object.specs.Quantities.{quantity_text}
 use Rattle.hx_object.specs.declared.kind.Kind.{Kind}
 use Rattle.hx_model.specs.declared.reason.Reason.{Reason}
 use Rattle.hx_model.specs.declared.reason.Reason.TheVariants as of
-use Rattle.hx_model.specs.declared.reason.Reason.TheVariants.{BadRequest, Forbidden, MethodNotAllowed, AlreadyExists, Conflict, RequestEntityTooLarge, Invalid, InternalError, NotImplemented, ServiceUnavailable, InsufficientStorage}
+use Rattle.hx_model.specs.declared.reason.Reason.TheVariants.{BadRequest, Forbidden, MethodNotAllowed, AlreadyExists, Conflict, Expired, RequestEntityTooLarge, Invalid, InternalError, NotImplemented, ServiceUnavailable, InsufficientStorage}
 use Rattle.hx_model.specs.declared.rule.Rule.{Rule}
 use Rattle.hx_model.specs.declared.rule.Rule.TheVariants.{X1, N4, H7, C1, O1, N3, H1, H2, H3, H4, H5, H6, H8, C2, C3, C4, C6, C5, A2, A1, A4, A3, N1, N2, O3, O2, Q3, Q2, L1, L2, L3, L4}
 use Rattle.hx_model.specs.declared.refusal.Refusal.{Refusal}
-use Rattle.hx_model.specs.declared.refusal.Refusal.TheVariants.{BadLine, BadPath, BadQuery, NotJson, NotWhole, NotKind, OtherPlace, Broken, OverQuota, NoPath, NotFound, NoMethod, Exists, OtherVersion, TooLong, Missing, WrongType, NoQuantity, BadName, BadLabel, TooManyLabels, TooLarge, StoreFailed, NotServed, NoMemory}
+use Rattle.hx_model.specs.declared.refusal.Refusal.TheVariants.{BadLine, BadPath, BadQuery, NotJson, NotWhole, NotKind, OtherPlace, Broken, OverQuota, NoPath, NotFound, NoMethod, Exists, OtherVersion, Expired as ExpiredAt, TooLong, Missing, WrongType, NoQuantity, BadName, BadLabel, TooManyLabels, TooLarge, StoreFailed, NotServed, NoMemory}
 
 -- ---- reasons
 
@@ -39,6 +39,7 @@ reason_row of.NotFound = reason_as 404 "NotFound"
 reason_row MethodNotAllowed = reason_as 405 "MethodNotAllowed"
 reason_row AlreadyExists = reason_as 409 "AlreadyExists"
 reason_row Conflict = reason_as 409 "Conflict"
+reason_row Expired = reason_as 410 "Expired"
 reason_row RequestEntityTooLarge = reason_as 413 "RequestEntityTooLarge"
 reason_row Invalid = reason_as 422 "Invalid"
 reason_row InternalError = reason_as 500 "InternalError"
@@ -106,6 +107,10 @@ message_about kind name said = resource_of kind ++ (codes " \"" ++ (name ++ (cod
 unfoldable pub version_message : Kind → List ℕ → ℕ → List ℕ
 version_message kind name version = resource_of kind ++ (codes " \"" ++ (name ++ (codes "\" has version " ++ decimal version)))
 
+-- the version up to which events are gone
+unfoldable pub gone_message : ℕ → List ℕ
+gone_message floor = codes "events up to version " ++ (decimal floor ++ codes " are gone")
+
 -- the limit of a quota that is passed, with what is used, what is asked for and the limit
 unfoldable pub quota_message : List ℕ → List ℕ → List ℕ → ℕ → ℕ → ℕ → List ℕ
 quota_message ns quota resource used asked hard =
@@ -140,6 +145,7 @@ status_of (NotFound kind name) = says of.NotFound (message_about kind name (code
 status_of NoMethod = says MethodNotAllowed (codes "method not served here")
 status_of (Exists kind name) = says AlreadyExists (message_about kind name (codes "already exists"))
 status_of (OtherVersion kind name version) = says Conflict (version_message kind name version)
+status_of (ExpiredAt floor) = says Expired (gone_message floor)
 status_of TooLong = says RequestEntityTooLarge (codes "more than 131072 bytes")
 status_of (Missing path) = says Invalid (said_of path (codes " is missing"))
 status_of (WrongType path) = says Invalid (said_of path (codes " has the wrong type"))

@@ -24,10 +24,11 @@ use Rattle.hx_object.specs.declared.object.ModeEntry.{ModeEntry}
 use Rattle.hx_object.specs.declared.object.Object.{Object}
 use Rattle.hx_object.specs.declared.object.Payload.{Payload}
 use Rattle.hx_object.specs.declared.object.Payload.TheVariants.{Namespace as NamespaceOf, Config, Hierarchy, Anchor, Quota, Plain}
+use Rattle.hx_model.specs.declared.event.Event.{Event}
 use Rattle.hx_model.specs.declared.ask.Ask.{Ask}
-use Rattle.hx_model.specs.declared.ask.Ask.TheVariants.{Get, List as ListOf, Create, Replace, Delete, Document as DocumentOf}
+use Rattle.hx_model.specs.declared.ask.Ask.TheVariants.{Get, List as ListOf, Create, Replace, Delete, Document as DocumentOf, Events as EventsSince}
 use Rattle.hx_model.specs.declared.ask.Answer.{Answer}
-use Rattle.hx_model.specs.declared.ask.Answer.TheVariants.{One, Many, Deleted, Document as Told, Refused}
+use Rattle.hx_model.specs.declared.ask.Answer.TheVariants.{One, Many, Deleted, Document as Told, Events as Happened, Refused}
 
 -- the modes that bodies may name so far
 abbrev pub is_given_mode : Mode → Bool
@@ -95,6 +96,7 @@ IsServedAsk (Create x skip) = IsServed x × (is_given x.payload ≡ true) × (x.
 IsServedAsk (Replace x expected skip) = IsServed x × (is_given x.payload ≡ true) × (x.version ≡ 0)
 IsServedAsk (Delete id skip) = Unit {0}
 IsServedAsk (DocumentOf document) = Unit {0}
+IsServedAsk (EventsSince version) = Unit {0}
 
 -- the objects of an answer are legal
 abbrev pub IsLegalAnswer : Answer → Type 0
@@ -102,4 +104,5 @@ IsLegalAnswer (One x fresh) = IsLegal x
 IsLegalAnswer (Many kind objects version) = AllByRecursion IsLegal objects
 IsLegalAnswer (Deleted version) = Unit {0}
 IsLegalAnswer (Told document) = Unit {0}
+IsLegalAnswer (Happened events version) = AllByRecursion (λ (e : Event). IsLegal e.object) events
 IsLegalAnswer (Refused refusal) = Unit {0}

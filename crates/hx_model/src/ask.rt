@@ -1,5 +1,5 @@
 // Requests and their answers.
-use crate::{Fields, Refusal};
+use crate::{Event, Fields, Refusal};
 use hx_discovery::Document;
 use hx_object::{Id, Kind, List, Object, Shared, Text};
 use hx_select::Selector;
@@ -36,6 +36,10 @@ pub enum Ask {
     },
     /// What the server says of itself.
     Document(Document),
+    /// The events of all commits after a version.
+    Events {
+        since: u64,
+    },
 }
 
 /// What a cluster answers.
@@ -57,6 +61,11 @@ pub enum Answer {
     },
     /// What the server says of itself.
     Document(Document),
+    /// The events in the order of their commits, those of one commit in order of identities, and the store's version.
+    Events {
+        events: List<Event>,
+        version: u64,
+    },
     Refused(Refusal),
 }
 
@@ -74,6 +83,10 @@ impl Drop for Answer {
             } => {}
             Answer::Deleted { version: _ } => {}
             Answer::Document(_) => {}
+            Answer::Events {
+                events: _,
+                version: _,
+            } => {}
             Answer::Refused(_) => {}
         }
     }

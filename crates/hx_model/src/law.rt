@@ -1,8 +1,10 @@
 // Laws of the definitions.
 ghost use Rattle.hx_model.specs.Excess.{ExcessBeginsOnlyThere, NoExcessByFault, GivesNoHome, OthersBeginNone};
+ghost use Rattle.hx_model.specs.Happening.{RequestsTellInOrder, TurnsTellOnce};
 ghost use Rattle.hx_model.specs.Known.{SpeaksOfKeysAlone};
 ghost use Rattle.hx_model.specs.Overruns.{IsHeldAtAdmission, RisesByChargesAlone, KeysRaiseNothing, DeletionsRaiseNothing, HoldsThroughout, HoldsAfterFault};
 ghost use Rattle.hx_model.specs.Parents.{PutTellsParent, CutTellsParent};
+ghost use Rattle.hx_model.specs.Windows.{ComeInParts, KeepNewest, LoseNothing, RaiseFloor};
 
 /// A theorem, not to be called: the parent that the rules look at is the one in the tree of the next state.
 pub fn law_of_parents()
@@ -42,4 +44,26 @@ pub fn law_of_excess()
     ensures fault { NoExcessByFault }
     ensures homes { GivesNoHome }
     ensures others { OthersBeginNone }
+{}
+
+/// A theorem, not to be called: what a window is after events came.
+///
+/// - `parts`: they may come at once or one after the other;
+/// - `newest`: the newest of them is the last one, so that the next one may come behind it;
+/// - `floor`: the floor never falls;
+/// - `whole`: since a version that isn't under the floor, all events are given that ever came of later versions, and so of each commit all or none.
+pub fn law_of_windows()
+    ensures parts { ComeInParts }
+    ensures newest { KeepNewest }
+    ensures floor { RaiseFloor }
+    ensures whole { LoseNothing }
+{}
+
+/// A theorem, not to be called: in which order a commit's events are told.
+///
+/// - `requests`: those of a request in order of identities, each object once;
+/// - `turns`: a worker's turn has one at most.
+pub fn law_of_events()
+    ensures requests { RequestsTellInOrder }
+    ensures turns { TurnsTellOnce }
 {}

@@ -6,6 +6,7 @@
 mod ask;
 mod config;
 mod denial;
+mod event;
 mod fields;
 mod key;
 mod law;
@@ -23,9 +24,12 @@ mod tree;
 pub use ask::{Answer, Ask};
 pub use config::RunConfig;
 pub use denial::Denial;
+pub use event::{Event, What};
 pub use fields::Fields;
 pub use key::{Finish, Guard, Key, Write};
-pub use law::{law_of_excess, law_of_known_keys, law_of_parents, law_of_quotas};
+pub use law::{
+    law_of_events, law_of_excess, law_of_known_keys, law_of_parents, law_of_quotas, law_of_windows,
+};
 pub use mode::{entries_of, mode_in, names_kind};
 pub use node::{Halt, Node};
 pub use reason::Reason;

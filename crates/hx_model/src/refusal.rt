@@ -4,7 +4,7 @@ ghost use Rattle.hx_model.specs.Messages.{text_of};
 ghost use Rattle.hx_model.specs.Replies.{status_of, code_of, message_of};
 
 use crate::status::{
-    RefusalStatus, about, breaks, has_version, joins, joins_kind, over_quota, says,
+    RefusalStatus, about, breaks, events_gone, has_version, joins, joins_kind, over_quota, says,
 };
 use crate::{Reason, Rule};
 use hx_object::{Kind, NoMemory, Text};
@@ -62,6 +62,10 @@ pub enum Refusal {
         kind: Kind,
         name: Text,
         version: u64,
+    },
+    /// 410: of the events that are asked for some are kept no more. Those of later versions than the floor are there.
+    Expired {
+        floor: u64,
     },
     /// 413: a line of a script has more than 131,072 bytes.
     TooLong,
@@ -121,6 +125,7 @@ impl Drop for Refusal {
                 name: _,
                 version: _,
             } => {}
+            Refusal::Expired { floor: _ } => {}
             Refusal::TooLong => {}
             Refusal::Missing { member: _ } => {}
             Refusal::WrongType { member: _ } => {}
@@ -214,6 +219,7 @@ impl Refusal {
                 name,
                 version,
             } => has_version(Reason::Conflict, *kind, name, *version),
+            Refusal::Expired { floor } => events_gone(*floor),
             Refusal::TooLong => says(Reason::RequestEntityTooLarge, "more than 131072 bytes"),
             Refusal::Missing { member } => joins(Reason::Invalid, member.as_str(), " is missing"),
             Refusal::WrongType { member } => joins(

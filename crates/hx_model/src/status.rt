@@ -2,7 +2,7 @@
 ghost use Rattle.std.specs.Prelude.{◌≡◌, ◌++◌, OnOk, string_bytes};
 ghost use Rattle.hx_object.specs.Kinds.{name_of};
 ghost use Rattle.hx_model.specs.Messages.{text_of};
-ghost use Rattle.hx_model.specs.Replies.{rule_row, said_of, message_about, version_message, quota_message};
+ghost use Rattle.hx_model.specs.Replies.{rule_row, said_of, message_about, version_message, quota_message, gone_message};
 
 use crate::{Reason, Rule};
 use hx_object::{Kind, NoMemory, Text};
@@ -33,6 +33,10 @@ pub enum Message<'a> {
         name: &'a str,
         version: u64,
     },
+    /// The version up to which events are gone.
+    EventsGone {
+        floor: u64,
+    },
     /// The limit of a quota that is passed, with amounts in thousandths.
     OverQuota {
         namespace: &'a str,
@@ -58,6 +62,7 @@ impl Message<'_> {
                 name,
                 version,
             } => push_version(out, *kind, name, *version),
+            Message::EventsGone { floor } => push_gone(out, *floor),
             Message::OverQuota {
                 namespace,
                 quota,
@@ -91,6 +96,13 @@ fn push_version(out: &mut String, kind: Kind, name: &str, version: u64) -> Resul
 {
     let resource = kind.resource();
     Ok(write!(out, "{resource} \"{name}\" has version {version}")?)
+}
+
+#[tactic(auto, unfolding(crate::specs::Replies::gone_message))]
+fn push_gone(out: &mut String, floor: u64) -> Result<(), NoMemory>
+    ensures { OnOk result (string_bytes out.new ≡ string_bytes out.old ++ gone_message floor) }
+{
+    Ok(write!(out, "events up to version {floor} are gone")?)
 }
 
 #[tactic(auto, unfolding(crate::specs::Replies::quota_message))]
@@ -163,6 +175,17 @@ pub fn has_version(reason: Reason, kind: Kind, name: &Text, version: u64) -> Ref
             name,
             version,
         },
+    }
+}
+
+/// The row that says up to which version events are gone.
+pub fn events_gone(floor: u64) -> RefusalStatus<'static>
+    ensures reason { result.reason ≡ Reason.Expired }
+    ensures message { text_of result.message ≡ gone_message floor }
+{
+    RefusalStatus {
+        reason: Reason::Expired,
+        message: Message::EventsGone { floor },
     }
 }
 
