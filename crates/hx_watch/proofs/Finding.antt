@@ -1,9 +1,9 @@
 -- Where the later ones of events that ascend begin.
 use Rattle.std.proofs.Common.{◌≡◌, ℕ, zero, suc, ◌+◌, ◌≤◌, cond, Bool, true, false, true≢false, List, [], ◌∷◌, ◌++◌, take, drop, Some, refl, sym, ap, ◌∙◌, arith, add-one, le-ltb}
 use Rattle.std.specs.Prelude.{slice_get, is_some, unwrap_or}
-use Rattle.hx_watch.specs.declared.event.Event.{Event}
-use Rattle.hx_watch.specs.Windows.{Ascend, is_over, events_since}
-use Rattle.hx_watch.proofs.Lasting.{all-since}
+use Rattle.hx_model.specs.declared.event.Event.{Event}
+use Rattle.hx_model.specs.Windows.{Ascend, is_over, events_since}
+use Rattle.hx_model.proofs.Lasting.{all-since}
 use Rattle.std.specs.Option.{option_map_or}
 use Rattle.std.proofs.lemmas.Bool.{ltb-false, ltb-true}
 use Rattle.std.proofs.lemmas.List.{take-append-drop}

@@ -1,7 +1,7 @@
 -- What events make of watchers, call by call.
 use Rattle.std.proofs.Common.{◌≡◌, ℕ, zero, suc, ◌+◌, ◌<◌, Bool, true, false, true≢false, List, [], ◌∷◌, ◌++◌, length, take, drop, Option, Some, None, refl, sym, ap, subst, ◌∙◌, arith, add-one, append-nil, append_assoc, get_or, slice_set}
 use Rattle.std.specs.Option.{option_map}
-use Rattle.hx_watch.specs.declared.event.Event.{Event}
+use Rattle.hx_model.specs.declared.event.Event.{Event}
 use Rattle.hx_watch.specs.Watching.{WatcherView, MemberView, Members, with_received, Refuses, Follows, HasFollowed, HaveFollowed, FollowNone, FollowInParts}
 
 none-more : (told : Option (List Event)) → option_map (λ all. all ++ []) told ≡ told

@@ -1,7 +1,7 @@
 -- Hubs of watchers of which one refuses, and what isn't told so.
 use Rattle.std.proofs.Common.{◌≡◌, ℕ, ◌+◌, List, [], ◌∷◌, true, false, true≢false, Some, refl, sym, ap, arith}
 use Rattle.std.specs.Prelude.{length, unwrap_or}
-use Rattle.hx_watch.specs.declared.event.Event.{Event}
+use Rattle.hx_model.specs.declared.event.Event.{Event}
 use Rattle.hx_watch.specs.Shown.{is_chosen}
 use Rattle.hx_watch.specs.Watching.{WatcherView, MemberView, HasFollowed, HaveFollowed, joined}
 

@@ -1,5 +1,5 @@
 pub mod Finding
 pub mod Following
 mod HubExamples
-pub mod Lasting
+pub mod Ringing
 mod WindowExamples

@@ -1,10 +1,11 @@
 -- Windows at their edges: what they keep and give of some events.
 use Rattle.std.proofs.Common.{◌≡◌, ℕ, [], ◌∷◌, refl, arith}
 use Rattle.hx_object.specs.declared.object.Object.{Object}
-use Rattle.hx_watch.specs.declared.event.Event.{Event}
-use Rattle.hx_watch.specs.declared.event.What.TheVariants.{Added}
+use Rattle.hx_model.specs.declared.event.Event.{Event}
+use Rattle.hx_model.specs.declared.event.What.TheVariants.{Added}
 use Rattle.hx_watch.specs.declared.window.SinceFault.TheVariants.{Expired, NoMemory}
-use Rattle.hx_watch.specs.Windows.{WindowView, opened, newest, with_events, events_since, IsSinceFault}
+use Rattle.hx_model.specs.Windows.{WindowView, opened, newest, with_events, events_since}
+use Rattle.hx_watch.specs.Windows.{IsSinceFault}
 
 -- an object was added by the commit of a version
 abbrev added : ℕ → Object → Event

@@ -2,7 +2,7 @@
 --     Choice, choice_of      which events it refuses, and how many came
 --     is_chosen, after_push  the next event is one to refuse;  that event came
 use Rattle.std.specs.Prelude.{ℕ, Bool, ◌&&◌, nat_eq, nat_le, not}
-use Rattle.hx_ports.specs.Calls.{next_number}
+use Rattle.hx_model.specs.Counts.{next_number}
 use Rattle.hx_watch.specs.declared.mem.MemWatcher.{MemWatcher}
 
 -- from which event on a watcher refuses, counted from 1, or 0 where it refuses none, and how many came

@@ -13,9 +13,9 @@ use Rattle.std.specs.Coded.{Coded, code_by, coded×, coded_bool, coded_list, cod
 use Rattle.std.specs.List.{AllZip}
 use Rattle.std.specs.Option.{option_map}
 use Rattle.std.specs.declared.option.Option.{Option}
-use Rattle.hx_ports.specs.Causes.{Rose}
-use Rattle.hx_watch.specs.contracts.event.Event as event
-use Rattle.hx_watch.specs.declared.event.Event.{Event}
+use Rattle.hx_model.specs.Counts.{Rose}
+use Rattle.hx_model.specs.contracts.event.Event as event
+use Rattle.hx_model.specs.declared.event.Event.{Event}
 
 -- what a watcher shows
 pub record WatcherView : Type 0 where

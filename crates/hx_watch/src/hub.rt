@@ -3,8 +3,8 @@ ghost use Rattle.std.specs.Prelude.{◌≡◌, [], ◌∷◌, ◌++◌, IfErr, O
 ghost use Rattle.std.specs.List.{count_by};
 ghost use Rattle.hx_watch.specs.Watching.{HasFollowed, HaveFollowed, is_there, joined};
 
-use crate::event::Event;
 use crate::watcher::Watcher;
+use hx_model::Event;
 use std::alloc::Global;
 use std::marker::Model;
 

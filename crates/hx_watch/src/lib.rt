@@ -5,16 +5,14 @@
 //! A hub is generic in its watcher, which isn't boxed: of a box of any watcher no contract could say what it received, once it lies in a struct. A program with several kinds of watchers makes an enum of them.
 #![tactic(auto)]
 
-mod event;
 mod hub;
 mod law;
 mod mem;
 mod watcher;
 mod window;
 
-pub use event::{Event, What};
 pub use hub::Hub;
-pub use law::{law_of_hubs, law_of_windows};
+pub use law::law_of_hubs;
 pub use mem::MemWatcher;
 pub use watcher::{Refused, Watcher};
 pub use window::{SinceFault, Window};

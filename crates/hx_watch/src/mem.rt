@@ -1,11 +1,11 @@
 // A watcher in memory.
 ghost use Rattle.std.specs.Prelude.{◌≡◌, [], ◌∷◌, ◌++◌, true, Some, IsErrOf, IsTrue, OnErr, OnOk, ◌↔◌};
-ghost use Rattle.hx_ports.specs.Causes.{Rose};
+ghost use Rattle.hx_model.specs.Counts.{Rose};
 ghost use Rattle.hx_watch.specs.Shown.{after_push, is_chosen};
 ghost use Rattle.hx_watch.specs.Watching.{Refuses, with_received};
 
-use crate::event::Event;
 use crate::watcher::{Refused, Watcher};
+use hx_model::Event;
 use hx_object::NoMemory;
 use std::alloc::Global;
 

@@ -2,7 +2,7 @@
 ghost use Rattle.std.specs.Prelude.{◌≡◌, [], ◌∷◌, OnErr, OnOk};
 ghost use Rattle.hx_watch.specs.Watching.{Refuses, WatcherView, with_received};
 
-use crate::event::Event;
+use hx_model::Event;
 use hx_object::NoMemory;
 
 /// Why a watcher refused an event, and its count of refusals rose.

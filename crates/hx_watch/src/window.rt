@@ -1,10 +1,11 @@
 // The latest events, in a ring that never grows.
 ghost use Rattle.std.specs.Prelude.{◌≡◌, ◌≤◌, [], ◌∷◌, drop, slice_get, true, IfErr, IfOk, OnOk};
 ghost use Rattle.std.specs.Option.{option_map_or};
-ghost use Rattle.hx_watch.specs.Windows.{Ascend, IsSinceFault, events_since, is_over, most_events, newest, opened, with_events};
+ghost use Rattle.hx_model.specs.Windows.{Ascend, events_since, is_over, most_events, newest, opened, with_events};
+ghost use Rattle.hx_watch.specs.Windows.{IsSinceFault};
 
-use crate::event::Event;
 use circular_buffer::HeapCircularBuffer;
+use hx_model::Event;
 use hx_object::{List, NoMemory};
 use std::alloc::Global;
 use std::marker::Model;
@@ -46,7 +47,8 @@ impl Drop for Window {
 
 impl Model for Window {
     ghost use Rattle.std.specs.Prelude.{◌≡◌, ◌≤◌, length};
-    ghost use Rattle.hx_watch.specs.Windows.{Ascend, WindowView, most_events, window_code};
+    ghost use Rattle.hx_model.specs.Windows.{Ascend, WindowView, most_events};
+    ghost use Rattle.hx_watch.specs.Windows.{window_code};
 
     ghost Value = { WindowView };
 

@@ -1,5 +1,5 @@
 use Rattle.std.proofs.Common.{◌≡◌, ◌∙◌, sym, subst, drop, arith}
-use Rattle.hx_watch.specs.Windows.{events_since}
+use Rattle.hx_model.specs.Windows.{events_since}
 use Rattle.hx_watch.proofs.Finding.{none-up-to, all-from, begin-at}
 use Rattle.hx_watch.proofs.window.first_over.Goals as goal
 

@@ -1,5 +1,5 @@
 use Rattle.std.proofs.Common.{◌≡◌, ◌-◌, ◌≤◌, [], take, drop, length}
-use Rattle.hx_watch.specs.Windows.{events_since}
+use Rattle.hx_model.specs.Windows.{events_since}
 use Rattle.hx_watch.proofs.window.first_over.Given as goal
 
 abbrev pub invariant-loop-low : goal.invariant-loop-low

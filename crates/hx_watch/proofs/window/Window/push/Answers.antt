@@ -1,6 +1,6 @@
 use Rattle.std.proofs.Common.{◌≤◌, sym, subst}
-use Rattle.hx_watch.specs.Windows.{WindowView, most_events, newest}
-use Rattle.hx_watch.proofs.Lasting.{takes-in, newest-in, floor-some, floor-none}
+use Rattle.hx_model.specs.Windows.{WindowView, most_events, newest}
+use Rattle.hx_watch.proofs.Ringing.{takes-in, newest-in, floor-some, floor-none}
 use Rattle.hx_watch.proofs.window.Window.push.Goals as goal
 
 pub invariant_of-self : goal.invariant_of-self
