@@ -28,3 +28,5 @@ pub mod Normal
 pub mod Needs
 pub mod Quotas
 pub mod Usages
+pub mod EventTexts
+mod EventExamples

@@ -5,3 +5,5 @@ pub mod Fits
 pub mod Inside
 pub mod Trees
 pub mod Pushed
+pub mod LongDecimals
+pub mod EventLines

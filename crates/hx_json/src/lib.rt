@@ -1,4 +1,4 @@
-//! Bodies of requests read as objects, and objects, lists and refusals written as JSON.
+//! Bodies of requests read as objects, and objects, lists, events and refusals written as JSON.
 #![tactic(auto)]
 
 mod fault;
@@ -8,5 +8,7 @@ mod write;
 
 pub use fault::{JsonFault, Read, RowFault};
 pub use law::law_of_texts;
-pub use read::{BodyReader, is_long_decimal};
-pub use write::{push_deleted, push_list, push_object, push_status, write_object};
+pub use read::{BodyReader, long_decimal};
+pub use write::{
+    push_deleted, push_event_line, push_events, push_list, push_object, push_status, write_object,
+};

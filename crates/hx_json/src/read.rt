@@ -39,7 +39,7 @@ use member_checks::check_members;
 use parts::{expected_in, id_of, pairs_in, payload_of};
 use std::alloc::Global;
 use tree::{is_ordered, read_tree};
-pub use version::is_long_decimal;
+pub use version::long_decimal;
 use whole::ordered_text;
 
 /// Whose body is read: the path's kind and namespace, and its name, which a PUT has and a POST doesn't.

@@ -2,6 +2,7 @@
 ghost use Rattle.std.specs.Prelude.{◌≡◌, ◌≤◌, ◌<◌, ◌^◌, IsTrue, length};
 ghost use Rattle.std.specs.List.{list_all};
 ghost use Rattle.hx_object.specs.Names.{is_digit};
+ghost use Rattle.hx_json.specs.LongDecimals.{long_decimal};
 ghost use Rattle.hx_json.specs.Reading.{begins_with_zero, is_long_decimal, number_in, version_in};
 
 /// The version of a text, or 0, which no stored object has.
@@ -16,8 +17,19 @@ pub fn version_in(text: &str) -> u64
     if number <= i64::MAX as u64 { number } else { 0 }
 }
 
+/// The number that the bytes are: a decimal one without leading zeros, of at most 19 digits.
+pub fn long_decimal(text: &[u8]) -> Option<u64>
+    ensures { result ≡ long_decimal text.now }
+{
+    if is_long_decimal(text) {
+        Some(number_in(text))
+    } else {
+        None
+    }
+}
+
 /// Whether the bytes are a decimal number without leading zeros, of at most 19 digits.
-pub fn is_long_decimal(text: &[u8]) -> bool
+fn is_long_decimal(text: &[u8]) -> bool
     ensures { result ≡ is_long_decimal text.now }
 {
     1 <= text.len() && text.len() <= 19 && are_digits(text) && !begins_with_zero(text)

@@ -1,0 +1,14 @@
+use Rattle.std.proofs.Common.{◌∷◌, [], ◌++◌, ◌∙◌, ap, codes, decimal, string_bytes}
+use Rattle.json.specs.Print.{quoted}
+use Rattle.hx_json.specs.EventLines.{event_front}
+use Rattle.hx_json.proofs.EventTexts.{line_pushed}
+use Rattle.hx_json.proofs.Steps.{glue, last}
+use Rattle.hx_json.proofs.write.events.push_event_line.Goals as goal
+
+pub returns : goal.returns
+returns c =
+    let e = c.args.event.now in
+    last c.push.result (λ closed.
+    glue (string_bytes c.args.out.now) (event_front e ∷ (codes ",\"version\":" ++ quoted (decimal e.version)) ∷ codes "}\n" ∷ []) (string_bytes c.push.new.out)
+    (_, c.in_ok-push_front.ensures, (_, c.in_ok-push_named_number.ensures, closed))
+    ∙ ap (λ t. string_bytes c.args.out.now ++ t) (line_pushed e)) c.push.ensures
