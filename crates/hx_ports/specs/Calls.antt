@@ -1,24 +1,20 @@
 -- Which calls of a port in memory fail, by their numbers.
---     next_number           the number of the next call
 --     is_planned            the next call is one that fails
 --     FailsByPlan           a call failed exactly where it was planned, and is counted
 --     landing               whether the batch of a failing commit lands, if the commit is one that fails
 --     CommitsByPlan         what a commit answers and does, by the plan
-use Rattle.std.specs.Prelude.{◌≡◌, ℕ, ◌+◌, ◌-◌, ◌^◌, Bool, true, false, List, min, nat_eq, Some, None, find as find_first, IsErr, IsErrOf, ◌↔◌, IsTrue}
+use Rattle.std.specs.Prelude.{◌≡◌, ℕ, Bool, true, false, List, nat_eq, Some, None, find as find_first, IsErr, IsErrOf, ◌↔◌, IsTrue}
 use Rattle.std.specs.List.{list_any}
 use Rattle.std.specs.Option.{option_map}
 use Rattle.std.specs.declared.option.Option.{Option}
 use Rattle.std.specs.declared.result.Result.{Result}
+pub use Rattle.hx_model.specs.Counts.{next_number}
 use Rattle.hx_ports.specs.declared.keeper.KeepFault.{KeepFault}
 use Rattle.hx_ports.specs.declared.keeper.KeepFault.TheVariants.{Fault}
 use Rattle.hx_ports.specs.declared.keeper.Batch.{Batch}
 use Rattle.hx_ports.specs.declared.mem.Plan.{Plan}
 use Rattle.hx_ports.specs.declared.mem.FailCommit.{FailCommit}
 use Rattle.hx_ports.specs.Keeping.{Kept, Lands}
-
--- the number of the next call, which stands at its last value
-abbrev pub next_number : ℕ → ℕ
-next_number calls = min (calls + 1) (2 ^ 64 - 1)
 
 -- the next call is one that fails
 abbrev pub is_planned : Plan → Bool

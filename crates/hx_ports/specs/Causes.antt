@@ -1,17 +1,13 @@
 -- When a fault may be answered: only where the count of the object's own faults rose.
---     Rose before now       the count rose, or stands at its last value
 --     HasCause              a count never falls, and it rose exactly where the call failed
 --     KeeperCause           the same of a keeper, whose want of memory is free
 --     IsStall               a write took nothing of a piece that isn't empty
 --     StallCause            the count of stalls never falls, and it rose exactly at a stall
-use Rattle.std.specs.Prelude.{◌≡◌, ℕ, ◌+◌, ◌-◌, ◌^◌, ◌<◌, ◌≤◌, min, Ok, OnOk, OnErr, IfOk, IsErrOf, List, length}
+use Rattle.std.specs.Prelude.{◌≡◌, ℕ, ◌<◌, ◌≤◌, Ok, OnOk, OnErr, IfOk, IsErrOf, List, length}
 use Rattle.std.specs.declared.result.Result.{Result}
+pub use Rattle.hx_model.specs.Counts.{Rose}
 use Rattle.hx_ports.specs.declared.keeper.KeepFault.{KeepFault}
 use Rattle.hx_ports.specs.declared.keeper.KeepFault.TheVariants.{Fault}
-
--- the count rose, or stands at its last value
-abbrev pub Rose : ℕ → ℕ → Type 0
-Rose before now = min (before + 1) (2 ^ 64 - 1) ≤ now
 
 -- a count that never falls, that rose where the call failed, and that stays where it didn't
 pub record HasCause {T E : Type 0} (before now : ℕ) (result : Result T E) : Type 0 where

@@ -1,10 +1,11 @@
 -- What contracts see of a port: what it shows of itself, in one record.
---     KeeperView     of a keeper: its place, what it holds, whether it is broken, and how often it failed
+--     KeeperView     of a keeper: its place, what it holds, whether it is broken, how often it failed, and its watchers
 --     SinkView       of a sink: what was written, and how often it failed and stalled
 --     SourceView     of a source: what is left, and how often it failed
 --     HoldsOn        a keeper's view but for the count
 use Rattle.std.specs.Prelude.{◌≡◌, ℕ, Bool, List}
 use Rattle.std.specs.declared.option.Option.{Option}
+use Rattle.hx_watch.specs.Watching.{Members}
 use Rattle.hx_ports.specs.Keeping.{Kept}
 
 -- what a keeper shows
@@ -17,6 +18,8 @@ pub record KeeperView : Type 0 where
   pub broken : Bool
   -- the number of its own failures
   pub faults : ℕ
+  -- the watchers that it tells of the events of each commit
+  pub watchers : Members
 
 -- what a sink shows
 pub record SinkView : Type 0 where
@@ -34,8 +37,9 @@ pub record SourceView : Type 0 where
   -- the number of reads that failed
   pub faults : ℕ
 
--- a keeper is where it was, holds what it held, and is as whole as it was
+-- a keeper is where it was, holds what it held, is as whole as it was, and its watchers are as they were
 pub record HoldsOn (old new : KeeperView) : Type 0 where
   pub place : new.place ≡ old.place
   pub kept : new.kept ≡ old.kept
   pub broken : new.broken ≡ old.broken
+  pub watchers : new.watchers ≡ old.watchers

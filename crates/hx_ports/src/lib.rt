@@ -5,6 +5,7 @@
 //! `Std..` ports stand on any reader and writer. `Sure..` ports are in memory and never fail by themselves, and `Mem..` ports fail at the calls that a test names.
 #![tactic(auto)]
 
+mod followed;
 mod given_rows;
 mod held_row;
 mod keeper;
@@ -16,6 +17,7 @@ mod stream;
 mod sure;
 mod sure_keeper;
 
+pub use followed::Followed;
 pub use keeper::{Batch, KeepFault, Keeper, Meta, Row};
 pub use mem::{FailCommit, MemKeeper, MemSink, MemSource};
 pub use row_keys::row_key;

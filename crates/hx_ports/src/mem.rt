@@ -1,5 +1,5 @@
 // Ports in memory whose calls fail where a test says so.
-ghost use Rattle.std.specs.Prelude.{◌≡◌, ◌<◌, ◌≤◌, ◌⊎◌, false, true, Some, IsTrue, ◌↔◌, IsErrOf, OnErr, OnOk, IfOk, IfSome};
+ghost use Rattle.std.specs.Prelude.{◌≡◌, [], ◌<◌, ◌≤◌, ◌⊎◌, false, true, Some, IsTrue, ◌↔◌, IsErrOf, OnErr, OnOk, IfOk, IfSome};
 ghost use Rattle.std.specs.Io.{ReadsAtMost};
 ghost use Rattle.std.specs.Io.KnownBytes.{ReadConsumes, WriteAppends};
 ghost use Rattle.std.specs.FinMap as map;
@@ -211,7 +211,7 @@ impl MemKeeper {
         fail_reads: Vec<u64>,
         keys: RandomState,
     ) -> Self
-        ensures shown { ⟦<MemKeeper as Keeper>⟧.shown result ≡ record { place = None; kept = told rows.items meta; broken = false; faults = 0 } }
+        ensures shown { ⟦<MemKeeper as Keeper>⟧.shown result ≡ record { place = None; kept = told rows.items meta; broken = false; faults = 0; watchers = [] } }
         ensures held { held_by (kept_by result) ≡ kept_of rows.items meta }
         ensures meta { given_meta (kept_by result) ≡ meta }
         ensures reads { read_calls result ≡ record { numbers = fail_reads; calls = 0 } }

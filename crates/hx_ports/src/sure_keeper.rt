@@ -1,5 +1,5 @@
 // A keeper in memory that never fails by itself.
-ghost use Rattle.std.specs.Prelude.{◌≡◌, true, false, Some, None, if◌then◌else◌, OnOk, OnErr, IsErrOf, IfOk, IfSome, string_bytes};
+ghost use Rattle.std.specs.Prelude.{◌≡◌, [], true, false, Some, None, if◌then◌else◌, OnOk, OnErr, IsErrOf, IfOk, IfSome, string_bytes};
 ghost use Rattle.std.specs.FinMap as map;
 ghost use Rattle.std.specs.FinMap.{is_sorted};
 ghost use Rattle.std.specs.List.{AllByRecursion};
@@ -15,7 +15,7 @@ use indexmap::IndexSet;
 use std::alloc::Global;
 use std::hash::RandomState;
 
-/// Rows in memory. They lie as they were given until they are wanted by their keys, at the first commit at the latest, and then in a set.
+/// Rows in memory, without watchers. They lie as they were given until they are wanted by their keys, at the first commit at the latest, and then in a set.
 pub struct SureKeeper {
     given: Vec<Row>,
     rows: RowMap,
@@ -44,7 +44,7 @@ impl SureKeeper {
 
     /// A keeper of these rows, which hashes keys by `keys`. It tells the rows where they ascend by their keys and `meta` counts them.
     pub fn new(rows: Vec<Row>, meta: Meta, keys: RandomState) -> Self
-        ensures shown { ⟦<SureKeeper as Keeper>⟧.shown result ≡ record { place = None; kept = told rows.items meta; broken = false; faults = 0 } }
+        ensures shown { ⟦<SureKeeper as Keeper>⟧.shown result ≡ record { place = None; kept = told rows.items meta; broken = false; faults = 0; watchers = [] } }
         ensures held { held_by result ≡ kept_of rows.items meta }
         ensures meta { given_meta result ≡ meta }
     {
@@ -79,7 +79,7 @@ impl SureKeeper {
 impl Keeper for SureKeeper {
     ghost use Rattle.hx_ports.specs.Shown.{given_meta, held_by, place_of, tells_rows};
 
-    ghost shown = { λ k. record { place = place_of k; kept = if tells_rows k then Some (held_by k) else None; broken = false; faults = 0 } };
+    ghost shown = { λ k. record { place = place_of k; kept = if tells_rows k then Some (held_by k) else None; broken = false; faults = 0; watchers = [] } };
 
     fn attach(&mut self, path: &str) -> Result<(), KeepFault>
         ensures place { OnOk result ((⟦<SureKeeper as Keeper>⟧.shown self.new).place ≡ Some path.now) }
@@ -131,6 +131,7 @@ impl Keeper for SureKeeper {
             version,
             puts,
             cuts,
+            events: _,
         } = batch;
         lay_rows(&mut self.given, &mut self.rows)?;
         put_rows(&mut self.rows, puts.into_vec())?;

@@ -1,5 +1,5 @@
 // A keeper of rows in an SQLite database.
-ghost use Rattle.std.specs.Prelude.{◌≡◌, ◌≤◌, true, false, None, Some, OnOk, OnErr, IfOk, IfSome, IsErrOf, IsOk, IsSome, IsUtf8};
+ghost use Rattle.std.specs.Prelude.{◌≡◌, ◌≤◌, [], true, false, None, Some, OnOk, OnErr, IfOk, IfSome, IsErrOf, IsOk, IsSome, IsUtf8};
 ghost use Rattle.std.specs.List.{AllByRecursion};
 ghost use Rattle.hx_ports.specs.Causes.{KeeperCause, Rose};
 ghost use Rattle.hx_ports.specs.Keeping.{IsPut};
@@ -10,7 +10,7 @@ use crate::fault::{Refusal, SqlFault};
 use crate::place::{self, Access, Place};
 use hx_ports::{Batch, KeepFault, Keeper, Meta, Row};
 
-/// Keeps rows in an SQLite database, and tells nothing of what it holds. `attach` opens the file at a path, which it makes where there is none, or a database in memory for the empty path.
+/// Keeps rows in an SQLite database, without watchers, and tells nothing of what it holds. `attach` opens the file at a path, which it makes where there is none, or a database in memory for the empty path.
 ///
 /// A keeper for reading changes no byte of a file or its log: both are only read, and what opening them writes lies in memory. `attach` refuses a path at which no file is and a database without tables. It takes no batch.
 ///
@@ -44,7 +44,7 @@ impl SqlKeeper {
 
     /// A keeper with no place yet. It takes no memory, and the runtime's files are first used by `attach`.
     pub fn new(rt: &HostRuntime) -> Self
-        ensures shown { ⟦<SqlKeeper as Keeper>⟧.shown result ≡ record { place = None; kept = None; broken = false; faults = 0 } }
+        ensures shown { ⟦<SqlKeeper as Keeper>⟧.shown result ≡ record { place = None; kept = None; broken = false; faults = 0; watchers = [] } }
         ensures fault { why_failed result ≡ None }
         ensures access { reads_only result ≡ false }
     {
@@ -53,7 +53,7 @@ impl SqlKeeper {
 
     /// The same for reading alone. Where the file has a log, what was committed to it is read too; what an `attach` may leave is an empty log where there was none.
     pub fn for_reading(rt: &HostRuntime) -> Self
-        ensures shown { ⟦<SqlKeeper as Keeper>⟧.shown result ≡ record { place = None; kept = None; broken = false; faults = 0 } }
+        ensures shown { ⟦<SqlKeeper as Keeper>⟧.shown result ≡ record { place = None; kept = None; broken = false; faults = 0; watchers = [] } }
         ensures fault { why_failed result ≡ None }
         ensures access { reads_only result ≡ true }
     {
@@ -61,7 +61,7 @@ impl SqlKeeper {
     }
 
     fn of(rt: &HostRuntime, access: Access) -> Self
-        ensures shown { ⟦<SqlKeeper as Keeper>⟧.shown result ≡ record { place = None; kept = None; broken = false; faults = 0 } }
+        ensures shown { ⟦<SqlKeeper as Keeper>⟧.shown result ≡ record { place = None; kept = None; broken = false; faults = 0; watchers = [] } }
         ensures fault { why_failed result ≡ None }
         ensures access { result.access ≡ access }
     {
@@ -162,7 +162,7 @@ impl Keeper for SqlKeeper {
     ghost use Rattle.hx_sqlite.specs.Seats.{are_in_file, are_on_disk, names_a_file};
     ghost use Rattle.hx_sqlite.specs.Shown.{place_of, reads_only, why_failed};
 
-    ghost shown = { λ k. record { place = path_in (place_of k); kept = None; broken = k.broken; faults = k.faults } };
+    ghost shown = { λ k. record { place = path_in (place_of k); kept = None; broken = k.broken; faults = k.faults; watchers = [] } };
 
     fn attach(&mut self, path: &str) -> Result<(), KeepFault>
         ensures place { OnOk result ((⟦<SqlKeeper as Keeper>⟧.shown self.new).place ≡ Some path.now) }
