@@ -122,3 +122,59 @@ field_twice = refl
 field_of_an_object : ask_of Get (codes "/api/v1/namespaces/a?fieldSelector=metadata.name=a") [] ≡ Err (BadQuery (codes "fieldSelector"))
 unfolding ask_of resource_of segment_text bad_parameter are_fields fields_in parameters_of form_urlencoded_on_literals utf8_lossy utf8_valid_len is_utf8 chars encode
 field_of_an_object = refl
+
+-- ---- the feed of events
+
+feed_since : ask_of Get (codes "/hnc/v1/events?since=7") [] ≡ Ok (of.Events 7)
+unfolding ask_of resource_of bad_parameter are_fields fields_in parameters_of form_urlencoded_on_literals utf8_lossy utf8_valid_len is_utf8 chars encode
+feed_since = refl
+
+feed_from_the_start : ask_of Get (codes "/hnc/v1/events?since=0") [] ≡ Ok (of.Events 0)
+unfolding ask_of resource_of bad_parameter are_fields fields_in parameters_of form_urlencoded_on_literals utf8_lossy utf8_valid_len is_utf8 chars encode
+feed_from_the_start = refl
+
+feed_decoded : ask_of Get (codes "/hnc/v1/events?since=%31%32") [] ≡ Ok (of.Events 12)
+unfolding ask_of resource_of bad_parameter are_fields fields_in parameters_of form_urlencoded_on_literals utf8_lossy utf8_valid_len is_utf8 chars encode
+feed_decoded = refl
+
+feed_alone : ask_of Get (codes "/hnc/v1/events") [] ≡ Err (BadQuery (codes "since"))
+unfolding ask_of resource_of bad_parameter are_fields fields_in parameters_of form_urlencoded_on_literals utf8_lossy utf8_valid_len is_utf8 chars encode
+feed_alone = refl
+
+feed_since_nothing : ask_of Get (codes "/hnc/v1/events?since=") [] ≡ Err (BadQuery (codes "since"))
+unfolding ask_of resource_of bad_parameter are_fields fields_in parameters_of form_urlencoded_on_literals utf8_lossy utf8_valid_len is_utf8 chars encode
+feed_since_nothing = refl
+
+feed_zero_first : ask_of Get (codes "/hnc/v1/events?since=07") [] ≡ Err (BadQuery (codes "since"))
+unfolding ask_of resource_of bad_parameter are_fields fields_in parameters_of form_urlencoded_on_literals utf8_lossy utf8_valid_len is_utf8 chars encode
+feed_zero_first = refl
+
+feed_long : ask_of Get (codes "/hnc/v1/events?since=12345678901234567890") [] ≡ Err (BadQuery (codes "since"))
+unfolding ask_of resource_of bad_parameter are_fields fields_in parameters_of form_urlencoded_on_literals utf8_lossy utf8_valid_len is_utf8 chars encode
+feed_long = refl
+
+feed_second_since : ask_of Get (codes "/hnc/v1/events?since=1&since=x") [] ≡ Ok (of.Events 1)
+unfolding ask_of resource_of bad_parameter are_fields fields_in parameters_of form_urlencoded_on_literals utf8_lossy utf8_valid_len is_utf8 chars encode
+feed_second_since = refl
+
+-- a version out of form comes before the parameters behind it, and one that is missing after them
+feed_bad_since_first : ask_of Get (codes "/hnc/v1/events?watch=1&since=x") [] ≡ Err (BadQuery (codes "since"))
+unfolding ask_of resource_of bad_parameter are_fields fields_in parameters_of form_urlencoded_on_literals utf8_lossy utf8_valid_len is_utf8 chars encode
+feed_bad_since_first = refl
+
+feed_no_since_last : ask_of Get (codes "/hnc/v1/events?watch=1") [] ≡ Err (BadQuery (codes "watch"))
+unfolding ask_of resource_of bad_parameter are_fields fields_in parameters_of form_urlencoded_on_literals utf8_lossy utf8_valid_len is_utf8 chars encode
+feed_no_since_last = refl
+
+feed_no_labels : ask_of Get (codes "/hnc/v1/events?since=1&labelSelector=,") [] ≡ Ok (of.Events 1)
+unfolding ask_of resource_of bad_parameter are_fields fields_in parameters_of form_urlencoded_on_literals utf8_lossy utf8_valid_len is_utf8 chars encode
+feed_no_labels = refl
+
+made_feed : ask_of Post (codes "/hnc/v1/events?since=x") [] ≡ Err NoMethod
+unfolding ask_of resource_of
+made_feed = refl
+
+-- elsewhere the parameter is ignored
+since_of_a_list : ask_of Get (codes "/api/v1/pods?since=x") [] ≡ Ok (of.List Pod None everything no_fields)
+unfolding ask_of resource_of bad_parameter are_fields fields_in parameters_of form_urlencoded_on_literals utf8_lossy utf8_valid_len is_utf8 chars encode
+since_of_a_list = refl

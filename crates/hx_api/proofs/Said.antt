@@ -1,5 +1,5 @@
 -- What a query says, by its parameters one after another.
-use Rattle.std.proofs.Common.{◌≡◌, ℕ, List, [], ◌∷◌, Bool, true, false, not, Option, Some, None, option_map, unwrap_or, codes, refl, sym, ap, ◌∙◌, map}
+use Rattle.std.proofs.Common.{◌≡◌, ℕ, List, [], ◌∷◌, Bool, true, false, not, Option, Some, None, option_map, option_and_then, unwrap_or, codes, refl, sym, ap, ◌∙◌, map}
 use Rattle.std.specs.Prelude.{bytes_eq}
 use Rattle.std.specs.Cow.{cow_str_bytes}
 use Rattle.std.specs.Option.{option_or}
@@ -7,16 +7,18 @@ use Rattle.std.specs.declared.alloc.Global.{Global}
 use Rattle.std.specs.declared.borrow.CowStr.{CowStr}
 use Rattle.std.proofs.lemmas.Slice.Eq.{bytes_eq-Decides}
 use Rattle.hx_object.specs.Pairs.{value_of}
-use Rattle.hx_json.specs.Reading.{is_long_decimal}
-use Rattle.hx_api.specs.Inside.{IsReading, fields_said, given_in, is_filled, kept_text, name_of, over, said_by, selector_said}
-use Rattle.hx_api.specs.Queries.{Parameters, is_given, is_other_admission, is_since, is_skip, text_pair}
+use Rattle.hx_model.specs.First.{so}
+use Rattle.hx_json.specs.LongDecimals.{long_decimal}
+use Rattle.hx_json.specs.Reading.{is_long_decimal, number_in}
+use Rattle.hx_api.specs.Inside.{IsReading, fields_said, given_in, is_filled, is_no_number, kept_text, name_of, over, said_by, selector_said}
+use Rattle.hx_api.specs.Queries.{Parameters, is_given, is_other_admission, is_other_since, is_skip, since_in, text_pair}
 use Rattle.hx_api.specs.declared.query.Parameter.{Parameter}
 use Rattle.hx_api.specs.declared.query.Parameter.TheVariants.{Watch, FieldSelector, DryRun, Continue}
 use Rattle.hx_api.specs.declared.query.Said.{Said}
 
 -- ---- one more parameter
 
-first_said : (o : Option Bool) (b : Bool) (y : Option Bool) → option_or (option_or o (Some b)) y ≡ option_or o (Some b)
+first_said : {A : Type 0} (o : Option A) (b : A) (y : Option A) → option_or (option_or o (Some b)) y ≡ option_or o (Some b)
 first_said None b y = refl
 first_said (Some a) b y = refl
 
@@ -26,7 +28,7 @@ unfolding over said_by
 admission x value rest = rw (first_said x.admission) refl
 
 pub since : (x : Said) (value : List ℕ) (rest : Parameters)
-    → over (record x { since = option_or x.since (Some (is_long_decimal value)) }) (said_by rest) ≡ over x (said_by ((codes "since", value) ∷ rest))
+    → over (record x { since = option_or x.since (Some (long_decimal value)) }) (said_by rest) ≡ over x (said_by ((codes "since", value) ∷ rest))
 unfolding over said_by
 since x value rest = rw (first_said x.since) refl
 
@@ -143,13 +145,25 @@ pub other_admission : (x : Said) (query : Parameters) → x ≡ said_by query �
 unfolding said_by
 other_admission x query e = ap (λ (y : Said). not (unwrap_or y.admission true)) e ∙ others (value_of query (codes "admission"))
 
-numbers : (o : Option (List ℕ)) → unwrap_or (option_map is_long_decimal o) false ≡ is_since o
+no_number : (b : Bool) (n : ℕ) → is_no_number (Some (so b n)) ≡ not b
+no_number true n = refl
+no_number false n = refl
+
+no_numbers : (o : Option (List ℕ)) → is_no_number (option_map long_decimal o) ≡ is_other_since o
+no_numbers None = refl
+no_numbers (Some value) = no_number (is_long_decimal value) (number_in value)
+
+pub other_since : (x : Said) (query : Parameters) → x ≡ said_by query → is_no_number x.since ≡ is_other_since (value_of query (codes "since"))
+unfolding said_by
+other_since x query e = ap (λ (y : Said). is_no_number y.since) e ∙ no_numbers (value_of query (codes "since"))
+
+numbers : (o : Option (List ℕ)) → unwrap_or (option_map long_decimal o) None ≡ option_and_then long_decimal o
 numbers None = refl
 numbers (Some value) = refl
 
-pub number : (x : Said) (query : Parameters) → x ≡ said_by query → unwrap_or x.since false ≡ is_since (value_of query (codes "since"))
+pub number : (x : Said) (query : Parameters) → x ≡ said_by query → unwrap_or x.since None ≡ since_in query
 unfolding said_by
-number x query e = ap (λ (y : Said). unwrap_or y.since false) e ∙ numbers (value_of query (codes "since"))
+number x query e = ap (λ (y : Said). unwrap_or y.since None) e ∙ numbers (value_of query (codes "since"))
 
 fills : (o : Option (List ℕ)) → unwrap_or (option_map is_filled o) false ≡ is_given o
 fills None = refl

@@ -3,12 +3,13 @@
 --     parts_of_version       the parts of an `apiVersion` that a path has
 --     FitsScope              objects of the cluster have no namespace
 --     name_of parameter      its name
+--     is_no_number said      the first value of `since` is no number
 --     said_by query          what the first values of a query's parameters say
 --     over x y               what two queries say, one behind the other
 --     selector_said query    the first text of its label selector
 --     fields_said query      the first text of its field selector
 --     IsReading              what was read of a query
-use Rattle.std.specs.Prelude.{◌≡◌, ℕ, Bool, true, not, List, [], ◌∷◌, codes, Option, None, option_map}
+use Rattle.std.specs.Prelude.{◌≡◌, ℕ, Bool, true, false, not, List, [], ◌∷◌, codes, Option, Some, None, option_map}
 use Rattle.std.specs.Option.{option_or}
 use Rattle.std.specs.Cow.{cow_str_bytes}
 use Rattle.std.specs.declared.alloc.Global.{Global}
@@ -17,7 +18,7 @@ use Rattle.std.specs.Borrow.{Bor}
 use Rattle.std.specs.Str.{bytes_eq}
 use Rattle.hx_object.specs.Kinds.{is_in_cluster}
 use Rattle.hx_object.specs.Pairs.{value_of}
-use Rattle.hx_json.specs.Reading.{is_long_decimal}
+use Rattle.hx_json.specs.LongDecimals.{long_decimal}
 use Rattle.hx_api.specs.Paths.{is_blank}
 use Rattle.hx_api.specs.Queries.{Parameters}
 use Rattle.hx_api.specs.declared.query.Parameter.{Parameter}
@@ -61,14 +62,14 @@ abbrev pub is_filled : List ℕ → Bool
 is_filled value = not (is_blank value)
 
 -- what the first value of a parameter says by a test, where it has one
-abbrev pub first_by : (List ℕ → Bool) → List ℕ → Parameters → Option Bool
+abbrev pub first_by : {A : Type 0} → (List ℕ → A) → List ℕ → Parameters → Option A
 first_by test name query = option_map test (value_of query name)
 
 -- what the first values of a query's parameters say
 unfoldable pub said_by : Parameters → Said
 said_by query = record {
   admission = first_by (λ value. bytes_eq value (codes "skip")) (codes "admission") query;
-  since = first_by is_long_decimal (codes "since") query;
+  since = first_by long_decimal (codes "since") query;
   watch = first_by is_filled (codes "watch") query;
   field_selector = first_by is_filled (codes "fieldSelector") query;
   dry_run = first_by is_filled (codes "dryRun") query;
@@ -81,6 +82,11 @@ given_in said Watch = said.watch
 given_in said FieldSelector = said.field_selector
 given_in said DryRun = said.dry_run
 given_in said Continue = said.continued
+
+-- what they say of `since`: that its first value is no number
+abbrev pub is_no_number : Option (Option ℕ) → Bool
+is_no_number (Some None) = true
+is_no_number said = false
 
 -- what two queries say, one behind the other
 unfoldable pub over : Said → Said → Said

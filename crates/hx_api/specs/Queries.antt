@@ -2,13 +2,15 @@
 --     path_of, query_of target    the path, and the query behind its first `?`
 --     parameters_of query         its names and values, form decoded
 --     selector_text query         the text of the label selector
+--     since_in query              the version that the feed is read from, where one is given
 --     bad_parameter feed list query    the first other parameter whose value isn't taken
 -- Of several parameters of one name the first counts. Parameters that aren't named here are ignored.
-use Rattle.std.specs.Prelude.{ℕ, slice_index, Bool, true, false, not, ◌&&◌, ◌==◌, List, [], ◌∷◌, codes, map, Option, Some, None, unwrap_or}
+use Rattle.std.specs.Prelude.{ℕ, slice_index, Bool, true, false, not, ◌&&◌, ◌==◌, List, [], ◌∷◌, codes, map, Option, Some, None, option_and_then, unwrap_or}
 use Rattle.std.specs.List.{before_first, after_first}
 use Rattle.std.specs.Str.{bytes_eq}
 use Rattle.std.specs.Str.Lossy.{utf8_lossy}
 use Rattle.form_urlencoded.specs.Form.{decode, raw_pairs}
+use Rattle.hx_json.specs.LongDecimals.{long_decimal}
 use Rattle.hx_json.specs.Reading.{is_long_decimal}
 use Rattle.hx_object.specs.Pairs.{value_of}
 use Rattle.hx_model.specs.First.{so, first}
@@ -61,10 +63,14 @@ abbrev pub is_other_admission : Option (List ℕ) → Bool
 is_other_admission (Some text) = not (bytes_eq text (codes "skip"))
 is_other_admission None = false
 
--- a number of an event, which the feed requires
-abbrev pub is_since : Option (List ℕ) → Bool
-is_since (Some text) = is_long_decimal text
-is_since None = false
+-- a value of `since` that is no number
+abbrev pub is_other_since : Option (List ℕ) → Bool
+is_other_since (Some text) = not (is_long_decimal text)
+is_other_since None = false
+
+-- the version that the feed is read from, where one is given
+abbrev pub since_in : Parameters → Option ℕ
+since_in query = option_and_then long_decimal (value_of query (codes "since"))
 
 -- the text of the label selector. One that is absent is empty
 abbrev pub selector_text : Parameters → List ℕ
@@ -74,7 +80,7 @@ selector_text query = unwrap_or (value_of query (codes "labelSelector")) []
 unfoldable pub bad_parameter : Bool → Bool → Parameters → Option (List ℕ)
 bad_parameter feed list query =
     first (so (is_other_admission (value_of query (codes "admission"))) (codes "admission")
-    ∷ so (feed && not (is_since (value_of query (codes "since")))) (codes "since")
+    ∷ so (feed && is_other_since (value_of query (codes "since"))) (codes "since")
     ∷ so (is_given (value_of query (codes "watch"))) (codes "watch")
     ∷ so (is_given (value_of query (codes "fieldSelector")) && not (list && are_fields (fields_text query))) (codes "fieldSelector")
     ∷ so (is_given (value_of query (codes "dryRun"))) (codes "dryRun")

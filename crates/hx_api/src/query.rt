@@ -2,13 +2,13 @@
 ghost use Rattle.std.specs.Prelude.{◌≡◌, ◌∷◌, IfOk, codes, option_copied};
 ghost use Rattle.std.specs.Cow.{cow_str_bytes};
 ghost use Rattle.std.specs.Option.{option_or};
-ghost use Rattle.hx_api.specs.Inside.{fields_said, given_in, is_filled, kept_text, name_of, over, said_by, selector_said};
-ghost use Rattle.hx_api.specs.Queries.{Parameters, bad_parameter, is_given, is_other_admission, is_since, is_skip, parameters_of, path_of, query_of, selector_text};
+ghost use Rattle.hx_api.specs.Inside.{fields_said, given_in, is_filled, is_no_number, kept_text, name_of, over, said_by, selector_said};
+ghost use Rattle.hx_api.specs.Queries.{Parameters, bad_parameter, is_given, is_other_admission, is_other_since, is_skip, parameters_of, path_of, query_of, selector_text, since_in};
 ghost use Rattle.hx_api.specs.FieldSelectors.{fields_text};
 ghost use Rattle.hx_object.specs.Pairs.{value_of};
 
 use crate::fields::are_fields;
-use hx_json::is_long_decimal;
+use hx_json::long_decimal;
 use hx_object::NoMemory;
 use std::alloc::Global;
 use std::borrow::CowStr;
@@ -30,8 +30,8 @@ pub fn cut(target: &str) -> (&str, &str)
 pub struct Said {
     /// Whether it is `skip`.
     admission: Option<bool>,
-    /// Whether it is a number.
-    since: Option<bool>,
+    /// The number that it is, where it is one.
+    since: Option<Option<u64>>,
     /// Whether it isn't empty, and so for those below.
     watch: Option<bool>,
     field_selector: Option<bool>,
@@ -60,7 +60,7 @@ impl Said {
                 ..self
             },
             "since" => Said {
-                since: self.since.or(Some(is_long_decimal(value.as_bytes()))),
+                since: self.since.or(Some(long_decimal(value.as_bytes()))),
                 ..self
             },
             "watch" => Said {
@@ -94,6 +94,12 @@ impl Said {
             Parameter::Continue => self.continued,
         }
     }
+}
+
+fn is_no_number(since: Option<Option<u64>>) -> bool
+    ensures { result ≡ is_no_number since }
+{
+    matches!(since, Some(None))
 }
 
 fn is_filled(value: &str) -> bool
@@ -198,10 +204,17 @@ impl<'a> Query<'a> {
         !self.said.admission.unwrap_or(true)
     }
 
-    fn is_since(&self) -> bool
-        ensures { result ≡ is_since (value_of self.now (codes "since")) }
+    /// The version that the feed is read from, where one is given.
+    pub fn since(&self) -> Option<u64>
+        ensures { result ≡ since_in self.now }
     {
-        self.said.since.unwrap_or(false)
+        self.said.since.unwrap_or(None)
+    }
+
+    fn is_other_since(&self) -> bool
+        ensures { result ≡ is_other_since (value_of self.now (codes "since")) }
+    {
+        is_no_number(self.said.since)
     }
 
     /// The first parameter beside the label selector whose value isn't taken, at the feed of events, at a list or elsewhere.
@@ -211,7 +224,7 @@ impl<'a> Query<'a> {
     {
         if self.is_other_admission() {
             Some("admission")
-        } else if feed && !self.is_since() {
+        } else if feed && self.is_other_since() {
             Some("since")
         } else if self.is_given(Parameter::Watch) {
             Some("watch")

@@ -5,7 +5,7 @@ ghost use Rattle.hx_model.specs.Serving.{IsLegalAnswer};
 ghost use Rattle.hx_api.specs.Replies.{IsReplyTo};
 
 use hx_discovery::push_document;
-use hx_json::{push_deleted, push_list, push_object, push_status};
+use hx_json::{push_deleted, push_events, push_list, push_object, push_status};
 use hx_model::Answer;
 use hx_object::{NoMemory, Text};
 use std::alloc::Global;
@@ -44,6 +44,7 @@ pub fn status_of(answer: &Answer) -> u16
         Answer::Many { .. } => 200,
         Answer::Deleted { .. } => 200,
         Answer::Document(_) => 200,
+        Answer::Events { .. } => 200,
         Answer::Refused(refusal) => refusal.code(),
     }
 }
@@ -62,6 +63,7 @@ pub fn push_body(out: &mut String, answer: &Answer) -> Result<(), NoMemory>
         } => push_list(out, *kind, objects.as_slice(), *version),
         Answer::Deleted { version } => push_deleted(out, *version),
         Answer::Document(document) => push_document(out, *document),
+        Answer::Events { events, version } => push_events(out, events.as_slice(), *version),
         Answer::Refused(refusal) => push_status(out, refusal),
     }
 }

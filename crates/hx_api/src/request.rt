@@ -1,7 +1,7 @@
 // Requests as asks.
 ghost use Rattle.std.specs.Prelude.{◌≡◌, ◌⊎◌, Ok, Err, None, Some, true, IfOk, IfErr, OnOk, codes, option_map};
 ghost use Rattle.hx_model.specs.Serving.{IsServedAsk};
-ghost use Rattle.hx_api.specs.Asks.{ask_of, fields_for, form_refusal, namespace, is_feed, is_list, is_served, resource_for, ask_at, selector_for, selector_in};
+ghost use Rattle.hx_api.specs.Asks.{ask_of, events_after, fields_for, namespace, is_feed, is_list, query_refusal, resource_for, ask_at, selector_for, selector_in};
 ghost use Rattle.hx_api.specs.Inside.{FitsScope, as_sent};
 ghost use Rattle.hx_api.specs.Paths.{named_by, resource_of};
 ghost use Rattle.hx_api.specs.declared.resource_path.ResourcePath.TheVariants.{Document as document_at};
@@ -65,7 +65,7 @@ impl RequestReader {
         let resource = resource_for(&mut self.routes, self.alloc, method, path)?;
         let query = Query::read(self.alloc, query)?;
         let selector = selector_for(self.alloc, method, &resource, &query)?;
-        check_form(self.alloc, method, &resource, &query)?;
+        check_query(self.alloc, method, &resource, &query)?;
         let fields = fields_for(self.alloc, method, &resource, &query)?;
         let skip = query.is_skip();
         ask_at(
@@ -75,6 +75,7 @@ impl RequestReader {
             resource,
             selector,
             fields,
+            query.since(),
             skip,
             body,
         )
@@ -141,26 +142,22 @@ fn resource_of<'a>(
     }
 }
 
-/// Refuses a request with a parameter whose value isn't taken, and one whose form isn't served.
-fn check_form(
+/// Refuses a request with a parameter whose value isn't taken.
+fn check_query(
     alloc: Global,
     method: Method,
     resource: &ResourcePath<Text>,
     query: &Query<'_>,
 ) -> Result<(), Refusal>
-    ensures ok { OnOk result (form_refusal method resource.now query.now ≡ None) }
-    ensures refused { IfErr result (λ refusal. (refusal ≡ Refusal.NoMemory) ⊎ (form_refusal method resource.now query.now ≡ Some refusal)) }
+    ensures ok { OnOk result (query_refusal method resource.now query.now ≡ None) }
+    ensures refused { IfErr result (λ refusal. (refusal ≡ Refusal.NoMemory) ⊎ (query_refusal method resource.now query.now ≡ Some refusal)) }
 {
     if let Some(name) = query.bad_parameter(is_feed(resource), is_list(method, resource)) {
         return Err(Refusal::BadQuery {
             name: Text::of(alloc, name)?,
         });
     }
-    if is_served(method, resource) {
-        Ok(())
-    } else {
-        Err(Refusal::NotServed)
-    }
+    Ok(())
 }
 
 fn is_feed(resource: &ResourcePath<Text>) -> bool
@@ -176,13 +173,6 @@ fn is_list(method: Method, resource: &ResourcePath<Text>) -> bool
         (method, resource),
         (Method::Get, ResourcePath::Collection { .. })
     )
-}
-
-/// Whether the request's form is served.
-fn is_served(method: Method, resource: &ResourcePath<Text>) -> bool
-    ensures { result ≡ is_served method resource.now }
-{
-    !matches!((method, resource), (Method::Get, ResourcePath::Events))
 }
 
 /// The selector of a request: only lists have one.
@@ -227,15 +217,15 @@ fn selector_in(alloc: Global, text: &str) -> Result<Selector, Refusal>
     match Selector::read(alloc, text) {
         Ok(selector) => Ok(selector),
         Err(SelectFault::NoMemory) => Err(Refusal::NoMemory),
-        Err(_) => Err(bad_selector(alloc)),
+        Err(_) => Err(bad_query(alloc, "labelSelector")),
     }
 }
 
-/// The refusal of a text that isn't a selector, or for want of memory.
-fn bad_selector(alloc: Global) -> Refusal
-    ensures { (result ≡ Refusal.NoMemory) ⊎ (result ≡ Refusal.BadQuery (codes "labelSelector")) }
+/// The refusal of a parameter, or for want of memory.
+fn bad_query(alloc: Global, name: &str) -> Refusal
+    ensures { (result ≡ Refusal.NoMemory) ⊎ (result ≡ Refusal.BadQuery name.now) }
 {
-    match Text::of(alloc, "labelSelector") {
+    match Text::of(alloc, name) {
         Ok(name) => Refusal::BadQuery { name },
         Err(NoMemory) => Refusal::NoMemory,
     }
@@ -251,6 +241,18 @@ fn namespace(alloc: Global, ns: Option<Text>) -> Text
     }
 }
 
+/// The events after a version, which has to be given.
+fn events_after(alloc: Global, version: Option<u64>) -> Result<Ask, Refusal>
+    ensures ok { IfOk result (λ ask. events_after version ≡ Ok ask) }
+    ensures refused { IfErr result (λ refusal. (refusal ≡ Refusal.NoMemory) ⊎ (events_after version ≡ Err refusal)) }
+    ensures served { IfOk result IsServedAsk }
+{
+    match version {
+        Some(since) => Ok(Ask::Events { since }),
+        None => Err(bad_query(alloc, "since")),
+    }
+}
+
 /// The ask of a method at a resource that takes it.
 fn ask_at(
     reader: &mut BodyReader,
@@ -259,15 +261,17 @@ fn ask_at(
     resource: ResourcePath<Text>,
     selector: Selector,
     fields: Fields,
+    since: Option<u64>,
     skip: bool,
     body: &[u8],
 ) -> Result<Ask, Refusal>
     requires scope { FitsScope resource }
-    ensures ok { IfOk result (λ ask. ask_at method resource selector fields skip body.now ≡ Ok ask) }
-    ensures refused { IfErr result (λ refusal. (refusal ≡ Refusal.NoMemory) ⊎ (ask_at method resource selector fields skip body.now ≡ Err refusal)) }
+    ensures ok { IfOk result (λ ask. ask_at method resource selector fields since skip body.now ≡ Ok ask) }
+    ensures refused { IfErr result (λ refusal. (refusal ≡ Refusal.NoMemory) ⊎ (ask_at method resource selector fields since skip body.now ≡ Err refusal)) }
     ensures served { IfOk result IsServedAsk }
 {
     match (method, resource) {
+        (Method::Get, ResourcePath::Events) => events_after(alloc, since),
         (Method::Get, ResourcePath::Document(document)) => Ok(Ask::Document(document)),
         (Method::Get, ResourcePath::Collection { kind, ns }) => Ok(Ask::List {
             kind,

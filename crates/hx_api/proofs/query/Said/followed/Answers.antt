@@ -6,7 +6,7 @@ pub returns-in-admission : goal.returns-in-admission
 returns-in-admission c = let name : c.args.name.now ≡ codes "admission" = search rules in λ rest. rw (name, c.or.ensures, c.eq.ensures) (admission c.args.self c.args.value.now rest)
 
 pub returns-in-since : goal.returns-in-since
-returns-in-since c = let name : c.args.name.now ≡ codes "since" = search rules in λ rest. rw (name, c.or-in-since.ensures, c.is_long_decimal.ensures, c.as_bytes.ensures.value) (since c.args.self c.args.value.now rest)
+returns-in-since c = let name : c.args.name.now ≡ codes "since" = search rules in λ rest. rw (name, c.or-in-since.ensures, c.long_decimal.ensures, c.as_bytes.ensures.value) (since c.args.self c.args.value.now rest)
 
 pub returns-in-watch : goal.returns-in-watch
 returns-in-watch c = let name : c.args.name.now ≡ codes "watch" = search rules in λ rest. rw (name, c.or-in-watch.ensures, c.is_filled.ensures) (watch c.args.self c.args.value.now rest)
