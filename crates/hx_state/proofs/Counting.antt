@@ -4,7 +4,7 @@
 --     agrees_named     objects with which indexes agree have names that can be counted
 --     small_legal      a legal object isn't too large
 --     is_part          the numbers have those of what is found
---     valid_agrees     objects with which indexes agree are valid
+--     valid_agrees     objects with which indexes agree are valid, with a window of their run
 --     counted          the numbers after a write
 use Rattle.std.proofs.Common.{◌≡◌, ◌≤◌, ◌+◌, ℕ, Bool, true, false, not, nat_lt, List, [], ◌∷◌, None, Some, Option, refl, ap, subst, arith, sum_by, ltb-false, length}
 use Rattle.std.specs.Prelude.{if◌then◌else◌}
@@ -19,7 +19,8 @@ use Rattle.hx_model.specs.Forest.{Forest}
 use Rattle.hx_model.specs.Limits.{part_of, counted_one, counted_size, names_in, objects_in, bytes_in}
 use Rattle.hx_model.specs.Serving.{IsServed}
 use Rattle.hx_model.specs.State.{State, Objects, object_at, ascends, after_writes}
-use Rattle.hx_model.specs.Valid.{IsStored, IsValid}
+use Rattle.hx_model.specs.Valid.{IsStored, IsRecent, IsValid}
+use Rattle.hx_model.specs.Windows.{WindowView, opened}
 use Rattle.hx_model.specs.declared.config.RunConfig.{RunConfig}
 use Rattle.hx_model.specs.declared.key.Write.{Write}
 use Rattle.hx_model.specs.declared.key.Write.TheVariants.{Put, Cut}
@@ -31,6 +32,7 @@ use Rattle.hx_state.specs.Counting.{Counts, IsPart, counts_of, come, gone}
 use Rattle.hx_state.specs.StateView.{StateView, Agrees, state_in}
 use Rattle.hx_state.specs.declared.limits.LimitCounts.{LimitCounts}
 use Rattle.hx_state.specs.declared.names.NameChange.{NameChange}
+use Rattle.hx_state.proofs.Telling.{recent_opened}
 
 -- ---- stored objects
 
@@ -48,15 +50,15 @@ module _ (config : RunConfig) (objects : Objects) (last : ℕ) (counts : LimitCo
   pub agrees_served : AllByRecursion IsServed objects
   agrees_served = all_served last objects agrees.stored
 
-  -- objects with which indexes agree are valid
-  pub valid_agrees : IsValid (record { objects = objects; last = last; config = config })
-  valid_agrees = record { in_order = agrees.in_order; stored = agrees.stored; housed = agrees.housed; fits = agrees.fits }
+  -- objects with which indexes agree are valid, with a window of their run
+  pub valid_agrees : (window : WindowView) → IsRecent last window → IsValid (state_in config objects last window)
+  valid_agrees window recent = record { in_order = agrees.in_order; stored = agrees.stored; housed = agrees.housed; fits = agrees.fits; recent = recent }
 
   pub agrees_named : AreNamed objects
-  agrees_named = named_valid _ valid_agrees
+  agrees_named = named_valid _ (valid_agrees (opened last) (recent_opened last))
 
 -- the agreement of what is inside, as it is seen
-pub agrees_seen : {config : RunConfig} {objects : Objects} {last : ℕ} {staged : List Write} {counts : LimitCounts} {nodes owners : Forest} {seen : StateView} → record { state = state_in config objects last; staged = staged } ≡ seen → Agrees config objects last counts nodes owners
+pub agrees_seen : {config : RunConfig} {objects : Objects} {last : ℕ} {window : WindowView} {staged : List Write} {counts : LimitCounts} {nodes owners : Forest} {seen : StateView} → record { state = state_in config objects last window; staged = staged } ≡ seen → Agrees config objects last counts nodes owners
     → Agrees seen.state.config seen.state.objects seen.state.last counts nodes owners
 agrees_seen {counts = counts} {nodes = nodes} {owners = owners} same agrees = subst (λ (v : StateView). Agrees v.state.config v.state.objects v.state.last counts nodes owners) same agrees
 

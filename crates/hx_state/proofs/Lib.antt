@@ -5,7 +5,9 @@ pub mod Owners
 pub mod Apart
 pub mod NameCounts
 pub mod Alone
+pub mod Telling
 pub mod Staging
+pub mod Applying
 pub mod Loading
 pub mod Seen
 pub mod Owned

@@ -7,7 +7,7 @@
 --     may_stage                 what is counted of the subtrees may be staged
 --     indexed_staged            the indexes where they are staged
 use Rattle.std.proofs.Common.{◌≡◌, ◌≢◌, ◌<◌, ◌≤◌, ◌+◌, ℕ, Bool, true, false, List, [], ◌∷◌, ◌++◌, length, take, slice_index_or, None, Some, Option, refl, sym, ap, subst, ◌∙◌, arith, IfSome}
-use Rattle.std.specs.Prelude.{Result, Ok, Err, OnOk, OnErr, if◌then◌else◌, option_and_then}
+use Rattle.std.specs.Prelude.{if◌then◌else◌, option_and_then}
 use Rattle.std.specs.List.{AllByRecursion}
 use Rattle.std.proofs.lemmas.List.{take_more}
 use Rattle.hx_object.specs.Sizes.{size_of, greatest_size}
@@ -18,11 +18,12 @@ use Rattle.hx_forest.specs.declared.change.Change.TheVariants.{Add}
 use Rattle.hx_model.specs.First.{or_else}
 use Rattle.hx_model.specs.Forest.{Forest, is_in}
 use Rattle.hx_model.specs.Limits.{is_namespace, is_hierarchy}
-use Rattle.hx_model.specs.State.{State, Objects, ascends, object_at, home_in, after_writes, state_after}
+use Rattle.hx_model.specs.State.{State, Objects, ascends, object_at, home_in, after_writes, events_of, state_after}
 use Rattle.hx_model.specs.Subnamespaces.{owners_in, owners_of}
 use Rattle.hx_model.specs.Tree.{subnamespace_parent, named_parent, is_terminating, forest_in, forest_of}
 use Rattle.hx_model.specs.Serving.{IsServed}
-use Rattle.hx_model.specs.Valid.{IsValid, AreHoused}
+use Rattle.hx_model.specs.Valid.{IsValid, IsRecent, AreHoused}
+use Rattle.hx_model.specs.Windows.{most_events, with_events}
 use Rattle.hx_model.specs.Writes.{HasPlace, KeepsItsPlace, MayWrite, MayWriteAll}
 use Rattle.hx_model.specs.declared.config.RunConfig.{RunConfig}
 use Rattle.hx_model.specs.declared.key.Write.{Write}
@@ -30,6 +31,7 @@ use Rattle.hx_model.specs.declared.key.Write.TheVariants.{Put, Cut}
 use Rattle.hx_model.proofs.Naming.{AreNamed}
 use Rattle.hx_model.proofs.Objects.{ascends-put, ascends-cut}
 use Rattle.hx_model.proofs.Planting.{namespace_is_homed}
+use Rattle.hx_model.proofs.Happening.{recent_after}
 use Rattle.hx_model.proofs.Writes.{valid_after}
 use Rattle.hx_model.proofs.Storing.{All-put, All-cut}
 use Rattle.hx_quota.specs.SubtreeUsage.{UsageView, IsCounted, MayStage}
@@ -38,6 +40,7 @@ use Rattle.hx_store.specs.Changes.{id_of, object_of}
 use Rattle.hx_store.specs.Kept.{StoreView}
 use Rattle.hx_state.specs.Counting.{Counts, IsPart, counts_of, gone}
 use Rattle.hx_state.specs.Planning.{IsPlan, LeadTo, MayMake, MayMakeAll, planting, moving, tree_change, owning, owner_change, listed}
+use Rattle.hx_state.specs.Happening.{LogView}
 use Rattle.hx_state.specs.StateView.{Agrees, IsIndexed, state_in}
 use Rattle.hx_state.specs.declared.limits.LimitCounts.{LimitCounts}
 use Rattle.hx_state.proofs.Apart.{DontTouch, after_writes-append, all_map, may_at, found_own, found_home, found_config}
@@ -176,9 +179,9 @@ module _ (s : State) (ws : List Write) (counts counts' : LimitCounts) (nodes own
   grown_owners = ap (changed_by_all own) agrees.owned ∙ plan.owned.gives
 
   -- the agreement after the writes of one commit
-  agrees_then : MayWriteAll s ws → ws ≢ [] → Agrees s.config (after_writes ws s.objects) (s.last + 1) counts' (changed_by_all tree nodes) (changed_by_all own owners)
-  agrees_then may some =
-      let valid : IsValid (record { objects = after_writes ws s.objects; last = s.last + 1; config = s.config }) = next ws some (valid_after s ws (valid_agrees s.config s.objects s.last counts nodes owners agrees) may) in
+  agrees_then : IsRecent s.last s.window → MayWriteAll s ws → ws ≢ [] → Agrees s.config (after_writes ws s.objects) (s.last + 1) counts' (changed_by_all tree nodes) (changed_by_all own owners)
+  agrees_then recent may some =
+      let valid : IsValid (next_state ws) = next ws some (valid_after s ws (valid_agrees s.config s.objects s.last counts nodes owners agrees s.window recent) may) in
       record {
         in_order = valid.in_order;
         stored = valid.stored;
@@ -189,7 +192,10 @@ module _ (s : State) (ws : List Write) (counts counts' : LimitCounts) (nodes own
         owned = grown_owners;
       }
     where
-      next : (ws : List Write) → ws ≢ [] → IsValid (state_after s ws) → IsValid (record { objects = after_writes ws s.objects; last = s.last + 1; config = s.config })
+      next_state : List Write → State
+      next_state ws = state_in s.config (after_writes ws s.objects) (s.last + 1) (with_events most_events s.window (events_of s ws))
+
+      next : (ws : List Write) → ws ≢ [] → IsValid (state_after s ws) → IsValid (next_state ws)
       next [] some valid = absurd (some refl)
       next (w ∷ ws) some valid = valid
 
@@ -202,23 +208,25 @@ may_stage s ws counts counts' nodes owners tree own agrees plan housed = record 
   housed = none_outside (changed_by_all tree nodes) (after_writes ws s.objects) (lie_there (changed_by_all tree nodes) s.config.excluded (after_writes ws s.objects) (grown_tree s ws counts counts' nodes owners tree own agrees plan) housed);
 }
 
--- the indexes where they are staged, or nothing is
-pub indexed_staged : {A E : Type 0} (result : Result A E) (config : RunConfig) (store store' : StoreView) (counts next next' : LimitCounts) (forest forest' owners owners' : ForestView) (usage usage' : UsageView) (tree own : List TreeChange) (s : State) (ws : List Write)
-    → IsIndexed config store counts next forest owners usage → state_in config store.objects store.version ≡ s → MayWriteAll s ws → IsPlan s ws next' tree own
-    → store'.objects ≡ store.objects → store'.version ≡ store.version → OnOk result (store'.staged ≡ ws) → OnErr result (store'.staged ≡ []) → forest'.nodes ≡ forest.nodes → forest'.staged ≡ tree → owners'.nodes ≡ owners.nodes → owners'.staged ≡ own
-    → usage'.now ≡ usage.now → IsCounted (after_writes ws store.objects) (changed_by_all tree forest.nodes) usage'.next → IsIndexed config store' counts next' forest' owners' usage'
-indexed_staged result config store store' counts next next' forest forest' owners owners' usage usage' tree own s ws indexed same may plan objects version ok err nodes staged nodes' staged' counted counted' =
-    let t = state_in config store.objects store.version in
+-- the indexes where they are staged
+pub indexed_staged : (config : RunConfig) (store store' : StoreView) (counts next next' : LimitCounts) (forest forest' owners owners' : ForestView) (usage usage' : UsageView) (log log' : LogView) (tree own : List TreeChange) (s : State) (ws : List Write)
+    → IsIndexed config store counts next forest owners usage log → state_in config store.objects store.version log.window ≡ s → MayWriteAll s ws → IsPlan s ws next' tree own
+    → store'.objects ≡ store.objects → store'.version ≡ store.version → store'.staged ≡ ws → forest'.nodes ≡ forest.nodes → forest'.staged ≡ tree → owners'.nodes ≡ owners.nodes → owners'.staged ≡ own
+    → usage'.now ≡ usage.now → IsCounted (after_writes ws store.objects) (changed_by_all tree forest.nodes) usage'.next → log'.window ≡ log.window → log'.staged ≡ events_of s ws → IsIndexed config store' counts next' forest' owners' usage' log'
+indexed_staged config store store' counts next next' forest forest' owners owners' usage usage' log log' tree own s ws indexed same may plan objects version is nodes staged nodes' staged' counted counted' window events =
+    let t = state_in config store.objects store.version log.window in
+    let may_here : MayWriteAll t ws = subst (λ s. MayWriteAll s ws) (sym same) may in
     let ready : ws ≢ [] → Agrees config (after_writes ws store.objects) (store.version + 1) next' (changed_by_all tree forest.nodes) (changed_by_all own owners.nodes) =
-    agrees_then t ws counts next' forest.nodes owners.nodes tree own indexed.now (subst (λ s. IsPlan s ws next' tree own) (sym same) plan) (subst (λ s. MayWriteAll s ws) (sym same) may) in
+    agrees_then t ws counts next' forest.nodes owners.nodes tree own indexed.now (subst (λ s. IsPlan s ws next' tree own) (sym same) plan) indexed.recent may_here in
+    let tells : log'.staged ≡ events_of t ws = events ∙ ap (λ s. events_of s ws) (sym same) in
+    let recent : IsRecent (store.version + 1) (with_events most_events log.window (events_of t ws)) =
+    recent_after t ws (valid_agrees config store.objects store.version counts forest.nodes owners.nodes indexed.now log.window indexed.recent) may_here.each in
     record {
       now = rw (objects, version, nodes, nodes') indexed.now;
-      then = λ some. let is = staged_by result ok err some in rw (objects, version, nodes, staged, nodes', staged', is) (ready (subst (λ v. v ≢ []) is some));
+      then = λ some. rw (objects, version, nodes, staged, nodes', staged', is) (ready (subst (λ v. v ≢ []) is some));
       counted = rw (objects, nodes, counted) indexed.counted;
-      counted_then = λ some. let is = staged_by result ok err some in rw (objects, nodes, staged, is) counted';
+      counted_then = λ some. rw (objects, nodes, staged, is) counted';
+      recent = rw (version, window) indexed.recent;
+      recent_then = λ some. rw (version, window, tells) recent;
+      told = tells ∙ (λ i. events_of (state_in config (sym objects i) (sym version i) (sym window i)) (sym is i));
     }
-  where
-    -- where writes are staged, they are these
-    staged_by : {A E : Type 0} (result : Result A E) → OnOk result (store'.staged ≡ ws) → OnErr result (store'.staged ≡ []) → store'.staged ≢ [] → store'.staged ≡ ws
-    staged_by (Ok x) is err some = is
-    staged_by (Err error) ok none some = absurd (some none)

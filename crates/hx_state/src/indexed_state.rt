@@ -1,8 +1,8 @@
 // A state with its indexes.
-ghost use Rattle.std.specs.Prelude.{◌≡◌, ◌≤◌, ℕ, List, [], OnOk, OnErr, option_map};
+ghost use Rattle.std.specs.Prelude.{◌≡◌, ◌≤◌, ℕ, List, [], IfOk, OnOk, OnErr, option_map};
 ghost use Rattle.hx_model.specs.Forest.{node_of};
 ghost use Rattle.hx_model.specs.Limits.{greatest_version};
-ghost use Rattle.hx_model.specs.State.{namespace_id, object_at, opening_state, state_after};
+ghost use Rattle.hx_model.specs.State.{events_of, namespace_id, object_at, opening_state, state_after};
 ghost use Rattle.hx_model.specs.Subnamespaces.{owners_of};
 ghost use Rattle.hx_model.specs.Tree.{forest_of, subnamespace_parent};
 ghost use Rattle.hx_model.specs.Valid.{IsValid};
@@ -10,20 +10,22 @@ ghost use Rattle.hx_model.specs.Writes.{MayWriteAll};
 ghost use Rattle.hx_model.specs.declared.node.Node.{Node as node};
 ghost use Rattle.hx_state.specs.Counting.{counts_of};
 
+use crate::event_log::EventLog;
 use crate::limits::LimitCounts;
 use hx_forest::Forest;
-use hx_model::RunConfig;
+use hx_model::{Event, RunConfig};
 use hx_object::{NoMemory, Text};
 use hx_quota::Usage;
 use hx_store::{Change, Store};
+use hx_watch::Window;
 use std::alloc::Global;
 use std::hash::RandomState;
 use std::marker::Model;
 
-/// The objects of a state, with their trees and their running numbers.
+/// The objects of a state, with their trees, their running numbers and the window of the latest events.
 ///
 /// Writes are staged first, which makes room for all that they change. They are made later without taking memory, or given up.
-/// What is looked up is in lookups.rt, what writes change beside the objects in plan.rt, which names come and go in names.rt, and what is taken in at a start in load.rt.
+/// What is looked up is in lookups.rt, what writes change beside the objects in plan.rt, which names come and go in names.rt, what is told of writes in events.rt, and what is taken in at a start in load.rt.
 pub struct IndexedState {
     pub(crate) store: Store,
     pub(crate) forest: Forest,
@@ -34,6 +36,8 @@ pub struct IndexedState {
     pub(crate) next: LimitCounts,
     /// What the objects of subtrees are charged.
     pub(crate) usage: Usage,
+    /// The latest events, and those of the staged writes.
+    pub(crate) log: EventLog,
     pub(crate) config: RunConfig,
 }
 
@@ -46,6 +50,7 @@ impl Drop for IndexedState {
             counts: _,
             next: _,
             usage: _,
+            log: _,
             config: _,
         } = self;
     }
@@ -58,27 +63,34 @@ impl Model for IndexedState {
 
     ghost coded = { state_view_code };
 
-    ghost view = { λ s. record { state = state_in s.config s.store.objects s.store.version; staged = s.store.staged } };
+    ghost view = { λ s. record { state = state_in s.config s.store.objects s.store.version s.log.window; staged = s.store.staged } };
 
-    ghost invariant = { λ s. IsIndexed s.config s.store s.counts s.next s.forest s.owners s.usage };
+    ghost invariant = { λ s. IsIndexed s.config s.store s.counts s.next s.forest s.owners s.usage s.log };
 }
 
 impl IndexedState {
-    /// A state without objects, whose maps hash with these keys. It takes no memory.
-    pub fn new(alloc: Global, version: u64, config: RunConfig, keys: RandomState) -> IndexedState
+    /// A state without objects, whose maps hash with these keys. It takes the memory of the window.
+    pub fn new(
+        alloc: Global,
+        version: u64,
+        config: RunConfig,
+        keys: RandomState,
+    ) -> Result<IndexedState, NoMemory>
         requires { version ≤ greatest_version }
-        ensures state { result.state ≡ opening_state config version }
-        ensures staged { result.staged ≡ [] }
+        ensures state { IfOk result (λ s. s.state ≡ opening_state config version) }
+        ensures staged { IfOk result (λ s. s.staged ≡ []) }
     {
-        IndexedState {
+        let log = EventLog::new(alloc, version)?;
+        Ok(IndexedState {
             store: Store::new(alloc, version, keys),
             forest: Forest::new(alloc, keys),
             owners: Forest::new(alloc, keys),
             counts: LimitCounts::none(),
             next: LimitCounts::none(),
             usage: Usage::new(alloc, keys),
+            log,
             config,
-        }
+        })
     }
 
     /// The version of the last write.
@@ -125,6 +137,13 @@ impl IndexedState {
         &self.config
     }
 
+    /// The window of the latest events.
+    pub fn window(&self) -> &Window
+        ensures { result.now ≡ self.now.state.window }
+    {
+        self.log.window()
+    }
+
     /// What the state takes its memory from.
     pub fn allocator(&self) -> Global {
         self.store.allocator()
@@ -135,6 +154,13 @@ impl IndexedState {
         ensures { result.now ≡ self.now.staged }
     {
         self.store.staged()
+    }
+
+    /// The events of the staged writes.
+    pub fn staged_events(&self) -> &[Event]
+        ensures { result.now ≡ events_of self.now.state self.now.staged }
+    {
+        self.log.staged()
     }
 
     /// A theorem, not to be called for what it does: the state is valid.
@@ -160,6 +186,7 @@ impl IndexedState {
         ensures none { OnErr result (self.new.staged ≡ []) }
     {
         self.discard();
+        let events = self.events_of(writes.as_slice())?;
         let plan = self.plan(writes.as_slice())?;
         self.usage.stage(
             &self.store,
@@ -170,7 +197,9 @@ impl IndexedState {
         self.forest.stage(plan.tree)?;
         self.owners.stage(plan.owners)?;
         self.next = plan.counts;
-        self.store.stage(writes)
+        self.store.stage(writes)?;
+        self.log.stage(events);
+        Ok(())
     }
 
     /// Makes the staged writes, all with the next version. It takes no memory.
@@ -187,6 +216,7 @@ impl IndexedState {
         self.forest.apply();
         self.owners.apply();
         self.usage.apply(&self.forest);
+        self.log.apply();
         self.counts = self.next;
     }
 
@@ -199,6 +229,7 @@ impl IndexedState {
         self.forest.discard();
         self.owners.discard();
         self.usage.discard();
+        self.log.discard();
     }
 }
 

@@ -72,7 +72,7 @@ impl IndexedState {
     }
 
     /// The object that is there, of the identity of a write.
-    fn object_before(&self, write: &Change) -> Option<&Object>
+    pub(crate) fn object_before(&self, write: &Change) -> Option<&Object>
         ensures { option_copied result ≡ object_at self.now.state.objects (id_of write.now) }
     {
         self.object(write.id())
