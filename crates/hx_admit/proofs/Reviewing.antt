@@ -3,7 +3,9 @@
 --     passed_on          an error that `?` passes on
 --     served_found       what is found is served
 --     listed_legal       what is listed is legal
---     passes_get, passes_list, passes_document, passes_unchanged    asks that write nothing
+--     passes_get, passes_list, passes_document, passes_events, passes_unchanged    asks that write nothing
+--     since_legal        events are legal
+--     refused_over, refused_under    the events that aren't there
 --     may_none, may_one  no write, and one, may be made
 --     served_replacement     what a PUT gives is served
 --     found_replacement      the object that is there has its identity
@@ -11,7 +13,7 @@
 --     may_put, may_replace      an object with the next version, and that of a PUT, may be put
 --     passes_create, passes_replace     asks of one write
 --     passes_delete      a DELETE
-use Rattle.std.proofs.Common.{◌≡◌, ◌<◌, ◌+◌, true≢false, ℕ, Bool, true, false, cond, filter, List, [], ◌∷◌, None, Some, Option, refl, sym, ap, subst, ◌∙◌, inl, inr, ◌⊎◌, nat_lt, le-ltb, arith}
+use Rattle.std.proofs.Common.{◌≡◌, ◌<◌, ◌+◌, true≢false, ℕ, Bool, true, false, cond, filter, List, [], ◌∷◌, None, Some, Option, refl, sym, ap, subst, ◌∙◌, inl, inr, ◌⊎◌, nat_lt, ◌≤◌, le-ltb, lt-ltb, codes, arith}
 use Rattle.std.specs.List.{AllByRecursion, IsDistinct}
 use Rattle.std.proofs.lemmas.Bool.{not-true}
 use Rattle.std.specs.Prelude.{Result, Ok, Err, IfErr, IsErrAnd}
@@ -31,23 +33,26 @@ use Rattle.hx_model.specs.Serving.{IsServed, IsKept, IsLegalAnswer, is_given, is
 use Rattle.hx_model.specs.State.{State, Objects, object_at, has_home, with_version, state_after}
 use Rattle.hx_model.specs.Tree.{is_terminating}
 use Rattle.hx_model.specs.Valid.{IsStored, IsValid}
+use Rattle.hx_model.specs.Windows.{events_since, is_over}
+use Rattle.hx_model.specs.declared.event.Event.{Event}
 use Rattle.hx_select.specs.Selectors.{selects}
 use Rattle.hx_select.specs.declared.selector.Selector.{Selector}
 use Rattle.hx_model.specs.declared.ask.Ask.{Ask}
-use Rattle.hx_model.specs.declared.ask.Ask.TheVariants.{Get, List as ListOf, Create, Replace, Delete, Document as DocumentOf}
+use Rattle.hx_model.specs.declared.ask.Ask.TheVariants.{Get, List as ListOf, Create, Replace, Delete, Document as DocumentOf, Events as EventsSince}
 use Rattle.hx_model.specs.declared.ask.Answer.{Answer}
-use Rattle.hx_model.specs.declared.ask.Answer.TheVariants.{One, Many, Deleted, Document as Told}
+use Rattle.hx_model.specs.declared.ask.Answer.TheVariants.{One, Many, Deleted, Document as Told, Events as Happened}
 use Rattle.hx_model.specs.declared.key.Write.{Write}
 use Rattle.hx_model.specs.declared.key.Write.TheVariants.{Put}
 use Rattle.hx_model.specs.declared.refusal.Refusal.{Refusal}
-use Rattle.hx_model.specs.declared.refusal.Refusal.TheVariants.{NoMemory}
+use Rattle.hx_model.specs.declared.refusal.Refusal.TheVariants.{BadQuery, Expired, NoMemory}
+use Rattle.hx_model.proofs.Lists.{all_filtered, all_more}
 use Rattle.hx_model.proofs.Legality.{legal_with_version, legal_replaced, status_legal}
 use Rattle.hx_model.proofs.Objects.{found_id}
 use Rattle.hx_model.proofs.Planting.{terminating-replaced}
 use Rattle.hx_model.proofs.Storing.{All-found}
 use Rattle.hx_admit.specs.Inside.{IsRefusal, IsReplacement, IsDeletion, IsReviewed}
 use Rattle.hx_model.specs.Denials.{refusal_by}
-use Rattle.hx_admit.specs.Reviewing.{Passes}
+use Rattle.hx_admit.specs.Reviewing.{AreKept, Passes}
 use Rattle.hx_model.specs.Writes.{MayPut, MayWrite, MayWriteAll, HasPlace, id_written}
 use Rattle.hx_model.specs.declared.denial.Denial.{Denial}
 use Rattle.hx_state.proofs.Counting.{valid_served}
@@ -107,6 +112,26 @@ pub passes_document : (s : State) (document : Document) (writes : List Write) (s
 passes_document s document writes says none is =
     subst (λ ws. Passes s (DocumentOf document) ws says) (sym none) (subst (λ a. Passes s (DocumentOf document) [] a) (sym is)
     (record { passes = rw (not_less (bytes_in s.objects)) refl; changes = refl; says = refl; legal = tt }))
+
+-- the events since a version are legal
+pub since_legal : (s : State) → IsValid s → (since : ℕ) → AllByRecursion (λ (e : Event). IsLegal e.object) (events_since since s.window.events)
+since_legal s valid since =
+    let legal = λ (e : Event). IsLegal e.object in
+    all_filtered legal (is_over since) s.window.events (all_more legal (λ e. is_over since e ≡ true → legal e) s.window.events (λ e it _. it) valid.recent.legal)
+
+pub passes_events : (s : State) (since : ℕ) (writes : List Write) (says : Answer) → AreKept s since → AllByRecursion (λ (e : Event). IsLegal e.object) (events_since since s.window.events) → writes ≡ [] → says ≡ Happened (events_since since s.window.events) s.last → Passes s (EventsSince since) writes says
+passes_events s since writes says there legal none is =
+    subst (λ ws. Passes s (EventsSince since) ws says) (sym none) (subst (λ a. Passes s (EventsSince since) [] a) (sym is)
+    (record { passes = rw (le-ltb s.last since there.known, le-ltb since s.window.floor there.kept, not_less (bytes_in s.objects)) refl; changes = refl; says = refl; legal = legal }))
+
+-- a version over the last one
+pub refused_over : (s : State) (since : ℕ) (refusal : Refusal) → s.last < since → (refusal ≡ NoMemory) ⊎ (refusal ≡ BadQuery (codes "since")) → IsRefusal s (EventsSince since) refusal
+refused_over s since refusal over (inl is) = inl is
+refused_over s since refusal over (inr is) = inr ((rw (lt-ltb s.last since over) refl) ∙ ap Some (sym is))
+
+-- a version under the floor
+pub refused_under : (s : State) (since floor : ℕ) → since ≤ s.last → floor ≡ s.window.floor → since < s.window.floor → IsRefusal s (EventsSince since) (Expired floor)
+refused_under s since floor known is under = inr ((rw (le-ltb s.last since known, lt-ltb since s.window.floor under) refl) ∙ ap (λ f. Some (Expired f)) (sym is))
 
 -- the object that a PUT finds, and the one that it gives
 legal_given : (s : State) (x old next : Object) (expected : Option ℕ) (skip : Bool) → IsReplacement s x old expected skip next → IsLegal (replaced_by old x)

@@ -1,13 +1,14 @@
 // What a request writes and is answered.
-ghost use Rattle.std.specs.Prelude.{◌≡◌, ◌⊎◌, ◌+◌, ◌<◌, ℕ, Bool, [], true, false, Some, Option, option_copied, IfOk, IfErr, OnOk};
+ghost use Rattle.std.specs.Prelude.{◌≡◌, ◌⊎◌, ◌+◌, ◌<◌, ℕ, Bool, [], true, false, Some, Option, codes, option_copied, IfOk, IfErr, OnOk};
 ghost use Rattle.hx_object.specs.declared.object.Object.{Object as object_of};
 ghost use Rattle.hx_model.specs.Answers.{refusal_of, replaced_by as put_over};
 ghost use Rattle.hx_model.specs.Limits.{greatest_version};
 ghost use Rattle.hx_model.specs.Serving.{IsServed, IsServedAsk, is_given};
 ghost use Rattle.hx_model.specs.State.{object_at, with_version, state_after};
+ghost use Rattle.hx_model.specs.Windows.{events_since};
 ghost use Rattle.hx_model.specs.declared.key.Write.TheVariants as write_of;
 ghost use Rattle.hx_admit.specs.Inside.{IsRefusal, IsCreation, IsReplacement, IsReviewed, IsDeletion};
-ghost use Rattle.hx_admit.specs.Reviewing.{Passes};
+ghost use Rattle.hx_admit.specs.Reviewing.{AreKept, Passes};
 ghost use Rattle.hx_model.specs.Writes.{MayWriteAll};
 
 use crate::checks::{
@@ -19,11 +20,13 @@ use crate::removal::removal;
 use crate::reviewed::Reviewed;
 use crate::update::replaced_by;
 use hx_discovery::Document;
-use hx_model::{Answer, Ask, Denial, Fields, Refusal};
+use hx_model::{Answer, Ask, Denial, Event, Fields, Refusal};
 use hx_object::{Id, Kind, List, NoMemory, Object, Shared, Text};
 use hx_select::{Matcher, Selector};
 use hx_state::IndexedState;
 use hx_store::Change;
+use hx_watch::SinceFault;
+use std::alloc::Global;
 
 /// Reviews a request: the first refusal that holds, or what it writes and is answered. Nothing is changed yet.
 pub fn review(state: &IndexedState, ask: Ask) -> Result<Reviewed, Refusal>
@@ -48,6 +51,7 @@ pub fn review(state: &IndexedState, ask: Ask) -> Result<Reviewed, Refusal>
         } => review_replace(state, object, expected, skip),
         Ask::Delete { id, skip } => review_delete(state, &id, skip),
         Ask::Document(document) => Ok(review_document(state, document)),
+        Ask::Events { since } => review_events(state, since),
     }
 }
 
@@ -95,6 +99,48 @@ fn review_document(state: &IndexedState, document: Document) -> Reviewed
     ensures may { MayWriteAll state.now.state result.writes.items }
 {
     unchanged(state, Answer::Document(document))
+}
+
+fn review_events(state: &IndexedState, since: u64) -> Result<Reviewed, Refusal>
+    ensures refused { IfErr result (IsRefusal state.now.state (Ask.Events since)) }
+    ensures passes { IfOk result (λ r. Passes state.now.state (Ask.Events since) r.writes.items r.answer) }
+    ensures may { IfOk result (λ r. MayWriteAll state.now.state r.writes.items) }
+{
+    state.law_of_validity();
+    let events = events_since(state, since)?;
+    Ok(unchanged(
+        state,
+        Answer::Events {
+            events,
+            version: state.version(),
+        },
+    ))
+}
+
+/// The events of all commits after a version, where it isn't over the last one and all of them are kept.
+fn events_since(state: &IndexedState, since: u64) -> Result<List<Event>, Refusal>
+    ensures refused { IfErr result (IsRefusal state.now.state (Ask.Events since)) }
+    ensures there { OnOk result (AreKept state.now.state since) }
+    ensures events { IfOk result (λ events. events ≡ events_since since state.now.state.window.events) }
+{
+    if since > state.version() {
+        return Err(over_the_last(state.allocator()));
+    }
+    match state.window().since(since) {
+        Ok(events) => Ok(events),
+        Err(SinceFault::Expired { floor }) => Err(Refusal::Expired { floor }),
+        Err(SinceFault::NoMemory) => Err(Refusal::NoMemory),
+    }
+}
+
+/// The refusal of a version over the last one.
+fn over_the_last(alloc: Global) -> Refusal
+    ensures { (result ≡ Refusal.NoMemory) ⊎ (result ≡ Refusal.BadQuery (codes "since")) }
+{
+    match Text::of(alloc, "since") {
+        Ok(name) => Refusal::BadQuery { name },
+        Err(_) => Refusal::NoMemory,
+    }
 }
 
 fn review_create(state: &IndexedState, object: Object, skip: bool) -> Result<Reviewed, Refusal>

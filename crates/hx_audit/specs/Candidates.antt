@@ -25,6 +25,7 @@ use Rattle.hx_model.specs.Moves.{copied_kinds, mode_at}
 use Rattle.hx_model.specs.Propagation.{as_list, id_in, is_source, source_at, sources_along}
 use Rattle.hx_model.specs.State.{State, Objects, object_at, namespace_id}
 use Rattle.hx_model.specs.TreeLabels.{is_open}
+use Rattle.hx_model.specs.Windows.{opened}
 use Rattle.hx_model.specs.declared.key.Key.{Key}
 use Rattle.hx_model.specs.declared.key.Key.TheVariants as key
 use Rattle.hx_reconcile.specs.Briefs.{facts_of, planned}
@@ -33,7 +34,7 @@ use Rattle.hx_reconcile.specs.declared.brief.Facts.TheVariants as facts
 use Rattle.hx_survey.specs.Surveyed.{Surveyed, tree_of}
 
 abbrev pub state_of : Surveyed → State
-state_of v = record { objects = v.objects; last = 0; config = record { excluded = v.excluded; allow_skip = false } }
+state_of v = record { objects = v.objects; last = 0; config = record { excluded = v.excluded; allow_skip = false }; window = opened 0 }
 
 -- ---- one key
 

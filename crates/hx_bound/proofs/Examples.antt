@@ -12,6 +12,7 @@ use Rattle.hx_object.specs.declared.object.Payload.TheVariants.{Anchor, Hierarch
 use Rattle.hx_model.specs.State.{State, Objects, namespace_id, with_version}
 use Rattle.hx_model.specs.Texts.{new_namespace}
 use Rattle.hx_model.specs.Tree.{forest_of, hierarchy_id}
+use Rattle.hx_model.specs.Windows.{opened}
 use Rattle.hx_model.specs.declared.key.Key.TheVariants as key
 use Rattle.hx_bound.specs.Bound.{key_count, left_of, most_left, names_asked, pairs_of, turn_bound}
 use Rattle.hx_bound.specs.Rank.{precedes}
@@ -47,7 +48,7 @@ abbrev role : List ℕ → Object
 role ns = holds Role ns (codes "r") plain
 
 abbrev state : Objects → State
-state objects = record { objects = objects; last = 1; config = record { excluded = []; allow_skip = true } }
+state objects = record { objects = objects; last = 1; config = record { excluded = []; allow_skip = true }; window = opened 0 }
 
 -- ---- the bound
 

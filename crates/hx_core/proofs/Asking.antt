@@ -15,10 +15,10 @@ use Rattle.hx_model.specs.Answers.{refusal_of, answer_to, writes_of, success, an
 use Rattle.hx_model.specs.Keys.{may_mark}
 use Rattle.hx_model.specs.Machine.{World, Entry, Request, LostRequest, NoMemory, KeeperFault, broken_at, writes_if, writes_made}
 use Rattle.hx_model.specs.Requests.{request_entry}
-use Rattle.hx_model.specs.State.{State, state_after, object_at}
+use Rattle.hx_model.specs.State.{State, events_of, state_after, object_at}
 use Rattle.hx_model.specs.Valid.{IsValid}
 use Rattle.hx_model.specs.declared.ask.Ask.{Ask}
-use Rattle.hx_model.specs.declared.ask.Ask.TheVariants.{Get, List as ListOf, Create, Replace, Delete, Document as DocumentOf}
+use Rattle.hx_model.specs.declared.ask.Ask.TheVariants.{Get, List as ListOf, Create, Replace, Delete, Document as DocumentOf, Events as EventsSince}
 use Rattle.hx_model.specs.declared.ask.Answer.{Answer}
 use Rattle.hx_model.specs.declared.ask.Answer.TheVariants.{Refused as Refusing}
 use Rattle.hx_model.specs.declared.key.Key.{Key}
@@ -52,6 +52,7 @@ success_entry s t (Create x skip) = shown_entry (Create x skip) (object_at t.obj
 success_entry s t (Replace x expected skip) = shown_entry (Replace x expected skip) (object_at t.objects x.id) false x.id
 success_entry s t (Delete id skip) = refl
 success_entry s t (DocumentOf document) = refl
+success_entry s t (EventsSince version) = refl
 
 pub passes_entry : (s : State) (ask : Ask) (ws : List Write) (answer : Answer) → Passes s ask ws answer → request_entry ask answer ≡ Request ask answer
 passes_entry s ask ws answer passes = subst (λ a. request_entry ask a ≡ Request ask a) passes.says (success_entry s (state_after s ws) ask)
@@ -94,10 +95,11 @@ answers_still c ask answer stood own says quiet =
     subst (λ e. Simulates c (e ∷ []) c) (sym own) (enters_still c c (Request ask answer) stood refl refl (λ w stands.
     let here : answer_to w.state ask ≡ (answer, w.state) = subst (λ s. answer_to s ask ≡ (answer, s)) (sym stands.state) says in
     let none : writes_made w.state ask ≡ [] = quiet_made w.state ask (λ changes. quiet (subst (λ s. Mutates s ask) stands.state changes)) in
-    ((sym (ap (λ p. p.0) here), λ changes. absurd (quiet (subst (λ s. Mutates s ask) stands.state changes))), λ i. record w { state = (here i).1; marked = marks_none w (writes_made w.state ask) none i })))
+    ((sym (ap (λ p. p.0) here), λ changes. absurd (quiet (subst (λ s. Mutates s ask) stands.state changes))), λ i. record w { state = (here i).1; marked = marks_none w (writes_made w.state ask) none i }))
+    (λ w stands. ap (events_of w.state) (quiet_made w.state ask (λ changes. quiet (subst (λ s. Mutates s ask) stands.state changes)))))
 
 asks_nothing : (c : ClusterView) (ask : Ask) → HasWorld c → Simulates c (LostRequest ask NoMemory ∷ []) c
-asks_nothing c ask stood = enters_still c c (LostRequest ask NoMemory) stood refl refl (λ w stands. (tt, refl))
+asks_nothing c ask stood = enters_still c c (LostRequest ask NoMemory) stood refl refl (λ w stands. (tt, refl)) (λ w stands. refl)
 
 -- an ask that is refused, or for which no memory was left
 pub asks_refused : (c : ClusterView) (ask : Ask) (refusal : Refusal) → HasWorld c → (refusal ≡ NoRoom) ⊎ (refusal_of c.state ask ≡ Some refusal) → Simulates c (request_entry ask (Refusing refusal) ∷ []) c
@@ -120,7 +122,8 @@ asks_landed old new ask ws answer stood passes landed marked =
     subst (λ e. Simulates old (e ∷ []) new) (sym (passes_entry old.state ask ws answer passes)) (enters_landed old new ws (Request ask answer) stood landed marked refl (λ w stands.
     let here : answer_to w.state ask ≡ (answer, state_after w.state ws) = subst (λ s. answer_to s ask ≡ (answer, state_after s ws)) (sym stands.state) (passes_says old.state ask ws answer passes) in
     let made : writes_made w.state ask ≡ ws = subst (λ s. writes_made s ask ≡ ws) (sym stands.state) (passes_made old.state ask ws answer passes) in
-    ((sym (ap (λ p. p.0) here), λ changes. stands.broken ∙ landed.whole), λ i. record w { state = (here i).1; marked = λ k. w.marked k || may_mark w.state (made i) k })))
+    ((sym (ap (λ p. p.0) here), λ changes. stands.broken ∙ landed.whole), λ i. record w { state = (here i).1; marked = λ k. w.marked k || may_mark w.state (made i) k }))
+    (λ w stands. ap (events_of w.state) (subst (λ s. writes_made s ask ≡ ws) (sym stands.state) (passes_made old.state ask ws answer passes))))
 
 -- an ask that makes writes would change something
 changing : (s : State) (ask : Ask) (ws : List Write) (answer : Answer) → Passes s ask ws answer → ws ≢ [] → Mutates s ask
@@ -132,7 +135,7 @@ asks_failed old new ask ws answer stood passes some failed same =
     enters_failed old new ws (LostRequest ask KeeperFault) stood failed same refl (λ w stands. (
       subst (λ s. Mutates s ask) (sym stands.state) (changing old.state ask ws answer passes some),
       ap (λ vs. broken_at w (state_after w.state vs)) (subst (λ s. writes_of s ask ≡ ws) (sym stands.state) passes.changes),
-    ))
+    )) (λ w stands. refl)
 
 -- an ask whose writes were lost
 pub asks_lost : (old new : ClusterView) (ask : Ask) (ws : List Write) (answer : Answer) (fault : CommitFault) (refusal : Refusal) → HasWorld old → Passes old.state ask ws answer → ws ≢ []

@@ -5,11 +5,13 @@
 --     batched_cut      an identity more is cut
 --     cloned           an identity whose parts are another's
 --     batch_whole      the objects and the identities are those of all writes
+--     shared_next      one event more is shared
 use Rattle.std.proofs.Common.{◌≡◌, ◌<◌, ◌≤◌, ◌+◌, ℕ, List, [], ◌∷◌, ◌++◌, Some, None, refl, sym, ap, ◌∙◌, take, length, slice_index_or}
 use Rattle.std.proofs.lemmas.List.{take_more, take_all, append-nil}
 use Rattle.hx_object.specs.declared.object.Id.{Id}
 use Rattle.hx_object.specs.declared.object.Object.{Object}
 use Rattle.hx_ports.specs.declared.keeper.Batch.{Batch}
+use Rattle.hx_model.specs.declared.event.Event.{Event}
 use Rattle.hx_model.specs.declared.key.Write.{Write}
 use Rattle.hx_model.specs.declared.key.Write.TheVariants.{Put, Cut}
 use Rattle.hx_store.specs.Changes.{id_of, object_of}
@@ -33,9 +35,13 @@ ids_then [] write = refl
 ids_then (Put x ∷ writes) write = ids_then writes write
 ids_then (Cut id ∷ writes) write = ap (λ ids. id ∷ ids) (ids_then writes write)
 
--- the writes up to the next one
-up_to : (writes : List Write) (index : ℕ) (write : Write) → index < length writes → write ≡ slice_index_or writes index write → take (index + 1) writes ≡ take index writes ++ write ∷ []
-up_to writes index write less at = take_more writes index write less ∙ ap (λ w. take index writes ++ w ∷ []) (sym at)
+-- the items up to the next one
+up_to : {A : Type 0} (items : List A) (index : ℕ) (item : A) → index < length items → item ≡ slice_index_or items index item → take (index + 1) items ≡ take index items ++ item ∷ []
+up_to items index item less at = take_more items index item less ∙ ap (λ i. take index items ++ i ∷ []) (sym at)
+
+-- one event more is shared
+pub shared_next : (events : List Event) (index : ℕ) (shared shared' : List Event) (event copy : Event) → shared ≡ take index events → index < length events → event ≡ slice_index_or events index event → copy ≡ event → shared' ≡ shared ++ copy ∷ [] → shared' ≡ take (index + 1) events
+shared_next events index shared shared' event copy old less at is grown = grown ∙ (λ i. old i ++ is i ∷ []) ∙ sym (up_to events index event less at)
 
 more_objects : (writes : List Write) (index : ℕ) (write : Write) → index < length writes → write ≡ slice_index_or writes index write → objects_put (take (index + 1) writes) ≡ objects_put (take index writes) ++ objects_put (write ∷ [])
 more_objects writes index write less at = ap objects_put (up_to writes index write less at) ∙ objects_then (take index writes) write
@@ -73,8 +79,9 @@ batched_cut writes index puts cuts cuts' write id old less at found is grown =
     }
 
 -- the batch of all writes
-pub batch_whole : (writes : List Write) (index version : ℕ) (puts puts' : List Object) (cuts cuts' : List Id) → Batched writes index puts cuts → length writes ≤ index → puts' ≡ puts → cuts' ≡ cuts → ◌≡◌ {A = Batch} (record { version = version; puts = puts'; cuts = cuts' }) (batch_of writes version)
-batch_whole writes index version puts puts' cuts cuts' done all same same' =
+pub batch_whole : (writes : List Write) (index version : ℕ) (puts puts' : List Object) (cuts cuts' : List Id) (events events' : List Event) → Batched writes index puts cuts → length writes ≤ index → puts' ≡ puts → cuts' ≡ cuts → events' ≡ events
+    → ◌≡◌ {A = Batch} (record { version = version; puts = puts'; cuts = cuts'; events = events' }) (batch_of writes version events)
+batch_whole writes index version puts puts' cuts cuts' events events' done all same same' told =
     let p = same ∙ done.objects ∙ ap objects_put (take_all index writes all) in
     let k = same' ∙ done.ids ∙ ap ids_cut (take_all index writes all) in
-    λ i. record { version = version; puts = p i; cuts = k i }
+    λ i. record { version = version; puts = p i; cuts = k i; events = told i }

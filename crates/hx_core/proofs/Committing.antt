@@ -25,6 +25,7 @@ use Rattle.hx_model.specs.Writes.{MayWriteAll}
 use Rattle.hx_model.specs.declared.key.Key.{Key}
 use Rattle.hx_model.specs.declared.key.Write.{Write}
 use Rattle.hx_model.proofs.Writes.{valid_after}
+use Rattle.hx_watch.specs.Watching.{HaveFollowed}
 use Rattle.hx_core.specs.Committing.{HasLanded, HasFailed, HasMarked, Holds, IsOrderly, IsPrepared, holding, marks_but}
 use Rattle.hx_core.specs.Inside.{IsSound, view_of}
 use Rattle.hx_core.specs.Refinement.{ClusterView, kept_of}
@@ -39,21 +40,28 @@ use Rattle.hx_core.proofs.Storing.{landed_held}
 
 -- the keeper took the batch
 pub landed : (s t : State) (ws : List Write) (batch : Batch) (k k' : KeeperView) → IsValid s → Holds s k → IsPrepared s ws batch → t ≡ state_after s ws
-    → Lands batch k.kept k'.kept → k.broken ≡ false → k'.broken ≡ false → k'.place ≡ k.place → k'.faults ≡ k.faults → HasLanded s k ws t k'
-landed s t ws batch k k' valid held ready moves lands whole whole' place faults =
-    let kept : k'.kept ≡ (holding t k).kept = landed_held s ws batch k.kept k'.kept valid ready (held whole) lands ∙ ap (λ u. (holding u k).kept) (sym moves) in
-    let broken : k'.broken ≡ k.broken = whole' ∙ sym whole in
-    record { may = ready.may; state = moves; keeper = λ i. record { place = place i; kept = kept i; broken = broken i; faults = faults i }; whole = whole }
+    → Lands batch k.kept k'.kept → k.broken ≡ false → k'.broken ≡ false → k'.place ≡ k.place → k'.faults ≡ k.faults → HaveFollowed batch.events k.watchers k'.watchers → HasLanded s k ws t k'
+landed s t ws batch k k' valid held ready moves lands whole whole' place faults told =
+    record {
+      may = ready.may;
+      state = moves;
+      place = place;
+      kept = landed_held s ws batch k.kept k'.kept valid ready (held whole) lands ∙ ap (λ u. holding u k.kept) (sym moves);
+      whole = whole;
+      broken = whole' ∙ sym whole;
+      faults = faults;
+      told = subst (λ (b : Batch). HaveFollowed b.events k.watchers k'.watchers) ready.is told;
+    }
 
 -- the keeper failed
 pub failed : (s t : State) (ws : List Write) (batch : Batch) (k k' : KeeperView) → IsValid s → Holds s k → IsPrepared s ws batch → t ≡ s
-    → (k'.kept ≡ k.kept) ⊎ (Lands batch k.kept k'.kept × (k.broken ≡ false)) → k'.broken ≡ true → k'.place ≡ k.place → k.faults ≤ k'.faults → Rose k.faults k'.faults → HasFailed s k ws t k'
-failed s t ws batch k k' valid held ready same torn breaks place later rose =
-    record { may = ready.may; state = same; place = place; broken = breaks; kept = elim torn [ inl e ↦ inl e | inr (lands, whole) ↦ inr (whole, landed_held s ws batch k.kept k'.kept valid ready (held whole) lands) ]; later = later; rose = rose }
+    → (k'.kept ≡ k.kept) ⊎ (Lands batch k.kept k'.kept × (k.broken ≡ false)) → k'.broken ≡ true → k'.place ≡ k.place → k.faults ≤ k'.faults → Rose k.faults k'.faults → k'.watchers ≡ k.watchers → HasFailed s k ws t k'
+failed s t ws batch k k' valid held ready same torn breaks place later rose untold =
+    record { may = ready.may; state = same; place = place; broken = breaks; kept = elim torn [ inl e ↦ inl e | inr (lands, whole) ↦ inr (whole, landed_held s ws batch k.kept k'.kept valid ready (held whole) lands) ]; later = later; rose = rose; watchers = untold }
 
 -- ---- the fields afterwards
 
-holds_landed : (t : State) (kept : Option Kept) → IfSome (holding t (record { place = None; kept = kept; broken = false; faults = 0 })).kept (λ held. held ≡ kept_of t)
+holds_landed : (t : State) (kept : Option Kept) → IfSome (holding t kept) (λ held. held ≡ kept_of t)
 holds_landed t None = tt
 holds_landed t (Some h) = refl
 
@@ -68,7 +76,7 @@ sound_landed s t v v' ws own k k' staged staged' sound may orderly some nothing 
     let next : World = written_by sound.world.0 ws in
     record {
       valid = subst IsValid (sym done.state) (valid_after s ws sound.valid may);
-      held = λ _. subst (λ (v : KeeperView). IfSome v.kept (λ held. held ≡ kept_of t)) (sym done.keeper) (holds_landed t k.kept);
+      held = λ _. subst (λ (o : Option Kept). IfSome o (λ held. held ≡ kept_of t)) (sym done.kept) (holds_landed t k.kept);
       covered = subst (λ (u : State). IsCovered u v'.hands v'.waiting v'.again) (sym done.state) (covered_marked s ws own v v' sound.valid may orderly.regular nothing sound.taken sound.covered marked);
       taken = subst (λ (hands : List Hand). AllByRecursion (IsOf t) hands) (sym marked.hands) (subst (λ (u : State). AllByRecursion (IsOf u) v.hands) (sym done.state) (taken_after s ws v.hands may orderly.out sound.taken));
       world = (next, stands_landed (view_of s v k) (view_of t v' k') ws sound.world.0 next done (has_marked s ws (marks_but own (all_marks s ws)) v v' some marked (marks_within s ws own sound.valid may orderly.regular)) sound.world.1 refl);

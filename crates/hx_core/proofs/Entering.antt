@@ -26,7 +26,7 @@ use Rattle.hx_model.specs.Tree.{forest_of, is_terminating, namespaces_in, node_i
 use Rattle.hx_model.specs.TreeLabels.{is_open}
 use Rattle.hx_model.specs.Valid.{IsStored, IsValid}
 use Rattle.hx_model.specs.declared.ask.Ask.{Ask}
-use Rattle.hx_model.specs.declared.ask.Ask.TheVariants.{Get, List as ListOf, Create, Replace, Delete, Document as DocumentOf}
+use Rattle.hx_model.specs.declared.ask.Ask.TheVariants.{Get, List as ListOf, Create, Replace, Delete, Document as DocumentOf, Events as EventsSince}
 use Rattle.hx_model.specs.declared.denial.Denial.{Denial}
 use Rattle.hx_model.specs.declared.refusal.Refusal.{Refusal}
 use Rattle.hx_model.specs.declared.denial.Denial.TheVariants.{Broken}
@@ -137,6 +137,7 @@ pub request_out : (s : State) (ask : Ask) → IsValid s → refusal_of s ask ≡
 request_out s (Get id) valid passes = tt
 request_out s (ListOf kind ns selector fields) valid passes = tt
 request_out s (DocumentOf document) valid passes = tt
+request_out s (EventsSince version) valid passes = tt
 request_out s (Create x skip) valid passes = (created_out s x skip valid passes, tt)
 request_out s (Replace x expected skip) valid passes = replacing_out s x (object_at s.objects x.id) refl
 request_out s (Delete id skip) valid passes = deleting_out s id (is_namespace id.kind) (is_ended (object_at s.objects id)) (is_anchor id.kind && (not skip && owns_named s id))

@@ -9,20 +9,20 @@ use Rattle.std.specs.Prelude.{IsSome}
 use Rattle.hx_model.specs.Hands.{Hand, hand_of, is_writable, may_finish, may_write, writes_for, versioned}
 use Rattle.hx_model.specs.Limits.{greatest_version}
 use Rattle.hx_model.specs.Machine.{World, Finished, IsEnd, IsEndOf, broken_at, finished_by, given_back, written_by, writes_by}
-use Rattle.hx_model.specs.State.{State, state_after}
+use Rattle.hx_model.specs.State.{State, events_of, state_after}
 use Rattle.hx_model.specs.declared.key.Finish.{Finish}
 use Rattle.hx_model.specs.declared.key.Finish.TheVariants as ending
 use Rattle.hx_model.specs.declared.key.Write.{Write}
 use Rattle.hx_core.specs.Refinement.{ClusterView, Represents, HasWorld, Simulates}
-use Rattle.hx_core.specs.Committing.{HasMarked, holding}
+use Rattle.hx_core.specs.Committing.{HasMarked}
 use Rattle.hx_queue.specs.Workers.{WorkersView, IsLetGo}
 use Rattle.hx_core.specs.Queued.{HasWritten, IsEnding, IsLet, IsReleased}
 use Rattle.hx_core.specs.Working.{IsDone, IsFinish, IsTried, IsWritten, IsLost, is_written}
-use Rattle.hx_core.proofs.Making.{Enters, enters_still, makes_still, makes_kept, makes_failed, stands_landed, stands_failed}
+use Rattle.hx_core.proofs.Making.{Enters, enters_still, makes_still, makes_landed, makes_failed, stands_landed, stands_failed}
 use Rattle.hx_core.proofs.Turning.{stands_back, stands_gone}
 
 empties : (c : ClusterView) (worker : ℕ) → HasWorld c → hand_of worker c.workers.hands ≡ None → Simulates c (Finished worker ending.Empty ∷ []) c
-empties c worker stood none = enters_still c c (Finished worker ending.Empty) stood refl refl (λ w stands. (subst (λ o. IsEnd w o ending.Empty) (sym (ap (hand_of worker) stands.hands ∙ none)) refl, refl))
+empties c worker stood none = enters_still c c (Finished worker ending.Empty) stood refl refl (λ w stands. (subst (λ o. IsEnd w o ending.Empty) (sym (ap (hand_of worker) stands.hands ∙ none)) refl, refl)) (λ w stands. refl)
 
 pub ends_empty : (c : ClusterView) (worker : ℕ) → HasWorld c → hand_of worker c.workers.hands ≡ None → IsFinish worker c ending.Empty c
 ends_empty c worker stood none = record { simulates = empties c worker stood none; leaves = refl; empty = none }
@@ -40,14 +40,14 @@ is_let old new worker hand waits released at = subst (λ o. IsLet worker waits o
 
 nothing : (old new : ClusterView) (worker : ℕ) (hand : Hand) → HasWorld old → hand_of worker old.workers.hands ≡ Some hand → hand.write ≡ None → IsReleased worker false old new → Simulates old (Finished worker ending.Nothing ∷ []) new
 nothing old new worker hand stood at none released =
-    makes_still old new (Finished worker ending.Nothing) stood (enters_end old new worker hand ending.Nothing at (λ w stands. (none, stands_gone old new w worker hand stands released.same (is_let old new worker hand false released at)))) refl released.same.keeper
+    makes_still old new (Finished worker ending.Nothing) stood (enters_end old new worker hand ending.Nothing at (λ w stands. (none, stands_gone old new w worker hand stands released.same (is_let old new worker hand false released at)))) refl released.same.keeper (λ w stands. refl)
 
 pub ends_nothing : (old new : ClusterView) (worker : ℕ) (hand : Hand) → HasWorld old → hand_of worker old.workers.hands ≡ Some hand → hand.write ≡ None → IsReleased worker false old new → hand_of worker new.workers.hands ≡ None → IsFinish worker old ending.Nothing new
 ends_nothing old new worker hand stood at none released empty = record { simulates = nothing old new worker hand stood at none released; leaves = released; empty = empty }
 
 ends_back : (old new : ClusterView) (worker : ℕ) (hand : Hand) → HasWorld old → hand_of worker old.workers.hands ≡ Some hand → IsReleased worker true old new → Simulates old (Finished worker ending.NoMemory ∷ []) new
 ends_back old new worker hand stood at released =
-    makes_still old new (Finished worker ending.NoMemory) stood (enters_end old new worker hand ending.NoMemory at (λ w stands. (tt, stands_back old new w worker hand stands released.same (is_let old new worker hand true released at)))) refl released.same.keeper
+    makes_still old new (Finished worker ending.NoMemory) stood (enters_end old new worker hand ending.NoMemory at (λ w stands. (tt, stands_back old new w worker hand stands released.same (is_let old new worker hand true released at)))) refl released.same.keeper (λ w stands. refl)
 
 -- one that drops it for want of memory
 pub ends_lost : (old new : ClusterView) (worker : ℕ) → HasWorld old → IsSome (hand_of worker old.workers.hands) → IsReleased worker true old new → hand_of worker new.workers.hands ≡ None → IsFinish worker old ending.NoMemory new
@@ -80,29 +80,29 @@ module _ (c new : ClusterView) (worker : ℕ) (hand : Hand) (write : Write) (sto
       makes_still c new (Finished worker (ending.Conflict seen now)) stood (enters_end c new worker hand (ending.Conflict seen now) at (λ w stands. (
         (ap is_some is, finishes w false stands tried.0, tried.1, tried.2 ∙ ap (λ (s : State). s.last) (sym stands.state)),
         back mid tried.3 released w stands,
-      ))) refl (kept mid tried.3 released)
+      ))) refl (kept mid tried.3 released) (λ w stands. refl)
 
   ends_spent : (mid : ClusterView) → IsTried hand write c ending.Spent mid → IsReleased worker true mid new → Simulates c (Finished worker ending.Spent ∷ []) new
   ends_spent mid tried released =
       makes_still c new (Finished worker ending.Spent) stood (enters_end c new worker hand ending.Spent at (λ w stands. (
         (finishes w true stands tried.0, ap (λ (s : State). s.last) stands.state ∙ tried.1),
         back mid tried.2 released w stands,
-      ))) refl (kept mid tried.2 released)
+      ))) refl (kept mid tried.2 released) (λ w stands. refl)
 
   ends_lacking : (mid : ClusterView) → IsTried hand write c ending.NoMemory mid → IsReleased worker true mid new → Simulates c (Finished worker ending.NoMemory ∷ []) new
   ends_lacking mid same released =
-      makes_still c new (Finished worker ending.NoMemory) stood (enters_end c new worker hand ending.NoMemory at (λ w stands. (tt, back mid same released w stands))) refl (kept mid same released)
+      makes_still c new (Finished worker ending.NoMemory) stood (enters_end c new worker hand ending.NoMemory at (λ w stands. (tt, back mid same released w stands))) refl (kept mid same released) (λ w stands. refl)
 
   ends_written : (version : ℕ) (mid : ClusterView) → IsTried hand write c (ending.Written version) mid → IsReleased worker false mid new → Simulates c (Finished worker (ending.Written version) ∷ []) new
   ends_written version mid tried released =
       let done : IsWritten hand write c version mid = tried.1 in
       let still : hand_of worker mid.workers.hands ≡ Some hand = ap (hand_of worker) done.marked.marked.hands ∙ at in
-      makes_kept c new (Finished worker (ending.Written version)) stood (enters_end c new worker hand (ending.Written version) at (λ w stands.
+      makes_landed c new (versioned (c.state.last + 1) write ∷ []) (Finished worker (ending.Written version)) mid.keeper mid.state stood done.landed released.same.keeper refl (enters_end c new worker hand (ending.Written version) at (λ w stands.
       let last : w.state.last ≡ c.state.last = ap (λ (s : State). s.last) stands.state in (
         (finishes w true stands tried.0, stands.broken ∙ done.landed.whole, done.version_is ∙ ap (λ n. n + 1) (sym last), subst (λ n. n < greatest_version) (sym last) done.fits),
         stands_gone mid new (written_by w (writes_by w.state (Some hand))) worker hand (stands_landed c mid (versioned (c.state.last + 1) write ∷ []) w (written_by w (writes_by w.state (Some hand))) done.landed done.marked stands (ap (written_by w) (made w stands))) released.same
             (is_let mid new worker hand false released still),
-      ))) refl (released.same.keeper ∙ (done.landed.keeper ∙ ap (λ s. holding s c.keeper) (sym released.same.state)))
+      ))) (λ w stands. ap (λ o. events_of w.state (writes_by w.state o)) (ap (hand_of worker) stands.hands ∙ at) ∙ ap (events_of w.state) (made w stands))
 
   ends_fault : (mid : ClusterView) → IsTried hand write c ending.Fault mid → IsReleased worker true mid new → Simulates c (Finished worker ending.Fault ∷ []) new
   ends_fault mid tried released =
@@ -114,7 +114,7 @@ module _ (c new : ClusterView) (worker : ℕ) (hand : Hand) (write : Write) (sto
         (finishes w true stands tried.0, subst (λ n. n < greatest_version) (sym last) lost.fits),
         stands_back mid new (broken_at w torn) worker hand (stands_failed c mid (versioned (c.state.last + 1) write ∷ []) w (broken_at w torn) lost.failed lost.workers stands (ap (λ ws. broken_at w (state_after w.state ws)) (made w stands))) released.same
             (is_let mid new worker hand true released still),
-      )))
+      ))) (λ w stands. refl)
 
   enters_tried : (end : Finish) (mid : ClusterView) → IsTried hand write c end mid → IsReleased worker (not (is_written end)) mid new → Simulates c (Finished worker end ∷ []) new
   enters_tried ending.Empty mid never released = absurd never

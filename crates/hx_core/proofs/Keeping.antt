@@ -219,4 +219,4 @@ counts c waiting held stood valid covered apart many few =
         λ nothing nobody. subst IsSettled (sym stands.state) (settled_now c.state c.workers valid covered apart (none_of_zero c.workers.waiting (sym many ∙ nothing)) (none_of_zero c.workers.hands (sym few ∙ nobody))),
       ),
       refl,
-    ))
+    )) (λ w stands. refl)

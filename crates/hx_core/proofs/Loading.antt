@@ -33,6 +33,7 @@ use Rattle.hx_ports.specs.declared.keeper.Meta.{Meta}
 use Rattle.hx_ports.specs.declared.keeper.Row.{Row}
 use Rattle.hx_json.specs.Rows.{HasNoObject, IsRowOf}
 use Rattle.hx_model.specs.State.{State, Objects, object_at, same_id, namespace_id, has_home}
+use Rattle.hx_model.specs.Windows.{opened}
 use Rattle.hx_model.specs.Texts.{key_text, two_digits, stored_entry, rows_of_objects}
 use Rattle.hx_model.specs.Valid.{IsValid, IsStored}
 use Rattle.hx_model.proofs.Homes.{housed-put}
@@ -364,7 +365,9 @@ loaded_next s t kept key row count loaded gives text takes =
         stored = All-put (IsStored s.last) x s.objects takes.takes.stored loaded.valid.stored;
         housed = housed-put x s.objects takes.takes.home loaded.valid.housed;
         fits = loaded.valid.fits;
+        recent = loaded.valid.recent;
       });
+      fresh = ap (λ (u : State). u.window) takes.after ∙ loaded.fresh ∙ ap (λ (u : State). opened u.last) (sym takes.after);
       last = subst (λ (u : State). IsBehindAll row.key u.objects) (sym takes.after) (All-put (λ (y : Object). is_lt (bytes_cmp row.key (key_text y.id)) ≡ false) x s.objects (itself x takes.takes) (pass s.objects loaded.last));
       front = both_told kept loaded.front gives;
     }
@@ -416,7 +419,7 @@ none_if (Some x) never = absurd (never x refl)
 
 -- a keeper that holds on, and whose count stayed, shows the same
 pub same_view : (first old : KeeperView) → HoldsOn first old → old.faults ≡ first.faults → old ≡ first
-same_view first old holds same = λ i. record { place = holds.place i; kept = holds.kept i; broken = holds.broken i; faults = same i }
+same_view first old holds same = λ i. record { place = holds.place i; kept = holds.kept i; broken = holds.broken i; faults = same i; watchers = holds.watchers i }
 
 -- what a keeper was asked for after calls that succeeded, by the fault of the last one
 pub asked_on : {T U : Type 0} (first old new : KeeperView) (error : StartFault) (r : Result T StartFault) → old ≡ first → Asked {T = U} old new (Err error) → IsErrAnd r (λ found. found ≡ error) → Asked first new r

@@ -12,7 +12,7 @@ use Rattle.hx_model.specs.Requests.{request_entry}
 use Rattle.hx_model.specs.Rules.{rules}
 use Rattle.hx_model.specs.State.{State, object_at, after_writes}
 use Rattle.hx_model.specs.declared.ask.Ask.{Ask}
-use Rattle.hx_model.specs.declared.ask.Ask.TheVariants.{Get, List as ListOf, Create, Replace, Delete, Document as DocumentOf}
+use Rattle.hx_model.specs.declared.ask.Ask.TheVariants.{Get, List as ListOf, Create, Replace, Delete, Document as DocumentOf, Events as EventsSince}
 use Rattle.hx_model.specs.declared.ask.Answer.TheVariants.{Refused as Refusing}
 use Rattle.hx_model.specs.declared.refusal.Refusal.{Refusal}
 use Rattle.hx_model.specs.declared.refusal.Refusal.TheVariants as refused_as
@@ -59,6 +59,7 @@ own_place : (s : State) (ask : Ask) → IsOwn ask (place_refusal s ask)
 own_place s (Get id) = own_so (Get id) (is_none (object_at s.objects id)) (not_found id) refl
 own_place s (ListOf kind ns selector fields) = own_none (ListOf kind ns selector fields)
 own_place s (DocumentOf document) = own_none (DocumentOf document)
+own_place s (EventsSince version) = own_else (EventsSince version) _ _ (own_so (EventsSince version) (nat_lt s.last version) _ refl) (own_else (EventsSince version) _ _ (own_so (EventsSince version) (nat_lt version s.window.floor) _ refl) (own_none (EventsSince version)))
 own_place s (Create x skip) = own_else (Create x skip) _ _ (own_so (Create x skip) (lacks_namespace s x.id) _ refl) (own_else (Create x skip) _ _ (own_so (Create x skip) (is_some (object_at s.objects x.id)) (already_there x.id) refl) (own_none (Create x skip)))
 own_place s (Replace x expected skip) = own_so (Replace x expected skip) (is_none (object_at s.objects x.id)) (not_found x.id) refl
 own_place s (Delete id skip) = own_so (Delete id skip) (is_none (object_at s.objects id)) (not_found id) refl
@@ -73,6 +74,7 @@ own_version s (Replace x expected skip) = by expected (object_at s.objects x.id)
 own_version s (Get id) = own_none (Get id)
 own_version s (ListOf kind ns selector fields) = own_none (ListOf kind ns selector fields)
 own_version s (DocumentOf document) = own_none (DocumentOf document)
+own_version s (EventsSince version) = own_none (EventsSince version)
 own_version s (Create x skip) = own_none (Create x skip)
 own_version s (Delete id skip) = own_none (Delete id skip)
 
@@ -98,6 +100,7 @@ own_quota s (Replace x expected skip) = own_quotas s (Replace x expected skip) (
 own_quota s (Get id) = own_none (Get id)
 own_quota s (ListOf kind ns selector fields) = own_none (ListOf kind ns selector fields)
 own_quota s (DocumentOf document) = own_none (DocumentOf document)
+own_quota s (EventsSince version) = own_none (EventsSince version)
 own_quota s (Delete id skip) = own_none (Delete id skip)
 
 own_rules : (ask : Ask) (names objects bytes version : Bool) → IsOwn ask (first (so names (refused_as.Broken L1) ∷ so objects (refused_as.Broken L2) ∷ so bytes (refused_as.Broken L3) ∷ so version (refused_as.Broken L4) ∷ []))

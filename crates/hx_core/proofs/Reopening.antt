@@ -2,9 +2,9 @@
 --     never_both        no rows are both undamaged and damaged
 --     undamaged_rows    the rows of a valid state are undamaged
 --     same_objects      two valid states of the same rows have the same objects
---     tells_state       and are one, under one configuration
+--     tells_state       and are one, under one configuration and with one window of events
 --     intact            a start on the rows of a valid state finds no damage
---     same_state        a valid state of the rows that another one has is that one, under its own configuration
+--     same_state        a valid state of the rows that another one has is what a start makes of that one, where it has no events
 use Rattle.std.proofs.Common.{◌≡◌, ◌<◌, ◌≤◌, ◌^◌, ℕ, zero, suc, true, false, cond, not, ◌||◌, ◌==◌, nat_lt, List, [], ◌∷◌, map, length, Option, Some, None, IfSome, is_some, Less, Equal, Greater, refl, sym, ap, subst, ◌∙◌, arith, true≢false}
 use Rattle.std.specs.Prelude.{option_map, option_and_then, if◌then◌else◌, drop}
 use Rattle.std.specs.List.{AllByRecursion}
@@ -23,9 +23,10 @@ use Rattle.hx_ports.specs.Keeping.{Kept, Rows, greatest_version}
 use Rattle.hx_ports.specs.Rows.{Entry}
 use Rattle.hx_ports.proofs.Placed.{entries-from_entries}
 use Rattle.hx_json.proofs.Telling.{served_told}
-use Rattle.hx_model.specs.State.{State, Objects, object_at, same_id, namespace_id, has_home}
+use Rattle.hx_model.specs.State.{State, Objects, object_at, same_id, namespace_id, has_home, restarted}
 use Rattle.hx_model.specs.Texts.{key_text, stored_entry, rows_of}
-use Rattle.hx_model.specs.Valid.{IsValid, IsStored}
+use Rattle.hx_model.specs.Valid.{IsValid, IsStored, IsRecent}
+use Rattle.hx_model.specs.Windows.{opened}
 use Rattle.hx_model.specs.declared.config.RunConfig.{RunConfig}
 use Rattle.hx_model.proofs.Legality.{keyed_legal}
 use Rattle.hx_model.proofs.Objects.{found_id, is_same_id, same_rows}
@@ -142,16 +143,20 @@ module _ (s t : State) (a : IsValid s) (b : IsValid t) (last : s.last ≡ t.last
   same_objects = same_rows s.objects t.objects a.in_order b.in_order same_at
 
 -- two valid states of the same rows are one
-pub tells_state : (s t : State) → IsValid s → IsValid t → s.config ≡ t.config → kept_of s ≡ kept_of t → s ≡ t
-tells_state s t a b configured same =
+pub tells_state : (s t : State) → IsValid s → IsValid t → s.config ≡ t.config → s.window ≡ t.window → kept_of s ≡ kept_of t → s ≡ t
+tells_state s t a b configured windows same =
     let last : s.last ≡ t.last = ap (λ (k : Kept). k.version) same in
     let objects : s.objects ≡ t.objects = same_objects s t a b last (ap (λ (k : Kept). k.rows) same) in
-    λ i. record { objects = objects i; last = last i; config = configured i }
+    λ i. record { objects = objects i; last = last i; config = configured i; window = windows i }
 
-pub same_state : (kept : Option Kept) (s t : State) (config : RunConfig) → t.config ≡ config → IsValid s → IsValid t → kept ≡ Some (kept_of s) → IfSome kept (λ held. held ≡ kept_of t) → ◌≡◌ {A = State} t (record s { config = config })
-same_state kept s t config configured a b is holds =
+-- a window to which no event came
+unheard : (last : ℕ) → IsRecent last (opened last)
+unheard last = record { ascend = tt; known = omega arith; legal = tt }
+
+pub same_state : (kept : Option Kept) (s t : State) (config : RunConfig) → t.config ≡ config → t.window ≡ opened t.last → IsValid s → IsValid t → kept ≡ Some (kept_of s) → IfSome kept (λ held. held ≡ kept_of t) → t ≡ restarted config s
+same_state kept s t config configured fresh a b is holds =
     let same : kept_of s ≡ kept_of t = subst (λ k. IfSome k (λ held. held ≡ kept_of t)) is holds in
-    tells_state t (record s { config = config }) b (record { in_order = a.in_order; stored = a.stored; housed = a.housed; fits = a.fits }) configured (sym same)
+    tells_state t (restarted config s) b (record { in_order = a.in_order; stored = a.stored; housed = a.housed; fits = a.fits; recent = unheard s.last }) configured (fresh ∙ ap (λ (k : Kept). opened k.version) (sym same)) (sym same)
 
 -- a start on the rows of a valid state finds no damage
 never_damaged : (kept : Option Kept) (s : State) (row : ℕ) → IsValid s → kept ≡ Some (kept_of s) → IfSome kept (λ held. IsDamagedAt held row) → ⊥

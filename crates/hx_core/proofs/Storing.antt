@@ -20,7 +20,8 @@ use Rattle.hx_object.specs.declared.object.Object.{Object}
 use Rattle.hx_object.specs.Json.{object_text}
 use Rattle.hx_ports.specs.Keeping.{Kept, Rows, Lands, with_batch, with_puts, with_cuts, keys_of, IsPut, IsBatch, MayFollow, greatest_version}
 use Rattle.hx_ports.specs.declared.keeper.Batch.{Batch}
-use Rattle.hx_model.specs.State.{State, Objects, object_at, put, cut, after_writes, state_after, same_id}
+use Rattle.hx_model.specs.State.{State, Objects, events_of, object_at, put, cut, after_writes, state_after, same_id}
+use Rattle.hx_model.specs.Windows.{most_events, with_events}
 use Rattle.hx_model.specs.Texts.{rows_of_objects, key_text}
 use Rattle.hx_model.specs.Valid.{IsValid, IsStored}
 use Rattle.hx_model.specs.Writes.{id_written, MayWrite, MayWriteAll}
@@ -62,7 +63,7 @@ keys_written ws = map (λ w. key_text (id_written w)) ws
 
 -- the keys of the batch, the puts first
 abbrev keys_in : List Write → List (List ℕ)
-keys_in ws = keys_of (batch_of ws 0)
+keys_in ws = keys_of (batch_of ws 0 [])
 
 same_keys : (ws : List Write) → IsPermutation (keys_written ws) (keys_in ws)
 same_keys [] = IsPermutation-refl []
@@ -101,7 +102,7 @@ next_fits s ws may some = let less : s.last < greatest_version = may.fits some i
 pub is_batch : (s : State) (ws : List Write) (batch : Batch) → IsValid s → IsPrepared s ws batch → IsBatch batch
 is_batch s ws batch valid ready =
     let fits = next_fits s ws ready.may ready.some in
-    let right : IsBatch (batch_of ws (s.last + 1)) = record {
+    let right : IsBatch (batch_of ws (s.last + 1) (events_of s ws)) = record {
       distinct = batch_distinct ws (writes_keyed s ws valid ready.may.each) ready.may.distinct;
       version = fits;
       puts = objects_right s ws fits ready.may.each;
@@ -117,8 +118,8 @@ cuts_there s (Cut id ∷ ws) may = (stored_contains id may.0.there.0 s.objects m
 pub may_follow : (s : State) (ws : List Write) (batch : Batch) (kept : Option Kept) → IsPrepared s ws batch → IfSome kept (λ held. held ≡ kept_of s) → IfSome kept (MayFollow batch)
 may_follow s ws batch None ready held = tt
 may_follow s ws batch (Some h) ready held =
-    let follows : MayFollow (batch_of ws (s.last + 1)) (kept_of s) = record { next = refl; there = cuts_there s ws ready.may.each } in
-    subst (λ b. MayFollow b h) (sym ready.is) (subst (MayFollow (batch_of ws (s.last + 1))) (sym held) follows)
+    let follows : MayFollow (batch_of ws (s.last + 1) (events_of s ws)) (kept_of s) = record { next = refl; there = cuts_there s ws ready.may.each } in
+    subst (λ b. MayFollow b h) (sym ready.is) (subst (MayFollow (batch_of ws (s.last + 1) (events_of s ws))) (sym held) follows)
 
 -- ---- what is held
 
@@ -158,15 +159,15 @@ rows_after (Cut id ∷ ws) objects keyed all distinct =
     ap (with_cuts (ids_cut ws)) (cut_then_puts (key_text id) ws (rows_of_objects objects) distinct.0 ∙ ap (with_puts (objects_put ws)) (sym (rows_of_objects-cut id objects keyed.0 all)))
     ∙ rows_after ws (cut id objects) keyed.1 (All-cut IsKeyed id objects all) distinct.1
 
-after_some : (s : State) (ws : List Write) → ws ≢ [] → ◌≡◌ {A = State} (record s { objects = after_writes ws s.objects; last = s.last + 1 }) (state_after s ws)
+after_some : (s : State) (ws : List Write) → ws ≢ [] → ◌≡◌ {A = State} (record s { objects = after_writes ws s.objects; last = s.last + 1; window = with_events most_events s.window (events_of s ws) }) (state_after s ws)
 after_some s [] some = absurd (some refl)
 after_some s (w ∷ ws) some = refl
 
-batch_held : (s : State) (ws : List Write) → IsValid s → MayWriteAll s ws → ws ≢ [] → with_batch (batch_of ws (s.last + 1)) (kept_of s) ≡ kept_of (state_after s ws)
+batch_held : (s : State) (ws : List Write) → IsValid s → MayWriteAll s ws → ws ≢ [] → with_batch (batch_of ws (s.last + 1) (events_of s ws)) (kept_of s) ≡ kept_of (state_after s ws)
 batch_held s ws valid may some =
     let keyed = writes_keyed s ws valid may.each in
     let rows = rows_after ws s.objects keyed (stored_keyed s.last s.objects valid.stored) (keys_distinct ws keyed may.distinct) in
-    let held : with_batch (batch_of ws (s.last + 1)) (kept_of s) ≡ kept_of (record s { objects = after_writes ws s.objects; last = s.last + 1 }) = λ i. record { schema = 2; version = s.last + 1; rows = rows i } in
+    let held : with_batch (batch_of ws (s.last + 1) (events_of s ws)) (kept_of s) ≡ kept_of (record s { objects = after_writes ws s.objects; last = s.last + 1; window = with_events most_events s.window (events_of s ws) }) = λ i. record { schema = 2; version = s.last + 1; rows = rows i } in
     held ∙ ap kept_of (after_some s ws some)
 
 -- what is held once the batch landed

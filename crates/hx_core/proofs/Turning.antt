@@ -97,10 +97,10 @@ takes_job old new worker k brief named stood none free waits again job =
     makes_still old new (Took worker k named) stood (λ w stands. (
       (ap (hand_of worker) stands.hands ∙ none, ap (is_held k) stands.hands ∙ free, λ e. stands.waiting k (waits e)),
       stands_taken old new w worker k brief stands job again,
-    )) refl job.same.keeper
+    )) refl job.same.keeper (λ w stands. refl)
 
 pub loses : (old new : ClusterView) (worker : ℕ) → HasWorld old → new ≡ old → Simulates old (LostTake worker ∷ []) new
-loses old new worker stood same = enters_still old new (LostTake worker) stood same refl (λ w stands. (tt, refl))
+loses old new worker stood same = enters_still old new (LostTake worker) stood same refl (λ w stands. (tt, refl)) (λ w stands. refl)
 
 -- a key that waits is given
 pub gives : (old new : ClusterView) (worker : ℕ) (k : Key) (answer : Take) → HasWorld old → hand_of worker old.workers.hands ≡ None → is_held k old.workers.hands ≡ false → is_among k old.workers.waiting ≡ true → is_among k old.workers.again ≡ false
@@ -140,7 +140,7 @@ key_of_hand : (worker : ℕ) (hands : List Hand) (h : Hand) (k : Key) → hand_o
 key_of_hand worker hands h k at is = subst (λ o. IsSomeAnd o (λ (hand : Hand). hand.key ≡ k)) (sym at) is
 
 already : (c : ClusterView) (worker : ℕ) (brief : Brief) → HasWorld c → hand_of worker c.workers.hands ≡ Some (hand_by worker brief) → Simulates c (Already worker brief.key ∷ []) c
-already c worker brief stood at = enters_still c c (Already worker brief.key) stood refl refl (λ w stands. (key_of_hand worker w.hands (hand_by worker brief) brief.key (ap (hand_of worker) stands.hands ∙ at) refl, refl))
+already c worker brief stood at = enters_still c c (Already worker brief.key) stood refl refl (λ w stands. (key_of_hand worker w.hands (hand_by worker brief) brief.key (ap (hand_of worker) stands.hands ∙ at) refl, refl)) (λ w stands. refl)
 
 -- a worker that holds a brief is told so
 pub keeps : (c : ClusterView) (worker : ℕ) (brief : Brief) (answer : Take) → HasWorld c → hand_of worker c.workers.hands ≡ Some (hand_by worker brief) → IsKept brief answer → Simulates c (take_entry worker answer ∷ []) c
@@ -167,7 +167,7 @@ keeps_hand hands worker brief take.NoMemory at same = tt
 -- another worker holds the key
 pub meets : (c : ClusterView) (worker : ℕ) (k : Key) (holder : ℕ) → HasWorld c → hand_of worker c.workers.hands ≡ None → IsSomeAnd (hand_of holder c.workers.hands) (λ hand. hand.key ≡ k) → Simulates c (HeldBy worker k holder ∷ []) c
 meets c worker k holder stood none held =
-    enters_still c c (HeldBy worker k holder) stood refl refl (λ w stands. ((ap (hand_of worker) stands.hands ∙ none, subst (λ hands. IsSomeAnd (hand_of holder hands) (λ hand. hand.key ≡ k)) (sym stands.hands) held), refl))
+    enters_still c c (HeldBy worker k holder) stood refl refl (λ w stands. ((ap (hand_of worker) stands.hands ∙ none, subst (λ hands. IsSomeAnd (hand_of holder hands) (λ hand. hand.key ≡ k)) (sym stands.hands) held), refl)) (λ w stands. refl)
 
 -- ---- where no key waits
 
@@ -183,7 +183,7 @@ idles c worker stood covered apart none empty =
     enters_still c c (Idle worker) stood refl refl (λ w stands. (
       (ap (hand_of worker) stands.hands ∙ empty, λ k free. ap (λ s. wanted_write s k) stands.state ∙ wants_nothing c.state c.workers k covered apart none (ap (is_held k) (sym stands.hands) ∙ free)),
       refl,
-    ))
+    )) (λ w stands. refl)
 
 -- ---- takes as a whole
 
@@ -342,8 +342,8 @@ pub drops : (old new : ClusterView) (worker : ℕ) (dropped : Option Brief) → 
 drops old new worker None stood released some none =
     enters_still old new (Dropped worker None) stood (same_cluster old new released.same (subst (λ o. IsLet worker true o old.workers new.workers) none released.workers)) refl (λ w stands.
     let at : hand_of worker w.hands ≡ None = ap (hand_of worker) stands.hands ∙ none in
-    (ap (option_map (λ (h : Hand). h.key)) (sym at), ap (λ o. given_back w o worker) at))
+    (ap (option_map (λ (h : Hand). h.key)) (sym at), ap (λ o. given_back w o worker) at)) (λ w stands. refl)
 drops old new worker (Some brief) stood released some none =
     makes_still old new (Dropped worker (Some brief.key)) stood (λ w stands.
     let at : hand_of worker w.hands ≡ Some (hand_by worker brief) = ap (hand_of worker) stands.hands ∙ some in
-    (ap (option_map (λ (h : Hand). h.key)) (sym at), subst (Represents new) (ap (λ o. given_back w o worker) (sym at)) (stands_back old new w worker (hand_by worker brief) stands released.same (subst (λ o. IsLet worker true o old.workers new.workers) some released.workers)))) refl released.same.keeper
+    (ap (option_map (λ (h : Hand). h.key)) (sym at), subst (Represents new) (ap (λ o. given_back w o worker) (sym at)) (stands_back old new w worker (hand_by worker brief) stands released.same (subst (λ o. IsLet worker true o old.workers new.workers) some released.workers)))) refl released.same.keeper (λ w stands. refl)

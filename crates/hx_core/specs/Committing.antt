@@ -1,5 +1,5 @@
 -- What a commit leaves of a cluster.
---     holding            what the keeper shows once it holds a state
+--     holding            what a keeper tells of what it holds, once it holds a state
 --     Holds              a keeper that isn't broken holds the state
 --     HasLanded          the writes landed
 --     HasFailed          the keeper failed at them
@@ -14,11 +14,12 @@ use Rattle.hx_object.specs.Kinds.{is_in_cluster}
 use Rattle.hx_object.specs.declared.object.Id.{Id}
 use Rattle.hx_object.specs.declared.object.Object.{Object}
 use Rattle.hx_ports.specs.Causes.{Rose}
+use Rattle.hx_ports.specs.Keeping.{Kept}
 use Rattle.hx_ports.specs.Views.{KeeperView}
 use Rattle.hx_ports.specs.declared.keeper.Batch.{Batch}
 use Rattle.hx_model.specs.Keys.{same_key, is_among, may_mark}
 use Rattle.hx_marks.specs.Halves.{IsRegular}
-use Rattle.hx_model.specs.State.{State, namespace_id, object_at, state_after}
+use Rattle.hx_model.specs.State.{State, events_of, namespace_id, object_at, state_after}
 use Rattle.hx_model.specs.Tree.{is_terminating}
 use Rattle.hx_model.specs.Writes.{MayWriteAll}
 use Rattle.hx_model.specs.declared.key.Key.{Key}
@@ -27,37 +28,43 @@ use Rattle.hx_model.specs.declared.key.Write.TheVariants.{Put, Cut}
 use Rattle.hx_core.specs.Refinement.{kept_of}
 use Rattle.hx_core.specs.Rows.{batch_of}
 use Rattle.hx_queue.specs.Workers.{WorkersView, IsMarkedBy}
+use Rattle.hx_watch.specs.Watching.{HaveFollowed}
 
--- what the keeper shows once it holds the state, where it tells what it holds
-abbrev pub holding : State → KeeperView → KeeperView
-holding s keeper = record keeper { kept = option_map (λ _. kept_of s) keeper.kept }
+-- what a keeper tells of what it holds once it holds the state, where it tells that
+abbrev pub holding : State → Option Kept → Option Kept
+holding s kept = option_map (λ _. kept_of s) kept
 
--- the writes, which may be made, are made, and the keeper holds them
+-- the writes, which may be made, are made, and the keeper holds them. Its watchers were told of their events, and all else of it stays
 pub record HasLanded (old : State) (before : KeeperView) (writes : List Write) (new : State) (after : KeeperView) : Type 0 where
   pub may : MayWriteAll old writes
   pub state : new ≡ state_after old writes
-  pub keeper : after ≡ holding new before
+  pub place : after.place ≡ before.place
+  pub kept : after.kept ≡ holding new before.kept
   pub whole : before.broken ≡ false
+  pub broken : after.broken ≡ before.broken
+  pub faults : after.faults ≡ before.faults
+  pub told : HaveFollowed (events_of old writes) before.watchers after.watchers
 
--- the keeper failed and is broken. It holds what it held or, where it wasn't broken before, that with the writes, which may be made
+-- the keeper failed and is broken. It holds what it held or, where it wasn't broken before, that with the writes, which may be made. Its watchers were told of nothing
 pub record HasFailed (old : State) (before : KeeperView) (writes : List Write) (new : State) (after : KeeperView) : Type 0 where
   pub may : MayWriteAll old writes
   pub state : new ≡ old
   pub place : after.place ≡ before.place
   pub broken : after.broken ≡ true
-  pub kept : (after.kept ≡ before.kept) ⊎ ((before.broken ≡ false) × (after.kept ≡ (holding (state_after old writes) before).kept))
+  pub kept : (after.kept ≡ before.kept) ⊎ ((before.broken ≡ false) × (after.kept ≡ holding (state_after old writes) before.kept))
   pub later : before.faults ≤ after.faults
   pub rose : Rose before.faults after.faults
+  pub watchers : after.watchers ≡ before.watchers
 
 -- a keeper that isn't broken holds the state, where it tells what it holds
 abbrev pub Holds : State → KeeperView → Type 0
 Holds s keeper = keeper.broken ≡ false → IfSome keeper.kept (λ held. held ≡ kept_of s)
 
--- the state may make the writes, there are some, and the batch is theirs
+-- the state may make the writes, there are some, and the batch is theirs, with their events
 pub record IsPrepared (s : State) (writes : List Write) (batch : Batch) : Type 0 where
   pub may : MayWriteAll s writes
   pub some : writes ≢ []
-  pub is : batch ≡ batch_of writes (s.last + 1)
+  pub is : batch ≡ batch_of writes (s.last + 1) (events_of s writes)
 
 -- an object of this identity is there already, where its namespace is on its way out
 abbrev pub IsOutOrThere : State → Id → Type 0

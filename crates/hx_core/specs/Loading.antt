@@ -9,7 +9,7 @@
 --     IfUntaken                    a fact for what is damaged
 --     IsBehindAll key objects      no object has a key behind this one
 --     IsFront held s key count     so many rows were taken, up to this key, and the state has their objects
---     IsLoaded s kept key count    a valid state of them, wherever the keeper tells its rows
+--     IsLoaded s kept key count    a valid state of them without events, wherever the keeper tells its rows
 use Rattle.std.specs.Prelude.{◌≡◌, ◌≤◌, ◌<◌, ◌⊎◌, ℕ, true, false, List, ◌++◌, length, Option, Some, IfSome, IsErrOf, IsUtf8}
 use Rattle.std.specs.List.{AllByRecursion}
 use Rattle.std.specs.Ordering.{is_lt}
@@ -25,6 +25,7 @@ use Rattle.hx_ports.specs.declared.keeper.Row.{Row}
 use Rattle.hx_model.specs.State.{State, Objects, put, has_home}
 use Rattle.hx_model.specs.Texts.{key_text, stored_entry, rows_of_objects}
 use Rattle.hx_model.specs.Valid.{IsValid, IsStored}
+use Rattle.hx_model.specs.Windows.{opened}
 use Rattle.hx_core.specs.declared.damage.Damage.{Damage}
 use Rattle.hx_core.specs.declared.damage.Damage.TheVariants.{KeyOrder, RowVersion, NoObject, NoNamespace}
 use Rattle.hx_core.specs.declared.start.StartFault.{StartFault}
@@ -92,9 +93,10 @@ pub record IsFront (held : Kept) (s : State) (key : List ℕ) (count : ℕ) : Ty
   pub sound : AllByRecursion (IsSoundRow held) taken
   pub rows : rows_of_objects s.objects ≡ map.from_entries taken
 
--- a valid state of so many rows, wherever the keeper tells them
+-- a valid state of so many rows, wherever the keeper tells them. It has no events
 pub record IsLoaded (s : State) (kept : Option Kept) (key : List ℕ) (count : ℕ) : Type 0 where
   pub text : IsUtf8 key
   pub valid : IsValid s
+  pub fresh : s.window ≡ opened s.last
   pub last : IsBehindAll key s.objects
   pub front : IfSome kept (λ held. IsFront held s key count)

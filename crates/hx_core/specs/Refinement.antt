@@ -21,8 +21,12 @@ use Rattle.hx_model.specs.declared.config.RunConfig.{RunConfig}
 use Rattle.hx_model.specs.Texts.{rows_of}
 use Rattle.hx_model.specs.Machine.{World, History, IsHistory, replay, loses_to_fault, world_after}
 use Rattle.hx_model.specs.Valid.{IsValid}
+use Rattle.hx_model.specs.Windows.{WindowView}
+use Rattle.hx_model.specs.Happening.{events_in}
 use Rattle.hx_core.specs.Rows.{current_schema}
 use Rattle.hx_queue.specs.Workers.{WorkersView, workers_code}
+use Rattle.hx_watch.specs.Watching.{HaveFollowed, Members, members_code}
+use Rattle.hx_watch.specs.Windows.{window_code}
 use Rattle.hx_model.specs.Keys.{is_among}
 use Rattle.hx_model.specs.declared.key.Key.{Key}
 
@@ -65,7 +69,7 @@ abbrev pub HasWorld : ClusterView → Type 0
 HasWorld c = (w : World) × Represents c w
 
 -- The calls that led from one view to another made these entries: they are legal, one after the other, in every world that the cluster stood for, and it then stands for the world that they leave. There is such a world, and each world on the way is valid.
--- The keeper's count of faults rose where an entry was lost to a fault, and stayed where none was. The keeper stayed at its place, and one that told what it holds still tells it.
+-- The keeper's count of faults rose where an entry was lost to a fault, and stayed where none was. Its watchers were told of the events of the entries, and of nothing else. The keeper stayed at its place, and one that told what it holds still tells it.
 pub record Simulates (old : ClusterView) (entries : History) (new : ClusterView) : Type 0 where
   pub stood : HasWorld old
   pub steps : (w : World) → Represents old w → IsHistory w entries × Represents new (replay w entries)
@@ -73,6 +77,7 @@ pub record Simulates (old : ClusterView) (entries : History) (new : ClusterView)
   pub later : old.keeper.faults ≤ new.keeper.faults
   pub cause : loses_to_fault entries ≡ true → Rose old.keeper.faults new.keeper.faults
   pub still : loses_to_fault entries ≡ false → new.keeper.faults ≡ old.keeper.faults
+  pub told : (w : World) → Represents old w → HaveFollowed (events_in w entries) old.keeper.watchers new.keeper.watchers
   pub tells : is_some new.keeper.kept ≡ is_some old.keeper.kept
   pub place : new.keeper.place ≡ old.keeper.place
 
@@ -85,13 +90,13 @@ kept_code = code_by (ℕ × (ℕ × Rows)) (coded× coded_ℕ (coded× coded_ℕ
 
 -- what a keeper shows
 abbrev pub keeper_view_code : Coded KeeperView
-keeper_view_code = code_by (Option (List ℕ) × (Option Kept × (Bool × ℕ))) (coded× (coded_option (coded_list coded_ℕ)) (coded× (coded_option kept_code) (coded× coded_bool coded_ℕ)))
-    (λ k. (k.place, (k.kept, (k.broken, k.faults)))) (λ p. record { place = p.0; kept = p.1.0; broken = p.1.1.0; faults = p.1.1.1 }) (λ _. refl)
+keeper_view_code = code_by (Option (List ℕ) × (Option Kept × (Bool × (ℕ × Members)))) (coded× (coded_option (coded_list coded_ℕ)) (coded× (coded_option kept_code) (coded× coded_bool (coded× coded_ℕ members_code))))
+    (λ k. (k.place, (k.kept, (k.broken, (k.faults, k.watchers))))) (λ p. record { place = p.0; kept = p.1.0; broken = p.1.1.0; faults = p.1.1.1.0; watchers = p.1.1.1.1 }) (λ _. refl)
 
 -- a state
 abbrev pub state_code : Coded State
-state_code = code_by (List Object × (ℕ × RunConfig)) (coded× (coded_list object.the_row.coded) (coded× coded_ℕ run_config.the_row.coded))
-    (λ s. (s.objects, (s.last, s.config))) (λ p. record { objects = p.0; last = p.1.0; config = p.1.1 }) (λ _. refl)
+state_code = code_by (List Object × (ℕ × (RunConfig × WindowView))) (coded× (coded_list object.the_row.coded) (coded× coded_ℕ (coded× run_config.the_row.coded window_code)))
+    (λ s. (s.objects, (s.last, (s.config, s.window)))) (λ p. record { objects = p.0; last = p.1.0; config = p.1.1.0; window = p.1.1.1 }) (λ _. refl)
 
 -- what a cluster shows
 abbrev pub cluster_view_code : Coded ClusterView

@@ -1,9 +1,10 @@
 -- The batches of writes.
 --     current_schema       the schema of the rows
---     batch_of             the batch of writes: objects that are put, and identities that are cut
+--     batch_of             the batch of writes: objects that are put, identities that are cut, and the events that are told
 use Rattle.std.specs.Prelude.{ℕ, List, [], ◌∷◌}
 use Rattle.hx_object.specs.declared.object.Id.{Id}
 use Rattle.hx_object.specs.declared.object.Object.{Object}
+use Rattle.hx_model.specs.declared.event.Event.{Event}
 use Rattle.hx_model.specs.declared.key.Write.{Write}
 use Rattle.hx_model.specs.declared.key.Write.TheVariants.{Put, Cut}
 use Rattle.hx_ports.specs.declared.keeper.Batch.{Batch}
@@ -24,6 +25,6 @@ ids_cut [] = []
 ids_cut (Put x ∷ writes) = ids_cut writes
 ids_cut (Cut id ∷ writes) = id ∷ ids_cut writes
 
--- the batch of writes
-abbrev pub batch_of : List Write → ℕ → Batch
-batch_of writes version = record { version = version; puts = objects_put writes; cuts = ids_cut writes }
+-- the batch of writes, with their events
+abbrev pub batch_of : List Write → ℕ → List Event → Batch
+batch_of writes version events = record { version = version; puts = objects_put writes; cuts = ids_cut writes; events = events }

@@ -11,7 +11,7 @@
 --     Tells held row d key       the first damaged row, what is damaged of it, and its key
 --     IsUntouched                a keeper was asked, and holds what it held
 --     AreRowsUndamaged           the rows of a valid state are undamaged
---     RowsTellState              they are those of no other one
+--     RowsTellState              they are those of no other one with the same window
 -- A row that only a later version of the program can read is damaged, too.
 use Rattle.std.specs.Prelude.{◌≡◌, ◌≢◌, ◌≤◌, ◌<◌, ◌⊎◌, ℕ, zero, suc, Bool, true, false, not, ◌||◌, ◌==◌, nat_lt, List, [], ◌∷◌, take, drop, filter, Option, Some, None, IsSome, IsSomeAnd}
 use Rattle.std.specs.List.{AllByRecursion}
@@ -162,6 +162,6 @@ pub record IsUntouched (old new : KeeperView) : Type 0 where
 abbrev pub AreRowsUndamaged : Type 0
 AreRowsUndamaged = (s : State) → IsValid s → IsUndamaged (kept_of s)
 
--- two valid states of the same rows are one, under one configuration
+-- two valid states of the same rows are one, under one configuration and with one window of events
 abbrev pub RowsTellState : Type 0
-RowsTellState = (s t : State) → IsValid s → IsValid t → s.config ≡ t.config → kept_of s ≡ kept_of t → s ≡ t
+RowsTellState = (s t : State) → IsValid s → IsValid t → s.config ≡ t.config → s.window ≡ t.window → kept_of s ≡ kept_of t → s ≡ t

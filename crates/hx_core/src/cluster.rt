@@ -8,10 +8,11 @@ ghost use Rattle.hx_model.specs.Machine.{opening_world, wants};
 ghost use Rattle.hx_model.specs.Requests.{request_entry};
 ghost use Rattle.hx_model.specs.Serving.{IsServedAsk, IsLegalAnswer};
 ghost use Rattle.hx_model.specs.Settled.{IsSettled};
-ghost use Rattle.hx_model.specs.State.{State, state_after};
+ghost use Rattle.hx_model.specs.State.{State, restarted, state_after};
 ghost use Rattle.hx_model.specs.Tree.{forest_of};
 ghost use Rattle.hx_model.specs.Valid.{IsValid};
 ghost use Rattle.hx_model.specs.Wanted.{wanted_write};
+ghost use Rattle.hx_model.specs.Windows.{opened};
 ghost use Rattle.hx_model.specs.Writes.{MayWriteAll};
 ghost use Rattle.hx_model.specs.declared.key.Key.{Key as key_of};
 ghost use Rattle.hx_core.specs.Committing.{HasLanded, HasFailed, HasMarked, IsOrderly};
@@ -80,6 +81,7 @@ impl<K: Keeper> Cluster<K> {
         requires { IsSome (K.shown keeper).place }
         ensures opens { IfOk result (λ c. Represents c (opening_world c.keeper.broken c.state)) }
         ensures config { IfOk result (λ c. c.state.config ≡ config) }
+        ensures window { IfOk result (λ c. c.state.window ≡ opened c.state.last) }
         ensures valid { IfOk result (λ c. IsValid c.state) }
         ensures holds { IfOk result (λ c. IfSome c.keeper.kept (λ held. held ≡ kept_of c.state)) }
         ensures keeper { IfOk result (λ c. c.keeper ≡ K.shown keeper) }
@@ -89,8 +91,8 @@ impl<K: Keeper> Cluster<K> {
         // Exactly the keys that want a write wait.
         ensures waits { IfOk result (λ c. (k : key_of) → is_among k c.workers.waiting ≡ wants c.state k) }
 
-        // The rows of a valid state are those of no other, and they are never damaged.
-        ensures reopens { IfOk result (λ c. (s : State) → IsValid s → (K.shown keeper).kept ≡ Some (kept_of s) → c.state ≡ record s { config = config }) }
+        // The rows of a valid state are those of no other, and they are never damaged. No event is told of them.
+        ensures reopens { IfOk result (λ c. (s : State) → IsValid s → (K.shown keeper).kept ≡ Some (kept_of s) → c.state ≡ restarted config s) }
         ensures intact { IfErr result (λ u. IfDamaged u.fault (λ row. (s : State) → IsValid s → (K.shown keeper).kept ≡ Some (kept_of s) → ⊥)) }
 
         ensures unstarted { IfErr result (λ u. IsUntouched (K.shown keeper) (K.shown u.keeper)) }
@@ -149,7 +151,7 @@ impl<K: Keeper> Cluster<K> {
         self.state.config()
     }
 
-    /// Ends the cluster, and gives its keeper back.
+    /// Ends the cluster, and gives its keeper back, with its watchers.
     pub fn close(self) -> K
         ensures keeper { K.shown result ≡ self.keeper }
         ensures valid { IsValid self.state }
@@ -211,6 +213,7 @@ fn load_work<K: Keeper>(
 ) -> Result<(IndexedState, Workers), StartFault>
     requires { damaged_key.old ≡ None }
     ensures config { IfOk result (λ p. p.0.state.config ≡ config) }
+    ensures window { IfOk result (λ p. p.0.state.window ≡ opened p.0.state.last) }
     ensures staged { IfOk result (λ p. p.0.staged ≡ []) }
     ensures valid { IfOk result (λ p. IsValid p.0.state) }
     ensures holds { IfOk result (λ p. IfSome (K.shown keeper.old).kept (λ held. held ≡ kept_of p.0.state)) }

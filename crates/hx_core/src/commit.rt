@@ -1,11 +1,14 @@
 // The one way of writes: they are prepared, put to the keeper, and then made.
-ghost use Rattle.std.specs.Prelude.{◌≡◌, ◌≢◌, ◌≤◌, ◌++◌, [], OnOk, OnErr, IfOk, IsErrOf, length, option_copied};
+ghost use Rattle.std.specs.Prelude.{◌≡◌, ◌≢◌, ◌≤◌, ◌<◌, ◌+◌, ◌++◌, [], OnOk, OnErr, IfOk, IsErrOf, length, option_copied};
+ghost use Rattle.hx_model.specs.Limits.{greatest_version};
+ghost use Rattle.hx_model.specs.State.{events_of};
 ghost use Rattle.hx_model.specs.Tree.{forest_of};
 ghost use Rattle.hx_model.specs.Valid.{IsValid};
 ghost use Rattle.hx_model.specs.Writes.{MayWriteAll};
 ghost use Rattle.hx_marks.specs.Law.{all_marks};
 ghost use Rattle.hx_core.specs.Committing.{HasLanded, HasFailed, Holds, IsPrepared, marks_but};
 ghost use Rattle.hx_core.specs.Reaching.{IsScopeOf, MayMark, whole_keys};
+ghost use Rattle.hx_core.specs.Rows.{batch_of};
 ghost use Rattle.hx_queue.specs.Workers.{IsMarkedBy};
 
 use crate::rows::batch_of;
@@ -22,7 +25,7 @@ use hx_store::Change;
 /// All that a commit takes stands here, made once before the keeper is asked: what is put to the keeper, and whatever else is told of a write.
 #[derive(Drop)]
 pub struct Prepared {
-    /// The objects that are put, and the identities of those that are cut.
+    /// The objects that are put, the identities of those that are cut, and the events that are told.
     pub batch: Batch,
 }
 
@@ -46,7 +49,7 @@ impl From<KeepFault> for CommitFault {
     }
 }
 
-/// Stages writes, and makes their batch. Where no memory is left, nothing stays staged.
+/// Stages writes, and makes their batch, with their events. Where no memory is left, nothing stays staged.
 pub fn prepare(state: &mut IndexedState, writes: Vec<Change>) -> Result<Prepared, NoMemory>
     requires none { state.old.staged ≡ [] }
     requires may { MayWriteAll state.old.state writes.items }
@@ -56,20 +59,27 @@ pub fn prepare(state: &mut IndexedState, writes: Vec<Change>) -> Result<Prepared
     ensures unstaged { OnErr result (state.new.staged ≡ []) }
     ensures prepared { IfOk result (λ prepared. IsPrepared state.old.state writes.items prepared.batch) }
 {
-    let version = state.version() + 1;
-    match batch_of(state.allocator(), writes.as_slice(), version) {
-        Ok(batch) => match state.stage(writes) {
-            Ok(()) => Ok(Prepared { batch }),
-            Err(NoMemory) => {
-                drop(batch);
-                Err(NoMemory)
-            }
-        },
+    state.stage(writes)?;
+    match staged_batch(state) {
+        Ok(batch) => Ok(Prepared { batch }),
         Err(NoMemory) => {
-            drop(writes);
+            state.discard();
             Err(NoMemory)
         }
     }
+}
+
+/// The batch of the staged writes.
+fn staged_batch(state: &IndexedState) -> Result<Batch, NoMemory>
+    requires { state.now.state.last < greatest_version }
+    ensures { IfOk result (λ batch. batch ≡ batch_of state.now.staged (state.now.state.last + 1) (events_of state.now.state state.now.staged)) }
+{
+    batch_of(
+        state.allocator(),
+        state.staged(),
+        state.version() + 1,
+        state.staged_events(),
+    )
 }
 
 /// Asks the keeper to take what was prepared, and then makes the staged writes. It takes no memory of its own.

@@ -3,6 +3,7 @@ ghost use Rattle.std.specs.Prelude.{◌≡◌, ◌==◌, ◌≤◌, ◌<◌, ◌
 ghost use Rattle.std.specs.FinMap as map;
 ghost use Rattle.hx_model.specs.State.{has_home};
 ghost use Rattle.hx_model.specs.Valid.{IsValid};
+ghost use Rattle.hx_model.specs.Windows.{opened};
 ghost use Rattle.hx_core.specs.Loading.{Asked, HasRowBehind, Hinders, IfUntaken, IsBehindAll, IsFlaw, IsLoaded, IsTakeable, Takes};
 ghost use Rattle.hx_core.specs.Refinement.{kept_of};
 ghost use Rattle.hx_core.specs.Rows.{current_schema};
@@ -82,6 +83,7 @@ pub fn load_state<K: Keeper>(
 ) -> Result<IndexedState, StartFault>
     requires { damaged_key.old ≡ None }
     ensures config { IfOk result (λ s. s.state.config ≡ config) }
+    ensures window { IfOk result (λ s. s.state.window ≡ opened s.state.last) }
     ensures staged { IfOk result (λ s. s.staged ≡ []) }
     ensures valid { IfOk result (λ s. IsValid s.state) }
     ensures holds { IfOk result (λ s. IfSome (K.shown keeper.old).kept (λ held. held ≡ kept_of s.state)) }
@@ -96,7 +98,7 @@ pub fn load_state<K: Keeper>(
         let damage = misfit_of(&meta);
         return Err(StartFault::Damaged { row: 0, damage });
     }
-    let mut state = IndexedState::new(alloc, meta.version, config, keys);
+    let mut state = IndexedState::new(alloc, meta.version, config, keys)?;
     match load_all(alloc, keeper, &mut state, meta.rows, damaged_key) {
         Ok(()) => Ok(state),
         Err(fault) => {
@@ -137,6 +139,7 @@ fn load_all<K: Keeper>(
     requires unstaged { state.old.staged ≡ [] }
     requires rows { IfSome (K.shown keeper.old).kept (λ held. rows ≡ map.len held.rows) }
     ensures config { OnOk result (state.new.state.config ≡ state.old.state.config) }
+    ensures window { OnOk result (state.new.state.window ≡ opened state.new.state.last) }
     ensures staged { OnOk result (state.new.staged ≡ []) }
     ensures valid { OnOk result (IsValid state.new.state) }
     ensures holds { OnOk result (IfSome (K.shown keeper.old).kept (λ held. held ≡ kept_of state.new.state)) }

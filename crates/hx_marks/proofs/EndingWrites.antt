@@ -25,6 +25,7 @@ use Rattle.hx_model.specs.Subnamespaces.{anchor_id}
 use Rattle.hx_model.specs.Tree.{forest_of, is_terminating, subnamespace_parent}
 use Rattle.hx_model.specs.Valid.{IsValid}
 use Rattle.hx_model.specs.Writes.{MayWrite, MayWriteAll, id_written}
+use Rattle.hx_model.specs.Windows.{WindowView}
 use Rattle.hx_model.specs.declared.key.Key.{Key}
 use Rattle.hx_model.specs.declared.key.Key.TheVariants as key
 use Rattle.hx_model.specs.declared.key.Write.{Write}
@@ -324,13 +325,13 @@ module _ (s : State) (names : List (List ℕ)) (ws : List Write) (ends : AllByRe
   abbrev keys : List Key
   keys = marks_with s names ws
 
-  abbrev after : ℕ → State
-  after last = record s { objects = new; last = last }
+  abbrev after : ℕ → WindowView → State
+  after last window = record s { objects = new; last = last; window = window }
 
-  begun : (m : List ℕ) (last : ℕ) → IsWritten s names ws (object_at new (namespace_id m)) (namespace_id m) → HasBegun s (after last) names keys m
-  begun m last one = by one.write one.is one.leaves one.ends one.marked
+  begun : (m : List ℕ) (last : ℕ) (window : WindowView) → IsWritten s names ws (object_at new (namespace_id m)) (namespace_id m) → HasBegun s (after last window) names keys m
+  begun m last window one = by one.write one.is one.leaves one.ends one.marked
     where
-      by : (write : Write) → id_written write ≡ namespace_id m → object_at new (namespace_id m) ≡ object_written write → IsLeavingWrite s write → AreMarked (marks_among s names write) keys → HasBegun s (after last) names keys m
+      by : (write : Write) → id_written write ≡ namespace_id m → object_at new (namespace_id m) ≡ object_written write → IsLeavingWrite s write → AreMarked (marks_among s names write) keys → HasBegun s (after last window) names keys m
       by (Put x) is leaves end marked = record {
         old = end.old;
         new = x;
@@ -371,18 +372,18 @@ module _ (s : State) (names : List (List ℕ)) (ws : List Write) (ends : AllByRe
       by (Put x) is end = true≢false (sym end.kind ∙ ap (λ (p : Id). is_namespace p.kind) is ∙ leaf)
       by (Cut id) is end = true≢false (sym end ∙ ap (λ (p : Id). is_anchor p.kind) is ∙ other)
 
-  pub ended_with : (last : ℕ) → IsValid s → AllByRecursion (MayWrite s) ws → ((p : List ℕ) → is_in p names ≡ true → is_in p (ending_names ws) ≡ true) → HasEnded s (after last) names keys
-  ended_with last valid may named = record {
+  pub ended_with : (last : ℕ) (window : WindowView) → IsValid s → AllByRecursion (MayWrite s) ws → ((p : List ℕ) → is_in p names ≡ true → is_in p (ending_names ws) ≡ true) → HasEnded s (after last window) names keys
+  ended_with last window valid may named = record {
     excluded = refl;
     served = served_then s ws s.objects may (valid_served s valid);
     ascending = ascends_after ws s.objects valid.in_order;
     others = λ q leaf other. elim (found_then s names ws s.objects q ends) [ inl same ↦ same | inr one ↦ absurd (apart q leaf other one) ];
-    homes = λ m. elim (found_then s names ws s.objects (namespace_id m) ends) [ inl same ↦ inl same | inr one ↦ inr (begun m last one) ];
-    each = λ p mem. begun p last (named_then s names ws s.objects p may ends (named p mem));
+    homes = λ m. elim (found_then s names ws s.objects (namespace_id m) ends) [ inl same ↦ inl same | inr one ↦ inr (begun m last window one) ];
+    each = λ p mem. begun p last window (named_then s names ws s.objects p may ends (named p mem));
     anchors = λ m name. elim (found_then s names ws s.objects (anchor_id m name) ends) [ inl same ↦ inl same | inr one ↦ inr (gone m name one) ];
     inside = λ m. inside_then s names ws s.objects m ends;
   }
 
 pub has_ended : (s : State) (ws : List Write) → IsValid s → MayWriteAll s ws → AllByRecursion (IsLeavingWrite s) ws → HasEnded s (state_after s ws) (ending_names ws) (all_marks s ws)
-has_ended s [] valid may ends = ended_with s [] [] ends s.last valid may.each (λ p mem. mem)
-has_ended s (w ∷ ws) valid may ends = ended_with s (ending_names (w ∷ ws)) (w ∷ ws) ends (s.last + 1) valid may.each (λ p mem. mem)
+has_ended s [] valid may ends = ended_with s [] [] ends s.last s.window valid may.each (λ p mem. mem)
+has_ended s (w ∷ ws) valid may ends = ended_with s (ending_names (w ∷ ws)) (w ∷ ws) ends (s.last + 1) _ valid may.each (λ p mem. mem)

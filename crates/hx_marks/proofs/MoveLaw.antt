@@ -28,6 +28,7 @@ use Rattle.hx_model.specs.Tree.{hierarchy, hierarchy_id, subnamespace_parent, na
 use Rattle.hx_model.specs.TreeLabels.{is_open}
 use Rattle.hx_model.specs.Valid.{IsStored, IsValid}
 use Rattle.hx_model.specs.Writes.{id_written, MayWriteAll}
+use Rattle.hx_model.specs.Windows.{WindowView}
 use Rattle.hx_model.specs.declared.key.Key.{Key}
 use Rattle.hx_model.specs.declared.key.Key.TheVariants as key
 use Rattle.hx_model.specs.declared.key.Write.{Write}
@@ -102,13 +103,13 @@ moved_leaving f n parent a = ap (λ o. option_map_or (λ (node : Node). node.ter
     by true (Some node) = refl
     by false o = refl
 
-module _ (s : State) (valid : IsValid s) (id : Id) (is : is_hierarchy id.kind ≡ true) (new : Objects) (last : ℕ) (keeps : KeepsOthers id s.objects new) (least : KeepsLeast id s.objects new) (k : Key) (out : is_among k (leaving_keys (forest_of s) id.ns) ≡ false) (used : UsedSame s (record s { objects = new; last = last }) k) where
+module _ (s : State) (valid : IsValid s) (id : Id) (is : is_hierarchy id.kind ≡ true) (new : Objects) (last : ℕ) (window : WindowView) (keeps : KeepsOthers id s.objects new) (least : KeepsLeast id s.objects new) (k : Key) (out : is_among k (leaving_keys (forest_of s) id.ns) ≡ false) (used : UsedSame s (record s { objects = new; last = last; window = window }) k) where
   abbrev after : State
-  after = record s { objects = new; last = last }
+  after = record s { objects = new; last = last; window = window }
 
   -- where the tree stays
   stays : forest_in s.config.excluded new ≡ forest_of s → ((m : List ℕ) → k ≡ key.Report m → is_eligible (forest_of s) m ≡ true → same_id (hierarchy_id m) id ≡ false) → IsSameFor s after k
-  stays tree apart = same_for s id is new last keeps (forest_of s) tree (λ n. refl) (λ n. refl) least k (λ m report. report_kept s id is new last keeps m tree (apart m report)) used out refl
+  stays tree apart = same_for s id is new last window keeps (forest_of s) tree (λ n. refl) (λ n. refl) least k (λ m report. report_kept s id is new last window keeps m tree (apart m report)) used out refl
 
   -- where its namespace is there
   moves : (home : Object) (parent : Option (List ℕ)) → object_at s.objects (namespace_id id.ns) ≡ Some home → forest_in s.config.excluded new ≡ with_parent id.ns parent (forest_of s)
@@ -138,8 +139,8 @@ module _ (s : State) (valid : IsValid s) (id : Id) (is : is_hierarchy id.kind �
           stays (tree ∙ ap (λ p. with_parent id.ns p (forest_of s)) (sym (same_names (parent_of (forest_of s) id.ns) parent same)) ∙ with_same_parent s valid id.ns home here)
           (λ m report eligible. found_apart id m (report_out (forest_of s) id.ns m eligible (sym (ap (λ (q : Key). is_among q (report_keys (forest_of s) id.ns)) report) ∙ told)))
       by false differs marks told =
-          same_for s id is new last keeps moved tree (moved_live (forest_of s) id.ns parent) (moved_leaving (forest_of s) id.ns parent) least k
-          (λ m report. report_moved s id is new last keeps m parent there tree (sym (ap (λ (q : Key). is_among q (moved_reports (forest_of s) id.ns (parent_of (forest_of s) id.ns) parent (is_open (forest_of s) id.ns) (is_open moved id.ns))) report) ∙ told))
+          same_for s id is new last window keeps moved tree (moved_live (forest_of s) id.ns parent) (moved_leaving (forest_of s) id.ns parent) least k
+          (λ m report. report_moved s id is new last window keeps m parent there tree (sym (ap (λ (q : Key). is_among q (moved_reports (forest_of s) id.ns (parent_of (forest_of s) id.ns) parent (is_open (forest_of s) id.ns) (is_open moved id.ns))) report) ∙ told))
           used out (moved_same s id.ns parent there (with_same_parent s valid id.ns home here) k marks)
 
   by_home : (named : Option (List ℕ)) (o : Option Object) → object_at s.objects (namespace_id id.ns) ≡ o
@@ -186,9 +187,9 @@ move_law s write valid may is k unmarked used = by write is used (sym (hierarchy
     by : (w : Write) → is_hierarchy (id_written w).kind ≡ true → UsedSame s (state_after s (w ∷ [])) k → ((moving w || leaving w) || telling w) ≡ false → IsSameFor s (state_after s (w ∷ [])) k
     by (Put x) is used none =
         let some = out_left (moving (Put x) || leaving (Put x)) (telling (Put x)) none in
-        move_same s valid x.id is (put x s.objects) (s.last + 1) (put_keeps x x.id s.objects refl) (put_least x s.objects) k (out_right (moving (Put x)) (leaving (Put x)) some) used (named_parent x) (put_moves s valid x is)
+        move_same s valid x.id is (put x s.objects) (s.last + 1) _ (put_keeps x x.id s.objects refl) (put_least x s.objects) k (out_right (moving (Put x)) (leaving (Put x)) some) used (named_parent x) (put_moves s valid x is)
         (out_left (moving (Put x)) (leaving (Put x)) some) (out_right (moving (Put x) || leaving (Put x)) (telling (Put x)) none)
     by (Cut id) is used none =
         let some = out_left (moving (Cut id) || leaving (Cut id)) (telling (Cut id)) none in
-        move_same s valid id is (cut id s.objects) (s.last + 1) (cut_keeps id s.objects) (cut_least id s.objects) k (out_right (moving (Cut id)) (leaving (Cut id)) some) used None (cut_moves s valid id is)
+        move_same s valid id is (cut id s.objects) (s.last + 1) _ (cut_keeps id s.objects) (cut_least id s.objects) k (out_right (moving (Cut id)) (leaving (Cut id)) some) used None (cut_moves s valid id is)
         (out_left (moving (Cut id)) (leaving (Cut id)) some) (out_right (moving (Cut id) || leaving (Cut id)) (telling (Cut id)) none)

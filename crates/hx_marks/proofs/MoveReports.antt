@@ -25,6 +25,7 @@ use Rattle.hx_model.specs.State.{State, Objects, object_at, same_id, namespace_i
 use Rattle.hx_model.specs.Subnamespaces.{anchor_id}
 use Rattle.hx_model.specs.Tree.{hierarchy, hierarchy_id, subnamespace_parent, forest_in, forest_of}
 use Rattle.hx_model.specs.TreeLabels.{is_open}
+use Rattle.hx_model.specs.Windows.{WindowView}
 use Rattle.hx_model.specs.declared.key.Key.{Key}
 use Rattle.hx_model.specs.declared.key.Key.TheVariants as key
 use Rattle.hx_model.specs.declared.node.Halt.TheVariants.{Ancestor}
@@ -170,21 +171,21 @@ found_apart id m apart = false_from_ne_true (same_id (hierarchy_id m) id) (λ h.
 pub found_named : (id : Id) (m : List ℕ) → bytes_eq id.name hierarchy ≡ false → same_id (hierarchy_id m) id ≡ false
 found_named id m other = false_from_ne_true (same_id (hierarchy_id m) id) (λ h. true≢false (sym (ap (λ (q : Id). bytes_eq q.name hierarchy) (sym (is_same_id (hierarchy_id m) id h)) ∙ same_itself hierarchy) ∙ other))
 
-module _ (s : State) (id : Id) (is : is_hierarchy id.kind ≡ true) (new : Objects) (last : ℕ) (keeps : KeepsOthers id s.objects new) (m : List ℕ) where
+module _ (s : State) (id : Id) (is : is_hierarchy id.kind ≡ true) (new : Objects) (last : ℕ) (window : WindowView) (keeps : KeepsOthers id s.objects new) (m : List ℕ) where
   abbrev after : State
-  after = record s { objects = new; last = last }
+  after = record s { objects = new; last = last; window = window }
 
   -- that it misses its anchor
   missed : option_map_or (misses_anchor new m) (object_at new (namespace_id m)) false ≡ option_map_or (misses_anchor s.objects m) (object_at s.objects (namespace_id m)) false
   missed i =
       option_map_or
-      (λ (x : Object). option_map_or (λ p. is_some (other_kind s id is new last keeps (namespace_id p) refl i) && is_none (other_kind s id is new last keeps (anchor_id p m) refl i)) (subnamespace_parent x) false)
-      (other_kind s id is new last keeps (namespace_id m) refl i) false
+      (λ (x : Object). option_map_or (λ p. is_some (other_kind s id is new last window keeps (namespace_id p) refl i) && is_none (other_kind s id is new last window keeps (anchor_id p m) refl i)) (subnamespace_parent x) false)
+      (other_kind s id is new last window keeps (namespace_id m) refl i) false
 
   by_tree : (g : Forest) → forest_in s.config.excluded new ≡ g → same_id (hierarchy_id m) id ≡ false
       → is_eligible g m ≡ is_eligible (forest_of s) m → children_of g m ≡ children_of (forest_of s) m → halt_of g m ≡ halt_of (forest_of s) m → IsSameFor s after (key.Report m)
   by_tree g tree apart eligible children halts =
-      same_report s after m (ap (λ (h : Forest). is_eligible h m) tree ∙ eligible) (keeps (hierarchy_id m) apart) (other_kind s id is new last keeps (namespace_id m) refl)
+      same_report s after m (ap (λ (h : Forest). is_eligible h m) tree ∙ eligible) (keeps (hierarchy_id m) apart) (other_kind s id is new last window keeps (namespace_id m) refl)
       (ap (λ (h : Forest). children_of h m) tree ∙ children)
       (λ i. conditions_by ((ap (λ (h : Forest). halt_of h m) tree ∙ halts) i) (missed i))
 

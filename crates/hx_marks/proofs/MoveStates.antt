@@ -27,6 +27,7 @@ use Rattle.hx_model.specs.Subnamespaces.{anchor_id}
 use Rattle.hx_model.specs.Tree.{forest_in, forest_of}
 use Rattle.hx_model.specs.TreeLabels.{is_open}
 use Rattle.hx_model.specs.Wanted.{copy_write, tree_write, wanted_write, guard_at, guards_of, child_write}
+use Rattle.hx_model.specs.Windows.{WindowView}
 use Rattle.hx_model.specs.declared.key.Key.{Key}
 use Rattle.hx_model.specs.declared.key.Key.TheVariants as key
 use Rattle.hx_model.specs.declared.key.Write.{Write}
@@ -109,9 +110,9 @@ no_source objects q out = by (object_at objects q) refl
     by None e = refl
     by (Some x) e = ap (λ b. so (b && not (is_copy x)) x) (ap (λ (i : Id). can_be_copied i.kind) (sym (found_id objects q x e)) ∙ out)
 
-module _ (s : State) (id : Id) (is : is_hierarchy id.kind ≡ true) (new : Objects) (last : ℕ) (keeps : KeepsOthers id s.objects new) where
+module _ (s : State) (id : Id) (is : is_hierarchy id.kind ≡ true) (new : Objects) (last : ℕ) (window : WindowView) (keeps : KeepsOthers id s.objects new) where
   abbrev after : State
-  after = record s { objects = new; last = last }
+  after = record s { objects = new; last = last; window = window }
 
   pub other_kind : (q : Id) → is_hierarchy q.kind ≡ false → object_at new q ≡ object_at s.objects q
   other_kind q out = keeps q (false_from_ne_true (same_id q id) (λ h. true≢false (sym is ∙ sym (ap (λ (i : Id). is_hierarchy i.kind) (is_same_id q id h)) ∙ out)))

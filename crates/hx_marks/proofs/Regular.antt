@@ -12,7 +12,7 @@ use Rattle.hx_model.specs.Answers.{same_object, replaced_by, replacing, begins_t
 use Rattle.hx_model.specs.State.{State, Objects, object_at, ascends, is_below_all, same_id, with_version}
 use Rattle.hx_model.specs.Tree.{is_terminating, namespaces_in}
 use Rattle.hx_model.specs.declared.ask.Ask.{Ask}
-use Rattle.hx_model.specs.declared.ask.Ask.TheVariants.{Get, List as ListOf, Create, Replace, Delete, Document as DocumentOf}
+use Rattle.hx_model.specs.declared.ask.Ask.TheVariants.{Get, List as ListOf, Create, Replace, Delete, Document as DocumentOf, Events as EventsSince}
 use Rattle.hx_model.specs.declared.key.Write.TheVariants.{Put, Cut}
 use Rattle.hx_model.proofs.Objects.{id_total, is_same_id, same_from_Equal, none_below}
 use Rattle.hx_marks.specs.Halves.{IsEndingWrite, IsRegular}
@@ -86,6 +86,7 @@ pub regular_request : (s : State) (ask : Ask) → ascends s.objects ≡ true →
 regular_request s (Get id) up = inr tt
 regular_request s (ListOf kind ns selector fields) up = inr tt
 regular_request s (DocumentOf document) up = inr tt
+regular_request s (EventsSince version) up = inr tt
 regular_request s (Create x skip) up = inl (Put (with_version x (s.last + 1)), refl)
 regular_request s (Replace x expected skip) up = regular_replacing s (object_at s.objects x.id) x (s.last + 1)
 regular_request s (Delete id skip) up = regular_deletion s id skip up

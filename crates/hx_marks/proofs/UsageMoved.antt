@@ -22,6 +22,7 @@ use Rattle.hx_model.specs.Valid.{IsValid}
 use Rattle.hx_model.specs.Walks.{walk_to}
 use Rattle.hx_model.specs.Wanted.{quota_id}
 use Rattle.hx_model.specs.Writes.{id_written, MayWriteAll}
+use Rattle.hx_model.specs.Windows.{WindowView}
 use Rattle.hx_model.specs.declared.key.Key.{Key}
 use Rattle.hx_model.specs.declared.key.Key.TheVariants as key
 use Rattle.hx_model.specs.declared.key.Write.{Write}
@@ -159,9 +160,9 @@ abbrev TreeThen : State → Id → Option Object → Objects → Type 0
 TreeThen s id found new =
     forest_in s.config.excluded new ≡ (if bytes_eq id.name hierarchy then option_map_or (λ home. with_parent id.ns (parent_with found home) (forest_of s)) (home_in s.objects id) (forest_of s) else forest_of s)
 
-module _ (s : State) (valid : IsValid s) (id : Id) (is : is_hierarchy id.kind ≡ true) (new : Objects) (last : ℕ) (up : ascends new ≡ true) (keeps : KeepsOthers id s.objects new) (a name : List ℕ) where
+module _ (s : State) (valid : IsValid s) (id : Id) (is : is_hierarchy id.kind ≡ true) (new : Objects) (last : ℕ) (window : WindowView) (up : ascends new ≡ true) (keeps : KeepsOthers id s.objects new) (a name : List ℕ) where
   abbrev after : State
-  after = record s { objects = new; last = last }
+  after = record s { objects = new; last = last; window = window }
 
   abbrev f : Forest
   f = forest_of s
@@ -217,8 +218,8 @@ module _ (s : State) (valid : IsValid s) (id : Id) (is : is_hierarchy id.kind �
 pub usage_of_moved : (s : State) (write : Write) → IsValid s → MayWriteAll s (write ∷ []) → is_hierarchy (id_written write).kind ≡ true → (n name : List ℕ)
     → is_among (key.Used n name) (usage_marks s (id_written write) (object_at s.objects (id_written write)) (object_written write)) ≡ false → IsSameFor s (state_after s (write ∷ [])) (key.Used n name)
 usage_of_moved s (Put x) valid may is n name out =
-    by_marks s valid x.id is (put x s.objects) (s.last + 1) (ascends_after (Put x ∷ []) s.objects valid.in_order) (put_keeps x x.id s.objects refl) n name (object_at s.objects x.id) (Some x)
+    by_marks s valid x.id is (put x s.objects) (s.last + 1) _ (ascends_after (Put x ∷ []) s.objects valid.in_order) (put_keeps x x.id s.objects refl) n name (object_at s.objects x.id) (Some x)
     (forest-put_moves s.config.excluded s.objects x.id is valid.in_order (valid_served s valid) x _ refl refl) out
 usage_of_moved s (Cut id) valid may is n name out =
-    by_marks s valid id is (cut id s.objects) (s.last + 1) (ascends_after (Cut id ∷ []) s.objects valid.in_order) (cut_keeps id s.objects) n name (object_at s.objects id) None
+    by_marks s valid id is (cut id s.objects) (s.last + 1) _ (ascends_after (Cut id ∷ []) s.objects valid.in_order) (cut_keeps id s.objects) n name (object_at s.objects id) None
     (forest-cut_moves s.config.excluded s.objects id is valid.in_order (valid_served s valid)) out

@@ -1,5 +1,5 @@
 -- What a write marks, read off the state before it.
---     state_of store config     the state of a store and a run's settings
+--     state_of store config window     the state of a store, a run's settings and a window of events
 --     opens_under f n parent    a namespace takes part once it has that parent
 --     move_marks_to s n parent  it gets that parent
 --     report_marks_by           the reports that change
@@ -17,6 +17,7 @@ use Rattle.hx_model.specs.Moves.{is_eligible, is_open_above}
 use Rattle.hx_model.specs.State.{State, object_at, namespace_id}
 use Rattle.hx_model.specs.Tree.{hierarchy, hierarchy_id, forest_of, parent_with}
 use Rattle.hx_model.specs.TreeLabels.{is_open}
+use Rattle.hx_model.specs.Windows.{WindowView}
 use Rattle.hx_model.specs.Writes.{id_written}
 use Rattle.hx_model.specs.declared.config.RunConfig.{RunConfig}
 use Rattle.hx_model.specs.declared.key.Key.{Key}
@@ -26,8 +27,8 @@ use Rattle.hx_marks.specs.Reports.{ending_reports, removed_reports, created_repo
 use Rattle.hx_marks.specs.Usage.{usage_marks}
 use Rattle.hx_marks.specs.Law.{label_marks, ending_marks, created_marks, removed_marks, begins_to_end, moved_by, mode_marks, anchor_marks, object_marks, leaving_keys, is_modes, object_written, ends_following, following_marks}
 
-abbrev pub state_of : StoreView → RunConfig → State
-state_of store config = record { objects = store.objects; last = store.version; config = config }
+abbrev pub state_of : StoreView → RunConfig → WindowView → State
+state_of store config window = record { objects = store.objects; last = store.version; config = config; window = window }
 
 -- ---- moves
 

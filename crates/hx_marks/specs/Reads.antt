@@ -5,4 +5,4 @@ use Rattle.hx_marks.specs.Before.{state_of}
 use Rattle.hx_marks.specs.declared.current.Current as code
 
 abbrev pub state_in : code.Current → State
-state_in c = state_of c.store.now c.config.now
+state_in c = state_of c.store.now c.config.now c.window.now

@@ -28,6 +28,7 @@ use Rattle.hx_model.specs.Subnamespaces.{anchor_id}
 use Rattle.hx_model.specs.Texts.{new_namespace}
 use Rattle.hx_model.specs.Tree.{hierarchy_id}
 use Rattle.hx_model.specs.Wanted.{quota_id}
+use Rattle.hx_model.specs.Windows.{opened}
 use Rattle.hx_model.specs.declared.config.RunConfig.{RunConfig}
 use Rattle.hx_model.specs.declared.key.Key.TheVariants as key
 use Rattle.hx_model.specs.declared.key.Write.{Write}
@@ -149,6 +150,7 @@ tree excluded = record {
   objects = with_version (new_namespace acme) 1 ∷ with_version (new_namespace team) 2 ∷ under team acme 3 ∷ role acme [] [] (codes "{}") 4 ∷ role team (from app) [] (codes "{}") 5 ∷ [];
   last = 5;
   config = config excluded;
+  window = opened 0;
 }
 
 -- the same without acme
@@ -214,6 +216,7 @@ anchors status excluded rest = record {
   objects = with_version (new_namespace acme) 1 ∷ rest ++ record { id = anchor_id acme team; labels = []; annotations = pair (codes "note") (codes "x"); payload = Anchor status; version = 4 } ∷ [];
   last = 5;
   config = config excluded;
+  window = opened 0;
 }
 
 abbrev child_in : State → Option Write
@@ -280,6 +283,7 @@ with_team terminating rest = record {
   objects = with_version (new_namespace acme) 1 ∷ record (with_version (new_namespace team) 2) { payload = NamespaceOf terminating } ∷ rest;
   last = 9;
   config = config [];
+  window = opened 0;
 }
 
 abbrev removal_in : State → Option Write

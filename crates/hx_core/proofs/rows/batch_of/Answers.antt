@@ -14,4 +14,4 @@ loop-change-preserved c = elim c.match-object.branch [
 ]
 
 pub returns : goal.returns
-returns c = batch_whole c.args.writes.now c.loop-change.change-index c.args.version _ c.of.result _ c.of-2.result c.loop-change.invariant c.loop-change-test.false c.of.ensures c.of-2.ensures
+returns c = batch_whole c.args.writes.now c.loop-change.change-index c.args.version _ c.of.result _ c.of-2.result c.args.events.now c.in_ok-events.events c.loop-change.invariant c.loop-change-test.false c.of.ensures c.of-2.ensures c.in_ok-events.ensures

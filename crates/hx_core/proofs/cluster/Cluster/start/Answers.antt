@@ -19,7 +19,7 @@ returns-in-Ok-clause-opens g c =
 
 pub returns-in-Ok-clause-reopens : goal.returns-in-Ok-clause-reopens
 returns-in-Ok-clause-reopens g c = λ s valid is.
-    same_state (g.K.Keeper.shown c.args.keeper).kept s c.in-Ok.state.state c.args.config c.in-Ok.ensures.config valid c.in-Ok.ensures.valid is c.in-Ok.ensures.holds
+    same_state (g.K.Keeper.shown c.args.keeper).kept s c.in-Ok.state.state c.args.config c.in-Ok.ensures.config c.in-Ok.ensures.window valid c.in-Ok.ensures.valid is c.in-Ok.ensures.holds
 
 pub returns-in-Err-clause-intact : goal.returns-in-Err-clause-intact
 returns-in-Err-clause-intact g c = intact (g.K.Keeper.shown c.args.keeper).kept c.in-Err.fault (first_told c.in-Err.fault (g.K.Keeper.shown c.args.keeper).kept c.load_work.new.damaged_key c.in-Err.ensures.damaged)
