@@ -4,7 +4,7 @@ use Rattle.http.specs.StatusCode.{IsStatusCode}
 use Rattle.hx_model.specs.Bodies.{answer_code}
 use Rattle.hx_model.specs.Replies.{reason_row, status_of}
 use Rattle.hx_model.specs.declared.ask.Answer.{Answer}
-use Rattle.hx_model.specs.declared.ask.Answer.TheVariants.{One, Many, Deleted, Document, Refused}
+use Rattle.hx_model.specs.declared.ask.Answer.TheVariants.{One, Many, Deleted, Document, Events, Refused}
 use Rattle.hx_model.specs.declared.reason.Reason.{Reason}
 use Rattle.hx_model.specs.declared.reason.Reason.TheVariants as reason
 
@@ -15,6 +15,7 @@ reason_code reason.NotFound = (lit≤ tt, lit< tt)
 reason_code reason.MethodNotAllowed = (lit≤ tt, lit< tt)
 reason_code reason.AlreadyExists = (lit≤ tt, lit< tt)
 reason_code reason.Conflict = (lit≤ tt, lit< tt)
+reason_code reason.Expired = (lit≤ tt, lit< tt)
 reason_code reason.RequestEntityTooLarge = (lit≤ tt, lit< tt)
 reason_code reason.Invalid = (lit≤ tt, lit< tt)
 reason_code reason.InternalError = (lit≤ tt, lit< tt)
@@ -28,4 +29,5 @@ is_code (One x false) = (lit≤ tt, lit< tt)
 is_code (Many kind objects version) = (lit≤ tt, lit< tt)
 is_code (Deleted version) = (lit≤ tt, lit< tt)
 is_code (Document document) = (lit≤ tt, lit< tt)
+is_code (Events events version) = (lit≤ tt, lit< tt)
 is_code (Refused refusal) = reason_code (status_of refusal).reason

@@ -13,8 +13,8 @@ use Rattle.hx_turn.proofs.Lists.{carrying_own, carrying_other}
 use Rattle.hx_model.specs.declared.ask.Ask.{Ask}
 use Rattle.hx_model.specs.declared.ask.Answer.{Answer}
 use Rattle.hx_model.specs.declared.key.Key.{Key}
-use Rattle.hx_model.specs.declared.refusal.Refusal.TheVariants.{BadLine, BadPath, BadQuery, NotJson, NotWhole, NotKind, OtherPlace, Broken, OverQuota, NoPath, NotFound, NoMethod, Exists, OtherVersion, TooLong, Missing, WrongType, NoQuantity, BadName, BadLabel, TooManyLabels, TooLarge, StoreFailed, NotServed, NoMemory as NoRoom}
-use Rattle.hx_model.specs.declared.ask.Answer.TheVariants.{One, Many, Deleted, Document, Refused as Refusing}
+use Rattle.hx_model.specs.declared.refusal.Refusal.TheVariants.{BadLine, BadPath, BadQuery, NotJson, NotWhole, NotKind, OtherPlace, Broken, OverQuota, NoPath, NotFound, NoMethod, Exists, OtherVersion, TooLong, Missing, WrongType, NoQuantity, BadName, BadLabel, TooManyLabels, TooLarge, StoreFailed, NotServed, Expired, NoMemory as NoRoom}
+use Rattle.hx_model.specs.declared.ask.Answer.TheVariants.{One, Many, Deleted, Document, Events, Refused as Refusing}
 use Rattle.hx_reconcile.specs.declared.brief.Brief.{Brief}
 use Rattle.hx_model.specs.declared.key.Finish.{Finish}
 use Rattle.hx_model.specs.declared.key.Finish.TheVariants as ending
@@ -110,6 +110,7 @@ request_hands w ask (One x fresh) = refl
 request_hands w ask (Many kind objects version) = refl
 request_hands w ask (Deleted version) = refl
 request_hands w ask (Document document) = refl
+request_hands w ask (Events events version) = refl
 request_hands w ask (Refusing BadLine) = refl
 request_hands w ask (Refusing BadPath) = refl
 request_hands w ask (Refusing (BadQuery name)) = refl
@@ -134,6 +135,7 @@ request_hands w ask (Refusing TooManyLabels) = refl
 request_hands w ask (Refusing TooLarge) = refl
 request_hands w ask (Refusing StoreFailed) = refl
 request_hands w ask (Refusing NotServed) = refl
+request_hands w ask (Refusing (Expired floor)) = refl
 request_hands w ask (Refusing NoRoom) = refl
 
 pub stands_request : (o c d : ClusterView) (log : Log) (n : ℕ) (ask : Ask) (answer : Answer) → StandsAt o log c → Simulates c (request_entry ask answer ∷ []) d → StandsAt o (log ++ (n, call.Request ask answer) ∷ []) d

@@ -1,7 +1,14 @@
-use Rattle.std.proofs.Common.{◌≡◌, ◌∙◌, arith, sym}
-use Rattle.hx_script.proofs.Saying.{Said-of}
+use Rattle.std.proofs.Common.{◌≡◌, ◌∙◌, [], arith, refl, sym}
+use Rattle.hx_script.proofs.Saying.{Said-none, Said-of}
 use Rattle.hx_script.proofs.Settling.{MadeTurns-more, Serves-cut, Serves-lost, Serves-over, ends_left, ends_over, not_lost}
+use Rattle.hx_script.proofs.Simulating.{Simulates-none}
 use Rattle.hx_script.proofs.serving.settle.Goals as goal
+
+pub loop-made-init : goal.loop-made-init
+loop-made-init g c = record {
+  idle = c.requires;
+  made = record { turns = []; many = refl; whole = tt; simulates = Simulates-none c.args.cluster.now; said = Said-none (g.W.Sink.shown c.args.sink.now) };
+}
 
 pub loop-made-preserved : goal.loop-made-preserved
 loop-made-preserved g c = record {
