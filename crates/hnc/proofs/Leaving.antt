@@ -5,6 +5,8 @@ use Rattle.std.specs.declared.option.Option.{Option}
 use Rattle.hx_ports.specs.Keeping.{Kept}
 use Rattle.hx_ports.specs.Causes.{Rose, KeeperCause}
 use Rattle.hx_ports.specs.Views.{KeeperView, SinkView, SourceView}
+use Rattle.hx_watch.specs.Watching.{HaveFollowed, Members}
+use Rattle.hx_model.specs.Happening.{events_in}
 use Rattle.hx_model.specs.Machine.{History, IsHistory, opening_world, replay}
 use Rattle.hx_model.specs.State.{State}
 use Rattle.hx_model.specs.Valid.{IsValid}
@@ -40,6 +42,7 @@ pub record Starts (run : Command) (keeper : KeeperView) (c : ClusterView) : Type
   pub same : IfSome keeper.kept (λ held. c.keeper.kept ≡ Some held)
   pub whole : c.keeper.broken ≡ keeper.broken
   pub still : c.keeper.faults ≡ keeper.faults
+  pub untold : c.keeper.watchers ≡ keeper.watchers
   pub opens : Represents c (opening_world c.keeper.broken c.state)
   pub configured : c.state.config ≡ run.config
   pub valid : IsValid c.state
@@ -54,13 +57,14 @@ still_ok before now x cause = cause.still (λ e. cc)
 pub not_done : (end : RunEnd) → end ≡ Wanting → end ≢ Ended
 not_done end is e = cc
 
-pub starts_on : {T : Type 0} (run : Command) (keeper attached : KeeperView) (c : ClusterView) → attached.place ≡ Some run.db → IfSome keeper.kept (λ held. attached.kept ≡ Some held) → attached.broken ≡ keeper.broken → (x : T) → KeeperCause keeper.faults attached.faults (Ok x)
+pub starts_on : {T : Type 0} (run : Command) (keeper attached : KeeperView) (c : ClusterView) → attached.place ≡ Some run.db → IfSome keeper.kept (λ held. attached.kept ≡ Some held) → attached.broken ≡ keeper.broken → attached.watchers ≡ keeper.watchers → (x : T) → KeeperCause keeper.faults attached.faults (Ok x)
     → c.keeper ≡ attached → Represents c (opening_world c.keeper.broken c.state) → c.state.config ≡ run.config → IsValid c.state → IfSome c.keeper.kept (λ held. held ≡ kept_of c.state) → IfSome c.keeper.kept IsUndamaged → Starts run keeper c
-starts_on run keeper attached c place same whole x cause is opens configured valid holds undamaged = record {
+starts_on run keeper attached c place same whole untold x cause is opens configured valid holds undamaged = record {
   place = ap (λ k. k.place) is ∙ place;
   same = subst (λ k. IfSome keeper.kept (λ held. k.kept ≡ Some held)) (sym is) same;
   whole = ap (λ k. k.broken) is ∙ whole;
   still = ap (λ k. k.faults) is ∙ still_ok keeper.faults attached.faults x cause;
+  untold = ap (λ k. k.watchers) is ∙ untold;
   opens = opens;
   configured = configured;
   valid = valid;
@@ -80,11 +84,12 @@ tells_on (Some held) new None same tells = absurd (true≢false (sym (tells ∙ 
 tells_on (Some held) new (Some kept) same tells = refl
 
 -- a history with what it leaves in a keeper
-record Stands (first : State) (entries : History) (broken : Bool) (keeper : KeeperView) : Type 0 where
+record Stands (first : State) (entries : History) (broken : Bool) (before : Members) (keeper : KeeperView) : Type 0 where
   history : IsHistory (opening_world broken first) entries
   valid : AllValid (opening_world broken first) entries
   stored : IfSome keeper.kept (IsKeptOf (replay (opening_world broken first) entries))
   breaks : (replay (opening_world broken first) entries).broken ≡ keeper.broken
+  told : HaveFollowed (events_in (opening_world broken first) entries) before keeper.watchers
 
 if_some : {A : Type 0} (o : Option A) (P : A → Type 0) → ((x : A) → o ≡ Some x → P x) → IfSome o P
 if_some None P p = tt
@@ -111,8 +116,9 @@ carries words entries keeper keeper' a b starts is simulates =
     let opening = opening_world a.keeper.broken a.state in
     let run = simulates (opening, starts.opens) in
     let steps = run.steps opening starts.opens in
-    let here : Stands a.state entries a.keeper.broken b.keeper = record { history = steps.0; valid = run.valid opening starts.opens; stored = steps.1.kept; breaks = steps.1.broken } in
-    let there : Stands a.state entries keeper.broken keeper' = subst (Stands a.state entries keeper.broken) (sym is) (subst (λ broken. Stands a.state entries broken b.keeper) starts.whole here) in
+    let here : Stands a.state entries a.keeper.broken a.keeper.watchers b.keeper = record { history = steps.0; valid = run.valid opening starts.opens; stored = steps.1.kept; breaks = steps.1.broken; told = run.told opening starts.opens } in
+    let there : Stands a.state entries keeper.broken keeper.watchers keeper' =
+    subst (Stands a.state entries keeper.broken keeper.watchers) (sym is) (subst (λ before. Stands a.state entries keeper.broken before b.keeper) starts.untold (subst (λ broken. Stands a.state entries broken a.keeper.watchers b.keeper) starts.whole here)) in
     record {
       first = a.state;
       last = replay (opening_world keeper.broken a.state) entries;
@@ -126,6 +132,7 @@ carries words entries keeper keeper' a b starts is simulates =
       breaks = there.breaks;
       lost = λ e. subst (λ k. Rose keeper.faults k.faults) (sym is) (subst (λ n. Rose n b.keeper.faults) starts.still (run.cause e));
       still = λ e. ap (λ k. k.faults) is ∙ run.still e ∙ starts.still;
+      told = there.told;
     }
 
 -- a run of a cluster that was started
@@ -257,6 +264,7 @@ nothing_printed words command source sink sink' keeper keeper' a is starts ends 
       same = subst (λ k. IfSome keeper.kept (λ held. k.kept ≡ Some held)) (sym ends) starts.same;
       whole = ap (λ k. k.broken) ends ∙ starts.whole;
       place = inr (subst Q (sym is) (ap (λ k. k.place) ends ∙ starts.place));
+      untold = ap (λ k. k.watchers) ends ∙ starts.untold;
     }
 
 -- a report on a cluster that was started, and is closed as it was
@@ -272,6 +280,7 @@ prints_on command report status lacking sink sink' keeper keeper' a starts task 
   same = subst (λ k. IfSome keeper.kept (λ held. k.kept ≡ Some held)) (sym is) starts.same;
   whole = ap (λ k. k.broken) is ∙ starts.whole;
   still = ap (λ k. k.faults) is ∙ starts.still;
+  untold = ap (λ k. k.watchers) is ∙ starts.untold;
 }
 
 -- the same of what the words ask for

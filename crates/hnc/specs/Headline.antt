@@ -2,7 +2,7 @@
 --     EndsQuiet                  a history ends with a check that no key waits or is held
 --     HoldsBetween s t           limits hold from one state to another
 --     Runs opening entries last  a history of the machine leads from one world to another
---     Carries                    entries are one history of the machine, and the keeper holds what it leaves
+--     Carries                    entries are one history of the machine, the keeper holds what it leaves, and its watchers were told what it tells
 --     Leaves                     what a run of a script leaves: such a history of its lines, and what it writes
 --     LeavesWhole, LeavesFront   the same of a run to the script's end;  of one that was cut short
 --     LeavesRead                 of one whose source failed: each line that ended before has its answer
@@ -21,6 +21,7 @@ use Rattle.std.specs.List.{AllByRecursion}
 use Rattle.std.specs.Io.KnownBytes.{Appends, Consumes}
 use Rattle.hx_ports.specs.Causes.{Rose}
 use Rattle.hx_ports.specs.Views.{KeeperView, SinkView, SourceView}
+use Rattle.hx_watch.specs.Watching.{HaveFollowed}
 use Rattle.hx_words.specs.declared.command.Command.{Command}
 use Rattle.hx_words.specs.declared.command.Task.{Task}
 use Rattle.hx_words.specs.declared.command.Task.TheVariants.{Serve}
@@ -30,6 +31,7 @@ use Rattle.hx_model.specs.Machine.{World, History, Checked, opening_world, IsHis
 use Rattle.hx_model.specs.Settled.{IsSettled}
 use Rattle.hx_model.specs.declared.resource.Resource.{Resource}
 use Rattle.hx_model.specs.Excess.{BeginsOnlyThere, HoldsOn}
+use Rattle.hx_model.specs.Happening.{events_in}
 use Rattle.hx_model.specs.Known.{SpeaksOfKeys, none_known}
 use Rattle.hx_core.specs.Refinement.{AllValid, IsKeptOf, kept_of}
 use Rattle.hx_core.specs.Starting.{IsUndamaged}
@@ -74,6 +76,7 @@ pub record Runs (opening : World) (entries : History) (last : World) : Type 0 wh
 -- There is a first state, which is under the configuration of the words: the one whose rows the keeper had, where it told them. These entries are a history of the machine from it.
 -- What the keeper holds is what the history leaves, and it is broken where the history says so; its count rose where a loss to a fault stands in the history, and stayed where none does.
 -- The keeper was undamaged. It is at the path of the words now, and it tells what it holds if it told before.
+-- Its watchers followed the events of the history: one that tells its events got exactly these behind what it had, in order, each once; one that was set aside got a prefix of them, and refused the next; one that was set aside before got none.
 pub record Carries (run : Command) (entries : History) (keeper keeper' : KeeperView) : Type 0 where
   pub first : State
   pub last : World
@@ -87,6 +90,7 @@ pub record Carries (run : Command) (entries : History) (keeper keeper' : KeeperV
   pub breaks : last.broken ≡ keeper'.broken
   pub lost : loses_to_fault entries ≡ true → Rose keeper.faults keeper'.faults
   pub still : loses_to_fault entries ≡ false → keeper'.faults ≡ keeper.faults
+  pub told : HaveFollowed (events_in (opening_world keeper.broken first) entries) keeper.watchers keeper'.watchers
 
 -- There is one history of the machine. Its entries are those of the script's lines in order, each once, up to the rest. What is written are their answers, but for what is lacking of the last one.
 pub record Leaves (run : Command) (script : List ℕ) (rest : List Line) (lacking : List ℕ) (sink sink' : SinkView) (keeper keeper' : KeeperView) : Type 0 where
@@ -183,13 +187,14 @@ has_not_begun KeeperFault = true
 has_not_begun Damaged = true
 has_not_begun _ = false
 
--- nothing was read, written or committed. The keeper has no place yet, or the path of the words
+-- nothing was read, written, committed or told. The keeper has no place yet, or the path of the words
 pub record IsUnbegun {S W : Type 0} (words : Option Command) (source source' : S) (sink sink' : W) (keeper keeper' : KeeperView) : Type 0 where
   pub unread : source' ≡ source
   pub unwritten : sink' ≡ sink
   pub same : IfSome keeper.kept (λ held. keeper'.kept ≡ Some held)
   pub whole : keeper'.broken ≡ keeper.broken
   pub place : (keeper'.place ≡ None) ⊎ IsSomeAnd words (λ run. keeper'.place ≡ Some run.db)
+  pub untold : keeper'.watchers ≡ keeper.watchers
 
 -- the door failed: before it listened, and nothing was begun; or when a link was to come, and those before were served
 abbrev pub IsLeftByDoor : {S W : Type 0} → Option Command → Option Command → S → S → W → W → KeeperView → KeeperView → DoorView → DoorView → Type 0

@@ -1,3 +1,4 @@
 pub mod Headline
+pub mod Printed
 pub mod Reports
 pub mod Serving

@@ -5,7 +5,7 @@
 --     Says, SaysFront                a report was printed;  a front of it
 --     Prints                         what such a command leaves: a report on the state whose rows the keeper has
 --     PrintsWhole, PrintsFront       the same where all of it was written;  where a write failed
--- Nothing is committed, and nothing is read but what the keeper has.
+-- Nothing is committed or told, and nothing is read but what the keeper has.
 use Rattle.std.specs.Prelude.{◌≡◌, ℕ, Bool, true, false, List, [], ◌++◌, codes, is_some, IfSome, Option, None, Some}
 use Rattle.std.specs.Io.KnownBytes.{Appends}
 use Rattle.hx_ports.specs.Views.{KeeperView, SinkView}
@@ -76,7 +76,7 @@ SaysOf (Print report) status s lacking sink sink' = Says report status s lacking
 SaysOf _ status s lacking sink sink' = ⊥
 
 -- There is a valid state, under the configuration of the words: the one whose rows the keeper has, where it tells them. What is written is the report on it, but for what is lacking.
--- The keeper was undamaged. It is at the path of the words now, and holds what it held.
+-- The keeper was undamaged. It is at the path of the words now, holds what it held, and its watchers were told of nothing.
 pub record Prints (command : Command) (status : Status) (lacking : List ℕ) (sink sink' : SinkView) (keeper keeper' : KeeperView) : Type 0 where
   pub state : State
   pub valid : IsValid state
@@ -88,6 +88,7 @@ pub record Prints (command : Command) (status : Status) (lacking : List ℕ) (si
   pub same : IfSome keeper.kept (λ held. keeper'.kept ≡ Some held)
   pub whole : keeper'.broken ≡ keeper.broken
   pub still : keeper'.faults ≡ keeper.faults
+  pub untold : keeper'.watchers ≡ keeper.watchers
 
 -- all of it was written
 abbrev pub PrintsWhole : Command → Status → SinkView → SinkView → KeeperView → KeeperView → Type 0

@@ -1,22 +1,25 @@
 //! `hnc`: the control service of hierarchical namespaces, as a program over scripts of requests and links of HTTP, with reports on what they leave.
 #![tactic(auto)]
 
+mod events;
 mod printing;
 mod serving;
 #[cfg(test)]
 mod tests;
 mod top;
 
-ghost use Rattle.std.specs.Prelude.{◌≡◌, false, [], None, Ok, map, IsSomeAnd, string_bytes};
+ghost use Rattle.std.specs.Prelude.{◌≡◌, false, [], None, map, IfOk, IsSomeAnd, string_bytes};
 ghost use Rattle.hx_words.specs.Words.{command_of, is_reading, reading_of};
 
+use crate::events::EventPrinter;
 use crate::top::{DamagedRow, Ended, Status, top};
 use hx_door::{TcpDoor, TcpFault};
 use hx_link::LinkEnd;
 use hx_object::{List, NoMemory};
-use hx_ports::{Keeper, Meta, StdSink, StdSource, StreamFault, SureKeeper};
+use hx_ports::{Followed, Keeper, Meta, StdSink, StdSource, StreamFault, SureKeeper};
 use hx_serve::Notices;
 use hx_sqlite::{SqlFault, SqlKeeper};
+use hx_watch::Hub;
 use hx_words::{Command, WordsFault, first_untaken, read_words};
 use std::alloc::Global;
 use std::hash::RandomState;
@@ -25,11 +28,14 @@ use std::sync::Wait;
 use std::thread::Threads;
 use std::{env, io};
 
+/// What events are printed on.
+type Printer = EventPrinter<StdSink<io::Stderr>>;
+
 /// How the commands are used.
 const USAGE: &str = "\
-usage: hnc run [--db PATH] [--excluded-namespace NAMES] [--allow-skip] <SCRIPT
+usage: hnc run [--db PATH] [--excluded-namespace NAMES] [--allow-skip] [--events] <SCRIPT
        hnc serve --listen ADDRESS:PORT [--sessions NUMBER] [--workers NUMBER] [--links NUMBER]
-                 [--db PATH] [--excluded-namespace NAMES] [--allow-skip]
+                 [--db PATH] [--excluded-namespace NAMES] [--allow-skip] [--events]
        hnc tree [--db PATH] [--excluded-namespace NAMES]
        hnc describe NAMESPACE [--db PATH] [--excluded-namespace NAMES]
        hnc quota [--db PATH]
@@ -66,6 +72,8 @@ struct Outcome {
     close_fault: Option<SqlFault>,
     read_fault: Option<StreamFault>,
     write_fault: Option<StreamFault>,
+    /// Whether some events weren't printed that were to be.
+    lacks_events: bool,
     door: TcpDoor,
 }
 
@@ -92,6 +100,13 @@ enum Access {
     Written,
 }
 
+/// How the rows of a command are had, and whether its events are printed.
+#[derive(Clone, Copy)]
+struct Way {
+    access: Access,
+    prints_events: bool,
+}
+
 /// Runs the command over standard input and output.
 fn run<T: Threads + Wait + Sync>(
     rt: &HostRuntime,
@@ -99,30 +114,74 @@ fn run<T: Threads + Wait + Sync>(
     words: &[String],
     keys: RandomState,
 ) -> Outcome {
-    match access_of_words(rt.alloc(), words) {
-        Ok(Access::Memory) => run_in_memory(rt, threads, words, keys),
-        Ok(Access::Read) => run_over(rt, threads, words, keys, SqlKeeper::for_reading(rt)),
-        Ok(Access::Written) => run_over_written(rt, threads, words, keys),
-        Err(NoMemory) => Outcome {
-            status: Status::NoMemory,
-            damaged: None,
-            database_fault: None,
-            close_fault: None,
-            read_fault: None,
-            write_fault: None,
-            door: TcpDoor::new(rt),
-        },
+    match way_of_words(rt.alloc(), words) {
+        Ok(way) => run_by(rt, threads, words, keys, way),
+        Err(NoMemory) => without_memory(rt),
     }
 }
 
-/// How the rows are had of what the words ask for. Words that aren't taken open nothing.
-fn access_of_words(alloc: Global, words: &[String]) -> Result<Access, NoMemory>
-    ensures memory { result ≡ Ok Access.Memory → IsSomeAnd (command_of (map string_bytes words.now)) (λ command. command.db ≡ []) }
-    ensures written { result ≡ Ok Access.Written → reading_of (map string_bytes words.now) ≡ None }
+/// Runs the command on its way, with what is told of its events.
+fn run_by<T: Threads + Wait + Sync>(
+    rt: &HostRuntime,
+    threads: &T,
+    words: &[String],
+    keys: RandomState,
+    way: Way,
+) -> Outcome
+    requires memory { way.access ≡ Access.Memory → IsSomeAnd (command_of (map string_bytes words.now)) (λ command. command.db ≡ []) }
+    requires written { way.access ≡ Access.Written → reading_of (map string_bytes words.now) ≡ None }
+{
+    let Ok(hub) = hub_of(rt, way.prints_events) else {
+        return without_memory(rt);
+    };
+    match way.access {
+        Access::Memory => run_in_memory(rt, threads, words, keys, hub),
+        Access::Read => run_over(rt, threads, words, keys, SqlKeeper::for_reading(rt), hub),
+        Access::Written => run_over_written(rt, threads, words, keys, hub),
+    }
+}
+
+/// What a command leaves for which no memory was left before it began.
+fn without_memory(rt: &HostRuntime) -> Outcome {
+    Outcome {
+        status: Status::NoMemory,
+        damaged: None,
+        database_fault: None,
+        close_fault: None,
+        read_fault: None,
+        write_fault: None,
+        lacks_events: false,
+        door: TcpDoor::new(rt),
+    }
+}
+
+/// A hub with a printer of events on standard error, or without any watcher.
+fn hub_of(rt: &HostRuntime, prints_events: bool) -> Result<Hub<Printer>, NoMemory> {
+    let mut hub = Hub::new(rt.alloc());
+    if !prints_events {
+        return Ok(hub);
+    }
+    let printer = EventPrinter::new(rt.alloc(), StdSink::new(rt.stderr()));
+    match hub.add(printer) {
+        Ok(()) => Ok(hub),
+        Err(_) => Err(NoMemory),
+    }
+}
+
+/// The way of what the words ask for. Words that aren't taken open nothing.
+fn way_of_words(alloc: Global, words: &[String]) -> Result<Way, NoMemory>
+    ensures memory { IfOk result (λ way. way.access ≡ Access.Memory → IsSomeAnd (command_of (map string_bytes words.now)) (λ command. command.db ≡ [])) }
+    ensures written { IfOk result (λ way. way.access ≡ Access.Written → reading_of (map string_bytes words.now) ≡ None) }
 {
     match read_words(alloc, words) {
-        Ok(command) => Ok(access_of(&command)),
-        Err(WordsFault::Usage) => Ok(Access::Written),
+        Ok(command) => Ok(Way {
+            access: access_of(&command),
+            prints_events: command.events,
+        }),
+        Err(WordsFault::Usage) => Ok(Way {
+            access: Access::Written,
+            prints_events: false,
+        }),
         Err(WordsFault::NoMemory) => Err(NoMemory),
     }
 }
@@ -146,6 +205,7 @@ fn run_in_memory<T: Threads + Wait + Sync>(
     threads: &T,
     words: &[String],
     keys: RandomState,
+    hub: Hub<Printer>,
 ) -> Outcome
     requires { IsSomeAnd (command_of (map string_bytes words.now)) (λ command. command.db ≡ []) }
 {
@@ -156,7 +216,7 @@ fn run_in_memory<T: Threads + Wait + Sync>(
     let Ended {
         status,
         damaged,
-        keeper: _,
+        keeper,
         door,
     } = top(
         threads,
@@ -166,7 +226,7 @@ fn run_in_memory<T: Threads + Wait + Sync>(
         &mut sink,
         TcpDoor::new(rt),
         &notices,
-        keeper,
+        Followed::new(keeper, hub),
         keys,
     );
     Outcome {
@@ -176,6 +236,7 @@ fn run_in_memory<T: Threads + Wait + Sync>(
         close_fault: None,
         read_fault: source.last_fault(),
         write_fault: sink.last_fault(),
+        lacks_events: keeper.hub().gone() > 0,
         door,
     }
 }
@@ -186,10 +247,11 @@ fn run_over_written<T: Threads + Wait + Sync>(
     threads: &T,
     words: &[String],
     keys: RandomState,
+    hub: Hub<Printer>,
 ) -> Outcome
     requires { reading_of (map string_bytes words.now) ≡ None }
 {
-    run_over(rt, threads, words, keys, SqlKeeper::new(rt))
+    run_over(rt, threads, words, keys, SqlKeeper::new(rt), hub)
 }
 
 /// Runs the command over a keeper of a database.
@@ -199,6 +261,7 @@ fn run_over<T: Threads + Wait + Sync>(
     words: &[String],
     keys: RandomState,
     keeper: SqlKeeper,
+    hub: Hub<Printer>,
 ) -> Outcome
     requires { (⟦<SqlKeeper as Keeper>⟧.shown keeper).place ≡ None }
 {
@@ -218,9 +281,10 @@ fn run_over<T: Threads + Wait + Sync>(
         &mut sink,
         TcpDoor::new(rt),
         &notices,
-        keeper,
+        Followed::new(keeper, hub),
         keys,
     );
+    let (keeper, hub) = keeper.into_parts();
     Outcome {
         status,
         damaged,
@@ -228,6 +292,7 @@ fn run_over<T: Threads + Wait + Sync>(
         close_fault: close(status, keeper),
         read_fault: source.last_fault(),
         write_fault: sink.last_fault(),
+        lacks_events: hub.gone() > 0,
         door,
     }
 }
@@ -249,8 +314,9 @@ fn words_of(rt: &(impl env::Env + AllocGlobal)) -> io::Result<Vec<String>> {
     Ok(words)
 }
 
-/// Says on standard error how a run ended, unless it is `Done`, and where the database wasn't closed, and ends with the status's number.
+/// Says on standard error how a run ended, unless it is `Done`, and where the database wasn't closed or events are lacking, and ends with the status's number.
 fn exit_with(rt: &HostRuntime, words: &[String], outcome: &Outcome) -> ExitCode {
+    say_lacks(rt, outcome.lacks_events);
     let _ = match outcome.close_fault {
         Some(fault) => eprintln!(rt;
             "hnc: the log could not be brought into the database file: {fault}: keep the two together"
@@ -265,6 +331,15 @@ fn exit_with(rt: &HostRuntime, words: &[String], outcome: &Outcome) -> ExitCode 
         Status::Damaged => exit_with_damage(rt, outcome.damaged.as_ref()),
         Status::DoorFault => exit_with_door_fault(rt, outcome.door.last_fault()),
         status => exit_with_status(rt, status),
+    }
+}
+
+/// Says that not all events were printed.
+fn say_lacks(rt: &HostRuntime, lacks_events: bool) {
+    if lacks_events {
+        let _ = eprintln!(rt;
+            "hnc: events were told no more: standard error failed, or no memory was left"
+        );
     }
 }
 

@@ -16,6 +16,7 @@ use std::thread::Threads;
 
 mod ample;
 mod damage;
+mod events;
 mod reports;
 mod serving;
 mod sharing;
@@ -518,9 +519,12 @@ fn a_write_fails_in_a_settle(rt: HostRuntime) -> Result<(), Fail> {
 }
 
 // Words, and how a run of them over an empty script ends.
-const WORDS: [(&str, Status); 31] = [
+const WORDS: [(&str, Status); 34] = [
     ("run", Status::Done),
     ("run --allow-skip", Status::Done),
+    ("run --events", Status::Done),
+    ("run --events --events", Status::Usage),
+    ("tree --events", Status::Usage),
     ("run --excluded-namespace a,b", Status::Done),
     ("run --excluded-namespace=a,b", Status::Done),
     ("run --excluded-namespace ", Status::Done),

@@ -80,6 +80,8 @@ pub struct DamagedRow {
 ///
 /// Links are answered by several sessions, with workers beside them, each in a thread of its own. `notices` is told of links that end otherwise than closed.
 ///
+/// The watchers of the keeper are told of what happens, and handed back with it: each that tells its events got exactly those of the history, in order, each once; one that was set aside got a prefix of them. Whether words ask for events is nothing to this call: who makes the keeper gives it its watchers.
+///
 /// The keys hash what is held in memory, so that names can't be chosen to collide. Nothing that is answered or stored depends on them.
 pub fn top<
     T: Threads + Wait + Sync,
@@ -104,7 +106,7 @@ where
     D::Output: Send,
     requires { (K.shown keeper).place ≡ None }
 
-    // Answers and stored objects are a run of the machine. A report is one on the rows, which stay.
+    // Answers, stored objects and the events that watchers were told of are a run of the machine. A report is one on the rows, which stay.
     ensures done { result.status ≡ Status.Done → IsCarriedOut (run_of (map string_bytes words.now)) (reading_of (map string_bytes words.now)) (serving_of (map string_bytes words.now)) Status.Done (S.shown source.old) (W.shown sink.old) (W.shown sink.new) (K.shown keeper) (K.shown result.keeper) (D.shown door) (D.shown result.door) }
     ensures cut { is_cut_short result.status ≡ true → IsCutShort (run_of (map string_bytes words.now)) (reading_of (map string_bytes words.now)) (S.shown source.old) (W.shown sink.old) (W.shown sink.new) (K.shown keeper) (K.shown result.keeper) }
     ensures unbegun { has_not_begun result.status ≡ true → IsUnbegun (command_of (map string_bytes words.now)) source.old source.new sink.old sink.new (K.shown keeper) (K.shown result.keeper) }
@@ -140,7 +142,12 @@ where
         → IsSomeAnd (K.shown keeper).kept IsUndamaged
         → is_complete result.status ≡ true }
 {
-    let Command { task, db, config } = match read_words(alloc, words) {
+    let Command {
+        task,
+        db,
+        config,
+        events: _,
+    } = match read_words(alloc, words) {
         Ok(command) => command,
         Err(fault) => return end_with(status_of_words(fault), keeper, door),
     };

@@ -11,7 +11,11 @@ use Rattle.hx_words.specs.Words.{command_of, run_of, reading_of}
 
 -- a command that is asked for
 asking_for : Task → Text → List Text → Bool → Option Command
-asking_for task db names allow_skip = Some (record { task = task; db = db; config = record { excluded = names; allow_skip = allow_skip } })
+asking_for task db names allow_skip = Some (record { task = task; db = db; config = record { excluded = names; allow_skip = allow_skip }; events = false })
+
+-- one whose events are to be printed
+printing : Task → Text → Bool → Option Command
+printing task db allow_skip = Some (record { task = task; db = db; config = record { excluded = []; allow_skip = allow_skip }; events = true })
 
 -- a run that is asked for
 asking : Text → List Text → Bool → Option Command
@@ -260,9 +264,45 @@ making : refused (codes "gen" ∷ codes "1" ∷ codes "2" ∷ [])
 unfolding refused command_of clap_on_literals
 making = refl
 
-watched : refused (codes "run" ∷ codes "--events" ∷ [])
-unfolding refused command_of clap_on_literals
+-- ---- events
+
+watched : command_of (codes "run" ∷ codes "--events" ∷ []) ≡ printing Run [] false
+unfolding command_of printing clap_on_literals
 watched = refl
+
+watched_all : command_of (codes "run" ∷ codes "--events" ∷ codes "--db" ∷ codes "a" ∷ codes "--allow-skip" ∷ []) ≡ printing Run (codes "a") true
+unfolding command_of printing clap_on_literals
+watched_all = refl
+
+watched_serving : command_of (codes "serve" ∷ codes "--listen=x" ∷ codes "--events" ∷ []) ≡ printing (Serve (record { listen = codes "x"; sessions = 4; workers = 2; links = 1000000 })) [] false
+unfolding command_of printing clap_on_literals
+watched_serving = refl
+
+watched_twice : refused (codes "run" ∷ codes "--events" ∷ codes "--events" ∷ [])
+unfolding refused command_of clap_on_literals
+watched_twice = refl
+
+watched_by_a_value : refused (codes "run" ∷ codes "--events=true" ∷ [])
+unfolding refused command_of clap_on_literals
+watched_by_a_value = refl
+
+watched_tree : refused (codes "tree" ∷ codes "--events" ∷ [])
+unfolding refused command_of clap_on_literals
+watched_tree = refl
+
+watched_description : refused (codes "describe" ∷ codes "a" ∷ codes "--events" ∷ [])
+unfolding refused command_of clap_on_literals
+watched_description = refl
+
+watched_quota : refused (codes "quota" ∷ codes "--events" ∷ [])
+unfolding refused command_of clap_on_literals
+watched_quota = refl
+
+watched_audit : refused (codes "audit" ∷ codes "--events" ∷ [])
+unfolding refused command_of clap_on_literals
+watched_audit = refl
+
+-- ---- runs and readings
 
 a_run_is_a_run : run_of (codes "run" ∷ []) ≡ asking [] [] false
 unfolding command_of asking_for asking clap_on_literals

@@ -1,5 +1,5 @@
 -- What the words of the command line ask for. The first is a subcommand, and these stand behind it, in any order and each at most once:
---     run         --db PATH, --excluded-namespace NAMES, --allow-skip
+--     run         --db PATH, --excluded-namespace NAMES, --allow-skip, --events
 --     serve       those of run, --listen ADDRESS, which has to stand, --sessions 1 to 16, --workers 0 to 16, --links 1 to 1000000
 --     tree        --db PATH, --excluded-namespace NAMES
 --     describe    NAMESPACE, which has to stand, --db PATH, --excluded-namespace NAMES
@@ -65,7 +65,7 @@ in_trees name = with_rule (stored name) (text_option (codes "excluded-namespace"
 
 -- a subcommand that changes what is stored
 abbrev pub running : Text → App
-running name = with_rule (in_trees name) (flag (codes "allow-skip"))
+running name = with_rule (with_rule (in_trees name) (flag (codes "allow-skip"))) (flag (codes "events"))
 
 -- the subcommand that serves, with its address
 abbrev pub listening : App
@@ -125,6 +125,10 @@ config_of rows =
     let config : RunConfig = record { excluded = names; allow_skip = bytes_eq (value_of rows (codes "allow-skip")) (codes "true") } in
     if list_all is_dns_label names then Some config else None
 
+-- the options ask that events be printed
+abbrev pub has_events : List Row → Bool
+has_events rows = bytes_eq (value_of rows (codes "events")) (codes "true")
+
 -- to describe a namespace, where its name is a DNS label
 abbrev pub description_of : Text → Option Task
 description_of name = if is_dns_label name then Some (Print (Describe name)) else None
@@ -158,7 +162,7 @@ task_of name rows =
 
 -- what a subcommand and its options ask for
 abbrev pub asked_by : Text → List Row → Option Command
-asked_by name rows = option_and_then (λ (task : Task). option_map (λ (config : RunConfig). record { task = task; db = value_of rows (codes "db"); config = config }) (config_of rows)) (task_of name rows)
+asked_by name rows = option_and_then (λ (task : Task). option_map (λ (config : RunConfig). record { task = task; db = value_of rows (codes "db"); config = config; events = has_events rows }) (config_of rows)) (task_of name rows)
 
 -- what is asked for, where there is no fault
 abbrev pub without_fault : Kinds → Option Command → Option Command

@@ -13,6 +13,8 @@ pub struct Command {
     pub db: Text,
     /// What is fixed for the cluster. Only `run` and `serve` can allow to skip rules, and `quota` excludes no namespace.
     pub config: RunConfig,
+    /// Whether each event is to be printed as it happens. Only `run` and `serve` can ask for it.
+    pub events: bool,
 }
 
 impl Command {

@@ -57,7 +57,8 @@ fn running<'a>(alloc: Global, name: &'a str) -> Result<Command<'a>, AllocError>
     ensures app { IfOk result (λ command. app_of command ≡ spec.running name.entry.now) }
     ensures local { IfOk result (λ command. (fields_of command).has_globals ≡ false) }
 {
-    in_trees(alloc, name)?.arg(flag(alloc, "allow-skip"))
+    let skipping = in_trees(alloc, name)?.arg(flag(alloc, "allow-skip"))?;
+    skipping.arg(flag(alloc, "events"))
 }
 
 fn serve<'a>(alloc: Global) -> Result<Command<'a>, AllocError>

@@ -4,7 +4,7 @@
 //!
 //! | subcommand | takes |
 //! |---|---|
-//! | `run` | `--db PATH`, `--excluded-namespace NAMES`, `--allow-skip` |
+//! | `run` | `--db PATH`, `--excluded-namespace NAMES`, `--allow-skip`, `--events` |
 //! | `serve` | those of `run`, `--listen ADDRESS`, which has to stand, `--sessions NUMBER`, `--workers NUMBER`, `--links NUMBER` |
 //! | `tree` | `--db PATH`, `--excluded-namespace NAMES` |
 //! | `describe` | `NAMESPACE`, which has to stand, `--db PATH`, `--excluded-namespace NAMES` |
@@ -19,7 +19,7 @@ mod untaken;
 
 ghost use Rattle.std.specs.Prelude.{◌≡◌, ◌≤◌, map, IfOk, IfSome, IsErrOf, None, Some, string_bytes};
 ghost use Rattle.clap.specs.Words.{found_of, rows_of};
-ghost use Rattle.hx_words.specs.Words.{asked_by, command_of, config_of, description_of, if_within, number_in, serving_in, task_of, value_of};
+ghost use Rattle.hx_words.specs.Words.{asked_by, command_of, config_of, description_of, has_events, if_within, number_in, serving_in, task_of, value_of};
 
 pub use crate::command::{Command, Report, Serving, Task};
 use crate::grammar::parsed;
@@ -98,7 +98,19 @@ fn asked_by(alloc: Global, name: &str, options: &ArgMatches<'_>) -> Result<Comma
     let task = task_of(alloc, name, options)?;
     let config = config_of(alloc, options)?;
     let db = Text::of(alloc, value_of(options, "db"))?;
-    Ok(Command { task, db, config })
+    Ok(Command {
+        task,
+        db,
+        config,
+        events: has_events(options),
+    })
+}
+
+/// Whether the options ask for events.
+fn has_events(options: &ArgMatches<'_>) -> bool
+    ensures { result ≡ has_events (rows_of (found_of options.now)) }
+{
+    value_of(options, "events") == "true"
 }
 
 /// The task that a subcommand names.

@@ -124,7 +124,9 @@ fn taken_by(subcommand: &str, option: &str) -> Option<Taken> {
     match option {
         "--db" => Some(Taken::Value(Form::Text)),
         "--excluded-namespace" if subcommand != "quota" => Some(Taken::Value(Form::Names)),
-        "--allow-skip" if subcommand == "run" || subcommand == "serve" => Some(Taken::Nothing),
+        "--allow-skip" | "--events" if subcommand == "run" || subcommand == "serve" => Some(
+            Taken::Nothing,
+        ),
         _ if subcommand == "serve" => taken_in_serving(option),
         _ => None,
     }

@@ -13,14 +13,14 @@ started : (g : Over) (c : goal.After-drop-task-in-Run g) → Starts c.in-Ok.comm
 started g c =
     let attached = c.in_default.ensures in
     let begun = c.in-Ok-start.ensures in
-    starts_on c.in-Ok.command (g.K.Keeper.shown c.args.keeper) (g.K.Keeper.shown c.attach.new.self) c.in-Ok-start.cluster (attached.place ∙ ap Some c.as_str.ensures.value) attached.same attached.whole _ attached.cause begun.keeper begun.opens begun.config begun.valid begun.holds begun.undamaged
+    starts_on c.in-Ok.command (g.K.Keeper.shown c.args.keeper) (g.K.Keeper.shown c.attach.new.self) c.in-Ok-start.cluster (attached.place ∙ ap Some c.as_str.ensures.value) attached.same attached.whole attached.watchers _ attached.cause begun.keeper begun.opens begun.config begun.valid begun.holds begun.undamaged
 
 -- the same of a report
 begun_to_read : (g : Over) (c : goal.After-drop-task-2 g) → Starts c.in-Ok.command (g.K.Keeper.shown c.args.keeper) c.in-Ok-start.cluster
 begun_to_read g c =
     let attached = c.in_default.ensures in
     let begun = c.in-Ok-start.ensures in
-    starts_on c.in-Ok.command (g.K.Keeper.shown c.args.keeper) (g.K.Keeper.shown c.attach.new.self) c.in-Ok-start.cluster (attached.place ∙ ap Some c.as_str.ensures.value) attached.same attached.whole _ attached.cause begun.keeper begun.opens begun.config begun.valid begun.holds begun.undamaged
+    starts_on c.in-Ok.command (g.K.Keeper.shown c.args.keeper) (g.K.Keeper.shown c.attach.new.self) c.in-Ok-start.cluster (attached.place ∙ ap Some c.as_str.ensures.value) attached.same attached.whole attached.watchers _ attached.cause begun.keeper begun.opens begun.config begun.valid begun.holds begun.undamaged
 
 pub returns-in-Err-start-clause-complete : goal.returns-in-Err-start-clause-complete
 returns-in-Err-start-clause-complete g c = λ _ _ _ calm _ sound.
@@ -120,7 +120,7 @@ serving_started : (g : Over) (c : goal.After-drop-task-in-Serve g) → Starts c.
 serving_started g c =
     let attached = c.in_default.ensures in
     let begun = c.in-Ok-start.ensures in
-    starts_on c.in-Ok.command (g.K.Keeper.shown c.args.keeper) (g.K.Keeper.shown c.attach.new.self) c.in-Ok-start.cluster (attached.place ∙ ap Some c.as_str.ensures.value) attached.same attached.whole _ attached.cause begun.keeper begun.opens begun.config begun.valid begun.holds begun.undamaged
+    starts_on c.in-Ok.command (g.K.Keeper.shown c.args.keeper) (g.K.Keeper.shown c.attach.new.self) c.in-Ok-start.cluster (attached.place ∙ ap Some c.as_str.ensures.value) attached.same attached.whole attached.watchers _ attached.cause begun.keeper begun.opens begun.config begun.valid begun.holds begun.undamaged
 
 pub returns-in-Serve-clause-done : goal.returns-in-Serve-clause-done
 returns-in-Serve-clause-done g c = λ e.
