@@ -143,6 +143,7 @@ fn changed(alloc: Global, keys: RandomState) -> Result<MemKeeper, Fail> {
         version: 5,
         puts: List::of(Vec::from_array(alloc, [put(alloc)?])?),
         cuts: List::of(Vec::from_array(alloc, [id(alloc, "b")?])?),
+        events: List::of(Vec::new(alloc)),
     };
     keeper.commit(batch)?;
     Ok(keeper)

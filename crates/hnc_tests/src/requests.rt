@@ -17,6 +17,7 @@ fn word_of(ask: &Ask) -> &'static str {
         Ask::Replace { .. } => "replace",
         Ask::Delete { .. } => "delete",
         Ask::Document(_) => "document",
+        Ask::Events { .. } => "events",
     }
 }
 
@@ -60,7 +61,7 @@ const ROWS: [Row; 16] = [
     (Method::Get, "/api/v1/services?watch=1", Err(400)),
     (Method::Delete, "/api/v1/namespaces/a", Ok("delete")),
     (Method::Post, "/api/v1/namespaces/a/pods", Err(400)),
-    (Method::Get, "/hnc/v1/events?since=0", Err(501)),
+    (Method::Get, "/hnc/v1/events?since=0", Ok("events")),
     (Method::Get, "/apis/hnc.x-k8s.io/v1alpha2", Ok("document")),
     (Method::Put, "/version", Err(405)),
     (

@@ -2,8 +2,9 @@
 ghost use Rattle.std.specs.Prelude.{◌≡◌, ◌<◌, IfOk};
 
 use crate::made::namespace;
+use hx_model::{Event, What};
 use hx_object::{NoMemory, Shared};
-use hx_watch::{Event, Hub, MemWatcher, Refused, SinceFault, Watcher, What, Window};
+use hx_watch::{Hub, MemWatcher, Refused, SinceFault, Watcher, Window};
 use std::alloc::Global;
 use std::cell::Cell;
 use std::rc::Rc;

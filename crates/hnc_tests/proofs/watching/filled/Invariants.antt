@@ -1,5 +1,5 @@
 use Rattle.std.proofs.Common.{◌≤◌, ◌+◌, ◌/◌}
-use Rattle.hx_watch.specs.Windows.{newest}
+use Rattle.hx_model.specs.Windows.{newest}
 use Rattle.hnc_tests.proofs.watching.filled.Given as goal
 
 -- the event to come is no older than the newest
