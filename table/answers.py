@@ -24,12 +24,12 @@ from script import (
     BAD_PATH,
     CONFIGMAPS,
     CONFIGS,
+    EVENTS,
     HIERARCHIES,
     HIERARCHIES_IN,
     HNC,
     NAMESPACES,
     NOT_JSON,
-    NOT_SERVED,
     NOT_WHOLE,
     NO_METHOD,
     NO_PATH,
@@ -123,7 +123,11 @@ STORED = [
 
 def namespaces(t):
     t.part("worked examples: namespaces")
+    t.tells(0)
+    t.refuses(get(f"{EVENTS}?since=1"), bad_query("since"))
     acme = t.creates(post(NAMESPACES, thing("Namespace", "acme")), namespace("acme"))
+    t.tells(0, ("ADDED", acme))
+    t.tells(1)
     t.refuses(post(NAMESPACES, thing("Namespace", "acme")), exists("namespaces", "acme"))
     t.shows(get(f"{NAMESPACES}/acme"), acme)
     t.refuses(get(f"{NAMESPACES}/none"), not_found("namespaces", "none"))
@@ -904,18 +908,23 @@ QUERIES = [
     ("continue=x&dryRun=1&fieldSelector=1&watch=1&admission=x", bad_query("admission")),
 ]
 
+# What the feed answers to a query: no events, or the refusal. The last version stands for `last`, with its first digit in hexadecimal for `coded`, and the next one for `over`.
 FEED = [
     ("", bad_query("since")), ("?", bad_query("since")), ("?since", bad_query("since")),
-    ("?since=", bad_query("since")), ("?since=01", bad_query("since")), ("?since=+1", bad_query("since")),
-    ("?since=-1", bad_query("since")), ("?since=1x", bad_query("since")),
-    ("?since=1%20", bad_query("since")), ("?since=12345678901234567890", bad_query("since")),
-    ("?since=x&since=1", bad_query("since")), ("?since=0", NOT_SERVED), ("?since=1&since=x", NOT_SERVED),
-    ("?since=%31", NOT_SERVED), ("?since=1234567890123456789", NOT_SERVED),
-    ("?since=9999999999999999999", NOT_SERVED), ("?since=0&admission=skip", NOT_SERVED),
-    ("?since=0&labelSelector=a", NOT_SERVED), ("?since=0&labelSelector=,", NOT_SERVED),
+    ("?since=", bad_query("since")), ("?since=01", bad_query("since")), ("?since=00", bad_query("since")), ("?since=+1", bad_query("since")),
+    ("?since=%2B1", bad_query("since")), ("?since=-1", bad_query("since")), ("?since=1x", bad_query("since")), ("?since=1.0", bad_query("since")),
+    ("?since=1%20", bad_query("since")), ("?since=12345678901234567890", bad_query("since")), ("?since=18446744073709551615", bad_query("since")),
+    ("?since=x&since={last}", bad_query("since")), ("?Since={last}", bad_query("since")), ("?since={last}", None), ("?since={last}&since=x", None),
+    # no state of the version was
+    ("?since={over}", bad_query("since")), ("?since=1234567890123456789", bad_query("since")), ("?since=9223372036854775807", bad_query("since")),
+    ("?since=9999999999999999999", bad_query("since")),
+    ("?since={coded}", None), ("?%73ince={last}", None), ("?since={last}&admission=skip", None),
+    ("?since={last}&labelSelector=a", None), ("?since={last}&labelSelector=,", None), ("?since={last}&watch=", None), ("?limit=1&since={last}", None),
     ("?since=x&labelSelector=,", bad_query("since")), ("?since=x&admission=no", bad_query("admission")),
-    ("?since=x&watch=1", bad_query("since")), ("?since=0&watch=1", bad_query("watch")),
-    ("?since=0&continue=1", bad_query("continue")),
+    ("?since=x&watch=1", bad_query("since")), ("?since={last}&watch=1", bad_query("watch")), ("?since={over}&watch=1", bad_query("watch")),
+    ("?since={last}&continue=1", bad_query("continue")), ("?since={last}&fieldSelector=a", bad_query("fieldSelector")), ("?since={last}&dryRun=All", bad_query("dryRun")),
+    # one that is missing goes last
+    ("?watch=1", bad_query("watch")), ("?continue=1", bad_query("continue")), ("?admission=no", bad_query("admission")),
 ]
 
 # Lines with two faults.
@@ -1241,8 +1250,13 @@ def selectors(t):
 
 def feed(t):
     t.part("targets: the feed of events")
+    last = str(t.version)
     for query, wanted in FEED:
-        t.refuses(get(f"/hnc/v1/events{query}"), wanted)
+        line = get(EVENTS + query.format(last=last, coded=f"%3{last}", over=t.version + 1))
+        if wanted:
+            t.refuses(line, wanted)
+        else:
+            t.answers_with(line, 200, {"items": [], "kind": "ChangeList", "metadata": {"resourceVersion": last}})
 
 
 def orders(t):
@@ -2265,6 +2279,69 @@ def deletion(t):
     t.shows(get(f"{NAMESPACES}/leaves"), ended)
 
 
+def turn(t, key, made):
+    """A turn that writes, and the object that it makes."""
+    t.version += 1
+    t.says(f"take 1 {key}", f"take 1: {key}")
+    t.says("finish 1", f"finish 1: written {t.version}")
+    return with_version(made, t.version)
+
+
+def events(t):
+    t.part("events")
+    begun = t.version
+    up = t.creates(post(NAMESPACES, thing("Namespace", "up")), namespace("up"))
+    t.tells(begun, ("ADDED", up))
+    labelled = t.changes(put(f"{NAMESPACES}/up", thing("Namespace", "up", labels={"tier": "x"})), namespace("up", labels={"tier": "x"}))
+    # what changes nothing and what is refused tells nothing
+    t.shows(put(f"{NAMESPACES}/up", thing("Namespace", "up", labels={"tier": "x"})), labelled)
+    t.refuses(post(NAMESPACES, thing("Namespace", "up")), exists("namespaces", "up"))
+    line, role = role_in("up", "r", rules=[])
+    role = t.creates(line, role)
+    t.tells(begun, ("ADDED", up), ("MODIFIED", labelled), ("ADDED", role))
+    t.tells(begun + 1, ("MODIFIED", labelled), ("ADDED", role))
+    t.tells(t.version)
+    turns_told(t)
+    cascade_told(t)
+    begun = t.version
+    t.removes(delete(f"{ROLES_IN.format('up')}/r"))
+    t.tells(begun, ("DELETED", with_version(role, t.version)))
+
+
+def turns_told(t):
+    """Turns tell what they write."""
+    begun, owned = t.version, {"annotations": {SUBNAMESPACE_OF: "up"}}
+    anchor = t.creates(post(ANCHORS_IN.format("up"), thing("SubnamespaceAnchor", "deeper")), thing("SubnamespaceAnchor", "deeper", "up"))
+    low = turn(t, "child up deeper", namespace("deeper", **owned))
+    t.says("take 1 child up deeper", "take 1: child up deeper")
+    t.says("finish 1", "finish 1: nothing")
+    reported = turn(t, "anchor up deeper", thing("SubnamespaceAnchor", "deeper", "up", status={"status": "Ok"}))
+    copy = turn(t, "copy deeper roles r", thing("Role", "r", "deeper", labels={"hnc.x-k8s.io/inherited-from": "up"}, rules=[]))
+    t.tells(begun, ("ADDED", anchor), ("ADDED", low), ("MODIFIED", reported), ("ADDED", copy))
+
+
+def cascade_told(t):
+    """What goes with an anchor is told first, then the anchor, all under one version; and what is purged is told object by object."""
+    anchor = t.creates(post(ANCHORS_IN.format("deeper"), thing("SubnamespaceAnchor", "deepest")), thing("SubnamespaceAnchor", "deepest", "deeper"))
+    turn(t, "child deeper deepest", namespace("deepest"))
+    t.creates(post(HIERARCHIES_IN.format("up"), thing("HierarchyConfiguration", "hierarchy", spec={"allowCascadingDeletion": True})), thing("HierarchyConfiguration", "hierarchy", "up", spec={"allowCascadingDeletion": True}))
+    begun = t.version
+    t.removes(delete(f"{ANCHORS_IN.format('up')}/deeper"))
+    leaving = [
+        with_version(thing("Namespace", name, annotations={SUBNAMESPACE_OF: owner}, status={"phase": "Terminating"}), t.version) for name, owner in (("deeper", "up"), ("deepest", "deeper"))
+    ]
+    cut = with_version(thing("SubnamespaceAnchor", "deeper", "up", status={"status": "Ok"}), t.version)
+    t.tells(begun, *(("MODIFIED", ns) for ns in leaving), ("DELETED", cut))
+    begun = t.version
+    gone = [
+        turn(t, "purge deeper", anchor),
+        turn(t, "purge deeper", thing("Role", "r", "deeper", labels={"hnc.x-k8s.io/inherited-from": "up"}, rules=[])),
+        turn(t, "purge deeper", leaving[0]),
+        turn(t, "purge deepest", leaving[1]),
+    ]
+    t.tells(begun, *(("DELETED", its) for its in gone))
+
+
 def silent_lines(t):
     t.part("lines: those that answer nothing")
     for line in ("", "\r", "#", "#\r", "# GET /x", "#GET /x\r", "##", "#\u0000"):
@@ -2433,6 +2510,7 @@ PARTS = [
     conflicts,
     anchors,
     deletion,
+    events,
     quotas,
     silent_lines,
     line_ends,

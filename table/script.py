@@ -34,6 +34,7 @@ CONFIGMAPS = "/api/v1/namespaces/acme/configmaps"
 SECRETS = "/api/v1/namespaces/acme/secrets"
 ROLES = "/apis/rbac.authorization.k8s.io/v1/namespaces/acme/roles"
 SERVICES = "/api/v1/namespaces/acme/services"
+EVENTS = "/hnc/v1/events"
 
 ACTIVE = {"phase": "Active"}
 
@@ -92,7 +93,6 @@ BAD_NAME = (422, "Invalid", "name is not allowed")
 BAD_LABEL = (422, "Invalid", "label or annotation is not allowed")
 TOO_MANY_LABELS = (422, "Invalid", "more than 256 labels")
 TOO_LARGE = (422, "Invalid", "object is larger than 65536 bytes")
-NOT_SERVED = (501, "NotImplemented", "not served")
 
 
 def not_kind(kind):
@@ -222,6 +222,11 @@ class Table:
 
     def lists(self, line, kind, items):
         self.answers_with(line, 200, {"apiVersion": VERSIONS[kind], "items": items, "kind": f"{kind}List", "metadata": {"resourceVersion": str(self.version)}})
+
+    def tells(self, since, *events):
+        """The events after a version: what was done to an object, and the object under the version of that."""
+        items = [{"object": stored, "type": done} for done, stored in events]
+        self.answers_with(get(f"{EVENTS}?since={since}"), 200, {"items": items, "kind": "ChangeList", "metadata": {"resourceVersion": str(self.version)}})
 
     def tries(self, collection, rows):
         """POSTs of bodies. What is created is removed by the next line; namespaces stay."""
