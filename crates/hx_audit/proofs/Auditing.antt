@@ -10,11 +10,11 @@ use Rattle.std.specs.declared.cmp.Ordering.{Ordering}
 use Rattle.std.specs.declared.cmp.Ordering.TheVariants.{Less, Equal, Greater}
 use Rattle.hx_audit.specs.Auditing.{HasRows, IsFirst, IsNothingExactly, IsOneAtMost}
 use Rattle.hx_audit.specs.Candidates.{least_from, state_of, wanting, wanting_in}
-use Rattle.hx_audit.specs.KeyOrder.{key_cmp}
+use Rattle.hx_order.specs.KeyOrder.{key_cmp}
 use Rattle.hx_audit.proofs.Finding.{wanting_found}
 use Rattle.hx_audit.proofs.Keeping.{all_wanting}
 use Rattle.hx_audit.proofs.Lowest.{first_is}
-use Rattle.hx_audit.proofs.Ordered.{key_cmp_total, key_cmp-IsAntisymmetric}
+use Rattle.hx_order.proofs.Ordered.{key_cmp_total, key_cmp-IsAntisymmetric}
 use Rattle.hx_model.specs.Forest.{Forest}
 use Rattle.hx_model.specs.Quotas.{used}
 use Rattle.hx_model.specs.State.{State, Objects}

@@ -1,5 +1,4 @@
 pub mod Nearest
-pub mod Ordered
 pub mod Lowest
 pub mod Holding
 pub mod Senders

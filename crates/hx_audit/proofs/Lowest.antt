@@ -10,8 +10,8 @@ use Rattle.std.specs.declared.cmp.Ordering.TheVariants.{Less}
 use Rattle.std.proofs.lemmas.Bool.{or_cases}
 use Rattle.hx_audit.specs.Auditing.{IsFirst}
 use Rattle.hx_audit.specs.Candidates.{lesser, least_from}
-use Rattle.hx_audit.specs.KeyOrder.{key_cmp}
-use Rattle.hx_audit.proofs.Ordered.{key_cmp_total, upto_less, upto_not_less, not_below}
+use Rattle.hx_order.specs.KeyOrder.{key_cmp}
+use Rattle.hx_order.proofs.Ordered.{key_cmp_total, upto_less, upto_not_less, not_below}
 use Rattle.hx_model.proofs.SameKeys.{same_key_is}
 use Rattle.hx_model.specs.Keys.{same_key, is_among}
 use Rattle.hx_model.specs.Machine.{wants}

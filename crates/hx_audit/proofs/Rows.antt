@@ -6,7 +6,7 @@ use Rattle.std.proofs.Common.{◌≡◌, ℕ, false, List, [], ◌∷◌, None, 
 use Rattle.std.specs.Fmt.{digits}
 use Rattle.std.specs.declared.cmp.Ordering.TheVariants.{Less, Equal, Greater}
 use Rattle.hx_audit.specs.Candidates.{least_from, wanting}
-use Rattle.hx_audit.specs.KeyOrder.{key_cmp}
+use Rattle.hx_order.specs.KeyOrder.{key_cmp}
 use Rattle.hx_model.specs.Answers.{same_object}
 use Rattle.hx_model.specs.Limits.{is_copy}
 use Rattle.hx_model.specs.Propagation.{id_in}

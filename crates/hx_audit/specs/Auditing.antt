@@ -5,7 +5,7 @@
 --     IsNothingExactly      nothing is found exactly where no key wants a write
 use Rattle.std.specs.Prelude.{◌≡◌, ℕ, true, List, Option, Some, None, is_some}
 use Rattle.std.specs.declared.cmp.Ordering.TheVariants.{Less}
-use Rattle.hx_audit.specs.KeyOrder.{key_cmp}
+use Rattle.hx_order.specs.KeyOrder.{key_cmp}
 use Rattle.hx_model.specs.State.{State, Objects}
 use Rattle.hx_model.specs.Wanted.{wanted_write}
 use Rattle.hx_model.specs.declared.key.Key.{Key}

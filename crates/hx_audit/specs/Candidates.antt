@@ -18,7 +18,7 @@ use Rattle.hx_object.specs.declared.kind.Kind.TheVariants.{SubnamespaceAnchor, H
 use Rattle.hx_object.specs.declared.object.Mode.{Mode}
 use Rattle.hx_object.specs.declared.object.Mode.TheVariants.{Ignore}
 use Rattle.hx_object.specs.declared.object.Object.{Object}
-use Rattle.hx_audit.specs.KeyOrder.{key_cmp}
+use Rattle.hx_order.specs.KeyOrder.{key_cmp}
 use Rattle.hx_model.specs.Answers.{is_listed}
 use Rattle.hx_model.specs.Forest.{Forest, chain_of, tail_of}
 use Rattle.hx_model.specs.Moves.{copied_kinds, mode_at}

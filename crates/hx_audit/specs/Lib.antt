@@ -1,3 +1,2 @@
-pub mod KeyOrder
 pub mod Auditing
 pub mod Candidates

@@ -15,7 +15,7 @@ use std::alloc::Global;
 
 /// The least key that wants a write in the states of these rows, where these names are excluded from trees, and `None` exactly where no key wants one.
 ///
-/// Keys are in order of [`compare_keys`](crate::compare_keys). The version of a state counts for nothing.
+/// Keys are in order of [`compare_keys`](hx_order::compare_keys). The version of a state counts for nothing.
 pub fn first_wanting(
     alloc: Global,
     objects: &[Shared],

@@ -3,8 +3,8 @@ ghost use Rattle.std.specs.Prelude.{◌≡◌, Some};
 ghost use Rattle.std.specs.Ordering.{is_lt};
 ghost use Rattle.hx_audit.specs.Candidates.{lesser, least_from};
 
-use crate::order::compare_keys;
 use hx_model::Key;
+use hx_order::compare_keys;
 
 /// The least of some keys and of one that was found before.
 pub(crate) fn least_of(best: Option<Key>, keys: Vec<Key>) -> Option<Key>

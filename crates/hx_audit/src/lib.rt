@@ -14,9 +14,7 @@ mod law;
 mod least;
 mod lookups;
 mod namespaces;
-mod order;
 mod quotas;
 
 pub use first::first_wanting;
-pub use law::{law_of_first, law_of_order};
-pub use order::compare_keys;
+pub use law::law_of_first;

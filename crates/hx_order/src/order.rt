@@ -1,6 +1,7 @@
-// The order of keys.
+// The order of keys, and how early they are written.
 ghost use Rattle.std.specs.Prelude.{◌≡◌};
-ghost use Rattle.hx_audit.specs.KeyOrder.{key_cmp, rank_of, place_of, number_in, name_in};
+ghost use Rattle.hx_order.specs.KeyOrder.{key_cmp, variant_of, place_of, number_in, name_in};
+ghost use Rattle.hx_order.specs.Ranks.{rank_of};
 
 use hx_model::Key;
 use hx_object::Text;
@@ -13,12 +14,12 @@ pub fn compare_keys(a: &Key, b: &Key) -> Ordering
     let names = name_in(a).cmp(name_in(b));
     let kinds = number_in(a).cmp(&number_in(b)).then(names);
     let places = place_of(a).cmp(place_of(b)).then(kinds);
-    rank_of(a).cmp(&rank_of(b)).then(places)
+    variant_of(a).cmp(&variant_of(b)).then(places)
 }
 
 /// The place of a key's kind among the kinds of keys.
-fn rank_of(key: &Key) -> u8
-    ensures { result ≡ rank_of key.now }
+fn variant_of(key: &Key) -> u8
+    ensures { result ≡ variant_of key.now }
 {
     match key {
         Key::Copy { .. } => 0,
@@ -66,5 +67,20 @@ fn name_in(key: &Key) -> &[u8]
         Key::Anchor { name, .. } => name.as_bytes(),
         Key::Used { name, .. } => name.as_bytes(),
         _ => &[],
+    }
+}
+
+/// How early a key is written: removals at first, then subnamespaces, tree labels, copies, reports, statuses of anchors, and last what quotas use.
+pub fn rank(key: &Key) -> u8
+    ensures { result ≡ rank_of key.now }
+{
+    match key {
+        Key::Purge { .. } => 0,
+        Key::Child { .. } => 1,
+        Key::Tree { .. } => 2,
+        Key::Copy { .. } => 3,
+        Key::Report { .. } => 4,
+        Key::Anchor { .. } => 5,
+        Key::Used { .. } => 6,
     }
 }

@@ -1,5 +1,5 @@
 -- The order of keys: by their kind, in the order of its variants, then by namespace, then by the number of a copy's kind, then by name.
---     rank_of, place_of, number_in, name_in   the columns by which keys are compared
+--     variant_of, place_of, number_in, name_in   the columns by which keys are compared
 --     key_cmp a b        the first column that differs decides, texts by their bytes
 use Rattle.std.specs.Prelude.{ℕ, List, []}
 use Rattle.std.specs.declared.cmp.Ordering.{Ordering}
@@ -10,14 +10,14 @@ use Rattle.hx_model.specs.declared.key.Key.{Key}
 use Rattle.hx_model.specs.declared.key.Key.TheVariants as key
 
 -- the place of a key's kind among the kinds of keys
-abbrev pub rank_of : Key → ℕ
-rank_of (key.Copy n kind name) = 0
-rank_of (key.Tree n) = 1
-rank_of (key.Report n) = 2
-rank_of (key.Child n name) = 3
-rank_of (key.Anchor n name) = 4
-rank_of (key.Used n name) = 5
-rank_of (key.Purge n) = 6
+abbrev pub variant_of : Key → ℕ
+variant_of (key.Copy n kind name) = 0
+variant_of (key.Tree n) = 1
+variant_of (key.Report n) = 2
+variant_of (key.Child n name) = 3
+variant_of (key.Anchor n name) = 4
+variant_of (key.Used n name) = 5
+variant_of (key.Purge n) = 6
 
 -- its namespace
 abbrev pub place_of : Key → List ℕ
@@ -43,4 +43,4 @@ name_in (key.Used n name) = name
 name_in _ = []
 
 abbrev pub key_cmp : Key → Key → Ordering
-key_cmp a b = ordering_then (nat_cmp (rank_of a) (rank_of b)) (ordering_then (bytes_cmp (place_of a) (place_of b)) (ordering_then (nat_cmp (number_in a) (number_in b)) (bytes_cmp (name_in a) (name_in b))))
+key_cmp a b = ordering_then (nat_cmp (variant_of a) (variant_of b)) (ordering_then (bytes_cmp (place_of a) (place_of b)) (ordering_then (nat_cmp (number_in a) (number_in b)) (bytes_cmp (name_in a) (name_in b))))

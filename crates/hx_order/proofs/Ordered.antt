@@ -9,23 +9,23 @@ use Rattle.std.specs.Ordering.{nat_cmp, ordering_then, ordering_reverse, is_lt, 
 use Rattle.std.specs.Cmp.{IsTotalOrder, on_total, then_total, nat_cmp_total}
 use Rattle.std.specs.Cmp.Lexicographic.{nat_list_cmp_total}
 use Rattle.std.specs.FinMap.{IsAntisymmetric, nat_cmp-IsAntisymmetric, slice_cmp-IsAntisymmetric}
-use Rattle.hx_audit.specs.KeyOrder.{rank_of, place_of, number_in, name_in, key_cmp}
+use Rattle.hx_order.specs.KeyOrder.{variant_of, place_of, number_in, name_in, key_cmp}
 use Rattle.hx_model.specs.declared.key.Key.{Key}
 use Rattle.hx_model.specs.declared.key.Key.TheVariants as key
 use Rattle.hx_object.proofs.Identities.{number_of-one}
 
 pub key_cmp_total : IsTotalOrder key_cmp
-key_cmp_total = then_total (on_total rank_of nat_cmp_total) (then_total (on_total place_of nat_list_cmp_total) (then_total (on_total number_in nat_cmp_total) (on_total name_in nat_list_cmp_total)))
+key_cmp_total = then_total (on_total variant_of nat_cmp_total) (then_total (on_total place_of nat_list_cmp_total) (then_total (on_total number_in nat_cmp_total) (on_total name_in nat_list_cmp_total)))
 
 -- ---- ties
 
-both_Equal : (a b : Ordering) → ordering_then a b ≡ Equal → (a ≡ Equal) × (b ≡ Equal)
+pub both_Equal : (a b : Ordering) → ordering_then a b ≡ Equal → (a ≡ Equal) × (b ≡ Equal)
 both_Equal Less b e = absurd (cc)
 both_Equal Equal b e = (refl, e)
 both_Equal Greater b e = absurd (cc)
 
 -- keys with the same columns
-same_columns : (a b : Key) → rank_of a ≡ rank_of b → place_of a ≡ place_of b → number_in a ≡ number_in b → name_in a ≡ name_in b → a ≡ b
+same_columns : (a b : Key) → variant_of a ≡ variant_of b → place_of a ≡ place_of b → number_in a ≡ number_in b → name_in a ≡ name_in b → a ≡ b
 same_columns (key.Copy n kind name) (key.Copy m other named) rank place number names = λ i. key.Copy (place i) (number_of-one kind other number i) (names i)
 same_columns (key.Tree n) (key.Tree m) rank place number names = ap key.Tree place
 same_columns (key.Report n) (key.Report m) rank place number names = ap key.Report place
@@ -33,7 +33,7 @@ same_columns (key.Child n name) (key.Child m named) rank place number names = λ
 same_columns (key.Anchor n name) (key.Anchor m named) rank place number names = λ i. key.Anchor (place i) (names i)
 same_columns (key.Used n name) (key.Used m named) rank place number names = λ i. key.Used (place i) (names i)
 same_columns (key.Purge n) (key.Purge m) rank place number names = ap key.Purge place
-same_columns a b rank place number names = absurd (true≢false (sym (eq-eqb (rank_of a) (rank_of b) rank)))
+same_columns a b rank place number names = absurd (true≢false (sym (eq-eqb (variant_of a) (variant_of b) rank)))
 
 pub key_cmp-IsAntisymmetric : IsAntisymmetric key_cmp
 key_cmp-IsAntisymmetric a b e =
