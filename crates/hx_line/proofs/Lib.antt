@@ -1,0 +1,4 @@
+pub mod Heaping
+pub mod Placing
+pub mod Sets
+pub mod Lining
