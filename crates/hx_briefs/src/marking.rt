@@ -24,6 +24,7 @@ pub fn mark_wanting(state: &IndexedState, workers: &mut Workers) -> Result<(), N
     ensures hands { OnOk result (workers.new.seen.hands ≡ []) }
     ensures again { OnOk result (workers.new.seen.again ≡ []) }
     ensures scope { workers.new.scope ≡ workers.old.scope }
+    ensures ranks { workers.new.ranks ≡ workers.old.ranks }
 {
     let wanting = wanting_keys(state)?;
     workers.reserve(wanting.len())?;

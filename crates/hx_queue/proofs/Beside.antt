@@ -23,7 +23,7 @@ use Rattle.hx_model.specs.declared.key.Key.TheVariants as key
 use Rattle.hx_model.proofs.Climbing.{same_itself}
 use Rattle.hx_model.proofs.SameKeys.{key_laws, same_key_is, same_key_itself}
 use Rattle.hx_queue.specs.Spread.{Scope, equal_ids, is_place_of, is_spread, keys_in, names_in, place_keys, waiting_in, with_id}
-use Rattle.hx_queue.proofs.Sets.{distinct_filter, head_absent}
+use Rattle.hx_line.proofs.Sets.{distinct_filter, head_absent}
 
 -- ---- what waits
 

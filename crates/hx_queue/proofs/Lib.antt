@@ -1,5 +1,4 @@
-pub mod Sets
-pub mod Lining
+pub mod Ordered
 pub mod Holding
 pub mod Queueing
 pub mod Looking
@@ -12,3 +11,4 @@ pub mod Spreads
 pub mod Beside
 pub mod Whole
 pub mod LiningUp
+pub mod Fronts

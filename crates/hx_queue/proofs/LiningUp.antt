@@ -1,37 +1,36 @@
 -- Keys that were marked as a whole come in line.
 --     lines_none, lines_one, lines_more    none came in line;  those of the first object, or none;  and then others
 --     kept_by_lines, seen_by_lines         what is kept, and what is seen
---     next_first, next_free                the first key in line then
-use Rattle.std.proofs.Common.{◌≡◌, ◌≤◌, ◌<◌, true, false, List, [], ◌∷◌, map, filter, drop, length, refl, sym, ap, subst, ◌∙◌, arith, Option, Some, None, Result, Ok, Err, OnOk, OnErr, IfSome}
-use Rattle.std.specs.Prelude.{slice_get}
+use Rattle.std.proofs.Common.{◌≡◌, ◌≤◌, ◌<◌, false, List, [], ◌∷◌, map, filter, drop, length, refl, sym, ap, subst, ◌∙◌, arith, Result, Ok, Err, OnOk, OnErr}
 use Rattle.hx_object.specs.declared.object.Id.{Id}
-use Rattle.hx_model.specs.Hands.{Hand, is_held as is_in_hands}
+use Rattle.hx_model.specs.Hands.{Hand}
 use Rattle.hx_model.specs.Keys.{same_key}
 use Rattle.hx_model.specs.declared.key.Key.{Key}
-use Rattle.hx_queue.specs.Kept.{Held, QueueView, AreApart as IsQueueApart}
-use Rattle.hx_queue.specs.Spread.{SpreadView, is_spread, keys_in, waiting_in}
+use Rattle.hx_queue.specs.Kept.{Held, QueueView}
+use Rattle.hx_queue.specs.Ordered.{in_order}
+use Rattle.hx_queue.specs.Spread.{SpreadView, is_spread}
 use Rattle.hx_queue.specs.Tied.{IsFree, IsKept, LinesUp, all_waiting, any_held}
 use Rattle.hx_queue.proofs.Beside.{spread_less}
 use Rattle.hx_queue.proofs.Marking.{held_any}
-use Rattle.hx_queue.proofs.Tying.{first_waits, waits_free}
 use Rattle.hx_queue.proofs.Whole.{whole_of}
 
 -- ---- steps
 
 pub lines_none : (q : QueueView) (s : SpreadView) → LinesUp q q s s
-lines_none q s = record { waiting = refl; held = refl; scope = refl; apart = λ k e. e; room = omega arith }
+lines_none q s = record { waiting = refl; ranks = refl; held = refl; scope = refl; apart = λ k e. e; room = omega arith }
 
 pub lines_more : (q r u : QueueView) (s t v : SpreadView) → LinesUp q r s t → LinesUp r u t v → LinesUp q u s v
 lines_more q r u s t v first rest = record {
   waiting = rest.waiting ∙ first.waiting;
+  ranks = rest.ranks ∙ first.ranks;
   held = rest.held ∙ first.held;
   scope = rest.scope ∙ first.scope;
   apart = λ k e. rest.apart k (first.apart k e);
   room = omega (arith, first.room, rest.room);
 }
 
-pub lines_one : {A E : Type 0} (result : Result A E) (q r : QueueView) (s t : SpreadView) → all_waiting r t ≡ all_waiting q s → r.held ≡ q.held → OnOk result (t.ids ≡ drop 1 s.ids) → OnErr result (t.ids ≡ s.ids) → t.scope ≡ s.scope → s.room ≤ t.room → LinesUp q r s t
-lines_one {A} {E} result q r s t waiting held ok err scope room = record { waiting = waiting; held = held; scope = scope; apart = by result ok err; room = room }
+pub lines_one : {A E : Type 0} (result : Result A E) (q r : QueueView) (s t : SpreadView) → all_waiting r t ≡ all_waiting q s → r.ranks ≡ q.ranks → r.held ≡ q.held → OnOk result (t.ids ≡ drop 1 s.ids) → OnErr result (t.ids ≡ s.ids) → t.scope ≡ s.scope → s.room ≤ t.room → LinesUp q r s t
+lines_one {A} {E} result q r s t waiting ranks held ok err scope room = record { waiting = waiting; ranks = ranks; held = held; scope = scope; apart = by result ok err; room = room }
   where
     by : (o : Result A E) → OnOk o (t.ids ≡ drop 1 s.ids) → OnErr o (t.ids ≡ s.ids) → (k : Key) → is_spread s.ids k ≡ false → is_spread t.ids k ≡ false
     by (Ok x) ok err = λ k e. ap (λ ids. is_spread ids k) ok ∙ spread_less k s.ids e
@@ -55,21 +54,4 @@ kept_by_lines hands q r s t kept l = record {
 }
 
 pub seen_by_lines : (hands : List Hand) (q r : QueueView) (s t : SpreadView) → LinesUp q r s t → whole_of hands r t ≡ whole_of hands q s
-seen_by_lines hands q r s t l = λ i. record { hands = hands; waiting = l.waiting i; again = map (λ (h : Held). h.key) (filter (λ (h : Held). h.again) (l.held i)) }
-
--- ---- the next key
-
--- the first key of all is the first in line, where there is none behind an empty line
-first_in : (line spread : List Key) → (line ≡ [] → slice_get (waiting_in line spread) 0 ≡ None) → slice_get (waiting_in line spread) 0 ≡ slice_get line 0
-first_in [] spread none = none refl
-first_in (k ∷ line) spread none = refl
-
-module _ (hands : List Hand) (q r : QueueView) (s t : SpreadView) (kept : IsKept hands q s) (l : LinesUp q r s t) where
-  -- it is the first of all that wait
-  pub next_first : (o : Option Key) → (r.waiting ≡ [] → t.ids ≡ []) → o ≡ slice_get r.waiting 0 → o ≡ slice_get (all_waiting q s) 0
-  next_first o none e =
-      e ∙ sym (first_in r.waiting (keys_in t.scope t.ids) (λ nothing i. slice_get (waiting_in (nothing i) (keys_in t.scope (none nothing i))) 0)) ∙ ap (λ keys. slice_get keys 0) l.waiting
-
-  pub next_free : (o : Option Key) → IsQueueApart r → o ≡ slice_get r.waiting 0 → IfSome o (λ k. is_in_hands k hands ≡ false)
-  next_free None apart e = tt
-  next_free (Some k) apart e = waits_free k hands r (kept_by_lines hands q r s t kept l).tied apart (first_waits k r.waiting (sym e))
+seen_by_lines hands q r s t l = λ i. record { hands = hands; waiting = in_order (l.waiting i); again = map (λ (h : Held). h.key) (filter (λ (h : Held). h.again) (l.held i)) }

@@ -9,9 +9,10 @@ use Rattle.std.specs.Map.{keys_of, lookup}
 use Rattle.indexmap.proofs.MapLemmas.{lookup_permutation}
 use Rattle.hx_model.specs.Keys.{same_key, is_among}
 use Rattle.hx_model.specs.declared.key.Key.{Key}
-use Rattle.hx_queue.specs.Kept.{Held, QueueView, AreApart, Marks, Holds, Releases, again_in, held_without, keys_held, waiting_without, is_waiting, is_held, holding_of, marked_again}
+use Rattle.hx_queue.specs.Kept.{Held, QueueView, AreApart, Marks, Holds, Releases, again_in, held_without, keys_held, is_waiting, is_held, holding_of, marked_again}
+use Rattle.hx_line.specs.Line.{waiting_without}
 use Rattle.hx_model.proofs.SameKeys.{key_laws, same_key_is, same_turned}
-use Rattle.hx_queue.proofs.Sets.{among_without}
+use Rattle.hx_line.proofs.Sets.{among_without}
 use Rattle.hx_queue.proofs.Queueing.{is_held_among, keys_again, keys_without}
 
 -- ---- keys and tests

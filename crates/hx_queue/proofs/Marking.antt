@@ -70,6 +70,7 @@ mark_one k old new m = record {
   waiting = λ j. ap (is_among j) m.waiting ∙ waiting j;
   again = λ j. ap (λ held. is_among j (map (λ (h : Held). h.key) (filter (λ (h : Held). h.again) held))) m.held ∙ again j;
   held = λ test. ap (any_held test) m.held ∙ any_map (λ (h : Held). record h { again = same_key k h.key || h.again }) (λ (h : Held). test h.key h.worker) old.held;
+  ranks = m.ranks;
   spare = m.spare;
 }
   where
@@ -97,6 +98,7 @@ pub none_marked : (q : QueueView) → MarksEach [] q q
 none_marked q = record {
   waiting = λ k. sym (or-false (is_among k q.waiting));
   again = λ k. sym (or-false (is_among k (marked_again q)));
+  ranks = refl;
   held = λ test. refl;
   spare = omega arith;
 }
@@ -115,6 +117,7 @@ pub mark_more : (k : Key) (keys : List Key) (u v w : QueueView) → MarksEach (k
 mark_more k keys u v w first rest = record {
   waiting = λ j. rest.waiting j ∙ (λ i. first.waiting j i || (is_among j keys && not (held_then j i))) ∙ joined (is_among j u.waiting) (same_key j k) (is_among j keys) (not (is_held u j));
   again = λ j. rest.again j ∙ (λ i. first.again j i || (is_among j keys && held_then j i)) ∙ joined (is_among j (marked_again u)) (same_key j k) (is_among j keys) (is_held u j);
+  ranks = rest.ranks ∙ first.ranks;
   held = λ test. rest.held test ∙ first.held test;
   spare = omega (arith, first.spare, rest.spare);
 }

@@ -6,17 +6,16 @@ use Rattle.std.specs.List.Sorted.{IsPermutation}
 use lib.ListN.{length-map}
 use Rattle.std.proofs.lemmas.List.{length-append}
 use Rattle.std.proofs.lemmas.List.Folds.{list_any-append}
-use Rattle.std.proofs.lemmas.List.Sorted.{IsPermutation-map, list_any-IsPermutation}
-use Rattle.std.proofs.lemmas.Map.Keys.{IsDistinct-head, IsDistinct-tail, IsDistinct-push}
+use Rattle.std.proofs.lemmas.List.Sorted.{IsPermutation-map, IsPermutation-sym, list_any-IsPermutation}
+use Rattle.std.proofs.lemmas.Map.Keys.{IsDistinct-head, IsDistinct-tail, IsDistinct-push, IsDistinct-IsPermutation}
 use Rattle.hx_model.specs.Keys.{same_key, is_among}
 use Rattle.hx_model.specs.declared.key.Key.{Key}
-use Rattle.hx_queue.specs.Kept.{Held, QueueView, AreApart, again_in, held_without, keys_held, waiting_without, waiting_after, Releases}
-use Rattle.hx_queue.specs.Line.{LineView, with_key}
+use Rattle.hx_queue.specs.Kept.{Held, QueueView, AreApart, again_in, held_without, keys_held, waiting_after, Releases}
+use Rattle.hx_line.specs.Line.{LineView, waiting_without, with_key}
 use Rattle.hx_queue.specs.Slots.{held_of, held_by, view, seen, IsQueue}
 use Rattle.hx_queue.specs.declared.slots.Slot.{Slot}
 use Rattle.hx_model.proofs.SameKeys.{key_laws, same_key_is, same_turned}
-use Rattle.hx_queue.proofs.Sets.{among_without, head_absent}
-use Rattle.hx_queue.proofs.Lining.{distinct_after}
+use Rattle.hx_line.proofs.Sets.{among_without, distinct_filter, head_absent}
 
 -- ---- keys that wait, and keys that are held
 
@@ -32,11 +31,19 @@ is_held_among k (h ∷ hs) = by (same_key k h.key) refl (is_held_among k hs)
 abbrev Apart : List Key → List Key → Type 0
 Apart keys held = (q : Key) → is_among q held ≡ true → is_among q keys ≡ false
 
-apart_from : (keys : List Key) (hs : List Held) → IsDistinct same_key keys → IsDistinct same_key (keys_held hs) → Apart keys (keys_held hs) → (n : ℕ) → AreApart (view keys hs n)
-apart_from keys hs c d a n = record { waiting = c; held = d; apart = λ q is. a q (sym (is_held_among q hs) ∙ is) }
+apart_from : (keys : List Key) (ranks : List (Key × ℕ)) (hs : List Held) → IsDistinct same_key keys → IsDistinct same_key (keys_held hs) → Apart keys (keys_held hs) → (n : ℕ) → AreApart (view keys ranks hs n)
+apart_from keys ranks hs c d a n = record { waiting = c; held = d; apart = λ q is. a q (sym (is_held_among q hs) ∙ is) }
 
-apart_in : (keys : List Key) (hs : List Held) → ((n : ℕ) → AreApart (view keys hs n)) → Apart keys (keys_held hs)
-apart_in keys hs a q is = (a 0).apart q (is_held_among q hs ∙ is)
+apart_in : (keys : List Key) (ranks : List (Key × ℕ)) (hs : List Held) → ((n : ℕ) → AreApart (view keys ranks hs n)) → Apart keys (keys_held hs)
+apart_in keys ranks hs a q is = (a 0).apart q (is_held_among q hs ∙ is)
+
+-- other depths
+ranked_apart : (keys : List Key) (ranks others : List (Key × ℕ)) (hs : List Held) → ((n : ℕ) → AreApart (view keys ranks hs n)) → (n : ℕ) → AreApart (view keys others hs n)
+ranked_apart keys ranks others hs a n = let at = a n in record { waiting = at.waiting; held = at.held; apart = at.apart }
+
+-- what is left without a key is distinct
+distinct_after : (k : Key) (old new : List Key) → IsDistinct same_key old → IsPermutation new (waiting_without old k) → IsDistinct same_key new
+distinct_after k old new d p = IsDistinct-IsPermutation same_key same_turned (waiting_without old k) new (IsPermutation-sym _ _ p) (distinct_filter (λ other. not (same_key k other)) old d)
 
 pub keys_again : (k : Key) (hs : List Held) → keys_held (again_in k hs) ≡ keys_held hs
 keys_again k [] = refl
@@ -60,7 +67,7 @@ as_many es fs h =
 
 pub still_queue : (a b : LineView) (es fs : List (Key × Slot)) → IsQueue a es → b.keys ≡ a.keys → a.room ≤ b.room → fs ≡ es → IsQueue b fs
 still_queue a b es fs q keys room is =
-    let kept : IsQueue b es = record { apart = λ n. subst (λ l. AreApart (view l (held_of es) n)) (sym keys) (q.apart n); room = omega (arith, q.room, room) } in
+    let kept : IsQueue b es = record { apart = subst (λ l. (n : ℕ) → AreApart (view l b.ranks (held_of es) n)) (sym keys) (ranked_apart a.keys a.ranks b.ranks (held_of es) q.apart); room = omega (arith, q.room, room) } in
     subst (IsQueue b) (sym is) kept
 
 pub marked_queue : (k : Key) (a : LineView) (es fs : List (Key × Slot)) → IsQueue a es → held_of fs ≡ again_in k (held_of es) → IsQueue a fs
@@ -69,8 +76,18 @@ marked_queue k a es fs q is =
     let long = as_many es fs keys in
     let at = q.apart 0 in
     record {
-      apart = apart_from a.keys (held_of fs) at.waiting (subst (IsDistinct same_key) (sym keys) at.held) (subst (Apart a.keys) (sym keys) (apart_in a.keys (held_of es) q.apart));
+      apart = apart_from a.keys a.ranks (held_of fs) at.waiting (subst (IsDistinct same_key) (sym keys) at.held) (subst (Apart a.keys) (sym keys) (apart_in a.keys a.ranks (held_of es) q.apart));
       room = omega (arith, q.room, long);
+    }
+
+-- the keys in line in another order
+pub ranked_queue : (a b : LineView) (es : List (Key × Slot)) → IsQueue a es → IsPermutation a.keys b.keys → a.room ≤ b.room → IsQueue b es
+ranked_queue a b es q keys room =
+    let at = q.apart 0 in
+    record {
+      apart = apart_from b.keys b.ranks (held_of es) (IsDistinct-IsPermutation same_key same_turned a.keys b.keys keys at.waiting) at.held
+          (λ p held. sym (list_any-IsPermutation (same_key p) a.keys b.keys keys) ∙ apart_in a.keys a.ranks (held_of es) q.apart p held);
+      room = omega (arith, q.room, room);
     }
 
 -- ---- a key waits
@@ -90,8 +107,8 @@ pushed_queue k a b es fs q is keys room more absent free =
     let at = m.apart 0 in
     let long = as_many es fs (ap keys_held is ∙ keys_again k (held_of es)) in
     record {
-      apart = subst (λ l. (n : ℕ) → AreApart (view l (held_of fs) n)) (sym keys)
-          (apart_from (a.keys ++ k ∷ []) (held_of fs) (IsDistinct-push key_laws a.keys k at.waiting absent) at.held (λ p held. among_push p k a.keys ∙ by p held (same_key p k) refl (apart_in a.keys (held_of fs) m.apart p held)));
+      apart = subst (λ l. (n : ℕ) → AreApart (view l b.ranks (held_of fs) n)) (sym keys)
+          (apart_from (a.keys ++ k ∷ []) b.ranks (held_of fs) (IsDistinct-push key_laws a.keys k at.waiting absent) at.held (λ p held. among_push p k a.keys ∙ by p held (same_key p k) refl (apart_in a.keys a.ranks (held_of fs) m.apart p held)));
       room = omega (arith, room, more, long);
     }
   where
@@ -111,7 +128,7 @@ with_queue k a b es fs q is keys room more free = by (is_among k a.keys) refl
         let m = marked_queue k a es fs q is in
         let same : b.keys ≡ a.keys = keys ∙ ap (λ t. cond t a.keys (a.keys ++ k ∷ [])) there in
         let long = as_many es fs (ap keys_held is ∙ keys_again k (held_of es)) in
-        record { apart = subst (λ l. (n : ℕ) → AreApart (view l (held_of fs) n)) (sym same) m.apart; room = omega (arith, room, more, long) }
+        record { apart = subst (λ l. (n : ℕ) → AreApart (view l b.ranks (held_of fs) n)) (sym same) (ranked_apart a.keys a.ranks b.ranks (held_of fs) m.apart); room = omega (arith, room, more, long) }
 
 -- ---- a key is held
 
@@ -131,7 +148,7 @@ held_queue k s a b es fs q keys is room more free =
     let absent : is_among k (keys_held (held_of es)) ≡ false = sym (is_held_among k (held_of es)) ∙ free in
     let long = ap length is ∙ length-append es ((k, s) ∷ []) in
     record {
-      apart = apart_from b.keys (held_of fs) (distinct_after k a.keys b.keys at.waiting keys) (subst (IsDistinct same_key) (sym held) (IsDistinct-push key_laws (keys_held (held_of es)) k at.held absent))
+      apart = apart_from b.keys b.ranks (held_of fs) (distinct_after k a.keys b.keys at.waiting keys) (subst (IsDistinct same_key) (sym held) (IsDistinct-push key_laws (keys_held (held_of es)) k at.held absent))
           (λ p h. left p ∙ by p (same_key k p) refl (sym (among_push p k (keys_held (held_of es))) ∙ sym (ap (is_among p) held) ∙ h));
       room = omega (arith, room, more, long);
     }
@@ -143,7 +160,7 @@ held_queue k s a b es fs q keys is room more free =
     by p true e h = ap (λ t. not t && is_among p a.keys) e
     by p false e h =
         let other : same_key p k ≡ false = same_turned p k ∙ e in
-        ap (λ t. not t && is_among p a.keys) e ∙ apart_in a.keys (held_of es) q.apart p (or_left (is_among p (keys_held (held_of es))) (sym (ap (λ t. is_among p (keys_held (held_of es)) || t) other) ∙ h))
+        ap (λ t. not t && is_among p a.keys) e ∙ apart_in a.keys a.ranks (held_of es) q.apart p (or_left (is_among p (keys_held (held_of es))) (sym (ap (λ t. is_among p (keys_held (held_of es)) || t) other) ∙ h))
       where
         or_left : (t : Bool) → (t || false) ≡ true → t ≡ true
         or_left true h = refl
@@ -166,7 +183,7 @@ pub free_queue : (k : Key) (a : LineView) (es fs : List (Key × Slot)) → IsQue
 free_queue k a es fs q perm long =
     let at = q.apart 0 in
     record {
-      apart = apart_from a.keys (held_of fs) at.waiting (distinct_after k (keys_held (held_of es)) (keys_held (held_of fs)) at.held (let_go_keys k es fs perm)) (λ p h. apart_in a.keys (held_of es) q.apart p (still_held k p es fs perm h).1);
+      apart = apart_from a.keys a.ranks (held_of fs) at.waiting (distinct_after k (keys_held (held_of es)) (keys_held (held_of fs)) at.held (let_go_keys k es fs perm)) (λ p h. apart_in a.keys a.ranks (held_of es) q.apart p (still_held k p es fs perm h).1);
       room = omega (arith, q.room, long);
     }
 
@@ -176,9 +193,9 @@ back_queue k a b es fs q perm long keys room absent =
     let m = free_queue k a es fs q perm long in
     let at = m.apart 0 in
     record {
-      apart = subst (λ l. (n : ℕ) → AreApart (view l (held_of fs) n)) (sym keys)
-          (apart_from (a.keys ++ k ∷ []) (held_of fs) (IsDistinct-push key_laws a.keys k at.waiting absent) at.held
-          (λ p h. among_push p k a.keys ∙ (λ i. apart_in a.keys (held_of fs) m.apart p h i || (same_turned p k ∙ (still_held k p es fs perm h).0) i)));
+      apart = subst (λ l. (n : ℕ) → AreApart (view l b.ranks (held_of fs) n)) (sym keys)
+          (apart_from (a.keys ++ k ∷ []) b.ranks (held_of fs) (IsDistinct-push key_laws a.keys k at.waiting absent) at.held
+          (λ p h. among_push p k a.keys ∙ (λ i. apart_in a.keys a.ranks (held_of fs) m.apart p h i || (same_turned p k ∙ (still_held k p es fs perm h).0) i)));
       room = omega (arith, q.room, room, long);
     }
 
@@ -237,9 +254,10 @@ waits_after k again marked r q d h is = ap (λ t. if again || t then q.waiting +
 
 module _ (k : Key) (again marked : Bool) (a : LineView) (es fs : List (Key × Slot)) (m n : ℕ) (q : IsQueue a es) (h : option_map (λ (h : Held). h.again) (find (λ (h : Held). same_key k h.key) (held_of es)) ≡ Some marked)
     (held : IsPermutation (held_of fs) (held_without k (held_of es))) (long : length fs + 1 ≡ length es) (room : m ≤ n) where
-  pub back : (b : LineView) → (again || marked) ≡ true → b.keys ≡ a.keys ++ k ∷ [] → a.room ≤ b.room + 1 → Releases k again (seen a es m) (seen b fs n)
-  back b is keys more = record {
+  pub back : (b : LineView) → (again || marked) ≡ true → b.keys ≡ a.keys ++ k ∷ [] → b.ranks ≡ a.ranks → a.room ≤ b.room + 1 → Releases k again (seen a es m) (seen b fs n)
+  back b is keys ranks more = record {
     waiting = keys ∙ sym (waits_after k again marked true (seen a es m) (q.apart m).held h is);
+    ranks = ranks;
     held = held;
     spare = omega (arith, long, more, room, q.room);
   }
@@ -247,13 +265,14 @@ module _ (k : Key) (again marked : Bool) (a : LineView) (es fs : List (Key × Sl
   pub free : (again || marked) ≡ false → Releases k again (seen a es m) (seen a fs n)
   free is = record {
     waiting = sym (waits_after k again marked false (seen a es m) (q.apart m).held h is);
+    ranks = refl;
     held = held;
     spare = omega (arith, long, room, q.room);
   }
 
 pub released_back : (k : Key) (again marked : Bool) (a b : LineView) (es fs : List (Key × Slot)) (m n : ℕ) → IsQueue a es → option_map (λ (h : Held). h.again) (find (λ (h : Held). same_key k h.key) (held_of es)) ≡ Some marked
-    → (again || marked) ≡ true → b.keys ≡ a.keys ++ k ∷ [] → a.room ≤ b.room + 1 → IsPermutation (held_of fs) (held_without k (held_of es)) → length fs + 1 ≡ length es → m ≤ n → Releases k again (seen a es m) (seen b fs n)
-released_back k again marked a b es fs m n q h is keys more held long room = back k again marked a es fs m n q h held long room b is keys more
+    → (again || marked) ≡ true → b.keys ≡ a.keys ++ k ∷ [] → b.ranks ≡ a.ranks → a.room ≤ b.room + 1 → IsPermutation (held_of fs) (held_without k (held_of es)) → length fs + 1 ≡ length es → m ≤ n → Releases k again (seen a es m) (seen b fs n)
+released_back k again marked a b es fs m n q h is keys ranks more held long room = back k again marked a es fs m n q h held long room b is keys ranks more
 
 pub released_free : (k : Key) (again marked : Bool) (a : LineView) (es fs : List (Key × Slot)) (m n : ℕ) → IsQueue a es → option_map (λ (h : Held). h.again) (find (λ (h : Held). same_key k h.key) (held_of es)) ≡ Some marked
     → (again || marked) ≡ false → IsPermutation (held_of fs) (held_without k (held_of es)) → length fs + 1 ≡ length es → m ≤ n → Releases k again (seen a es m) (seen a fs n)

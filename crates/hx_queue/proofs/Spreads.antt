@@ -23,7 +23,7 @@ use Rattle.hx_model.specs.declared.key.Key.{Key}
 use Rattle.hx_model.specs.declared.key.Key.TheVariants as key
 use Rattle.hx_model.proofs.SameKeys.{same_key_is, same_key_itself}
 use Rattle.hx_queue.specs.Kept.{Held, Marks, QueueView, again_in, is_held}
-use Rattle.hx_queue.specs.Line.{with_key}
+use Rattle.hx_line.specs.Line.{with_key}
 use Rattle.hx_queue.specs.Spread.{HasPlace, IsOf, IsSpread, Scope, equal_ids, is_place_of, is_spread, keys_in, most_spread, names_in, place_keys, waiting_in, with_id}
 use Rattle.hx_queue.specs.Spreading.{AreLinedUp}
 use Rattle.hx_queue.proofs.Beside.{distinct_append, equal_ids_is, place_itself}

@@ -13,7 +13,8 @@ use Rattle.std.proofs.lemmas.Map.Views.{any-filter_same}
 use Rattle.hx_model.specs.Hands.{Hand, hand_of, without_hand, is_held as is_in_hands}
 use Rattle.hx_model.specs.Keys.{same_key, is_among}
 use Rattle.hx_model.specs.declared.key.Key.{Key}
-use Rattle.hx_queue.specs.Kept.{Held, QueueView, Holds, Releases, AreApart as IsQueueApart, held_without, holding_of, is_held, marked_again, waiting_without}
+use Rattle.hx_queue.specs.Kept.{Held, QueueView, Holds, Releases, AreApart as IsQueueApart, held_without, holding_of, is_held, marked_again}
+use Rattle.hx_line.specs.Line.{waiting_without}
 use Rattle.hx_queue.specs.Tied.{IsTied, MarksEach, any_held}
 use Rattle.hx_queue.specs.Workers.{WorkersView, AreApart, IsMarkedBy, IsTakenBy, IsLetGo}
 use Rattle.hx_queue.proofs.Finding.{some_any, any_same, any_kept, any_by_found, found_passes, none_at}

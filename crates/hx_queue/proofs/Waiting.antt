@@ -10,10 +10,10 @@ use Rattle.std.proofs.lemmas.Map.Keys.{IsDistinct-head, IsDistinct-tail}
 use Rattle.hx_model.specs.Keys.{same_key, is_among}
 use Rattle.hx_model.specs.declared.key.Key.{Key}
 use Rattle.hx_model.proofs.SameKeys.{same_key_is, same_key_itself}
-use Rattle.hx_queue.specs.Line.{with_key}
+use Rattle.hx_line.specs.Line.{with_key}
 use Rattle.hx_queue.specs.Spread.{waiting_in}
 use Rattle.hx_queue.proofs.Beside.{among_waiting}
-use Rattle.hx_queue.proofs.Sets.{head_absent}
+use Rattle.hx_line.proofs.Sets.{head_absent}
 
 abbrev out_of : List Key → Key → Bool
 out_of line k = not (is_among k line)

@@ -5,7 +5,8 @@
 --     may_by                              one more object's keys may be marked as a whole
 --     kept_by_spread, seen_by_spread      they were
 --     whole_apart                         no key is there twice
-use Rattle.std.proofs.Common.{◌≡◌, ℕ, Bool, true, false, not, ◌&&◌, ◌||◌, List, [], ◌∷◌, ◌++◌, refl, sym, ap, ◌∙◌, true≢false, Option, Some, None}
+--     whole_many, whole_none              how many keys wait, and where nothing does
+use Rattle.std.proofs.Common.{◌≡◌, ℕ, Bool, true, false, not, ◌&&◌, ◌||◌, List, [], ◌∷◌, ◌++◌, map, filter, length, refl, sym, ap, ◌∙◌, true≢false, Option, Some, None}
 use Rattle.std.specs.List.{IsDistinct, list_any}
 use Rattle.std.proofs.lemmas.List.Folds.{list_any-append}
 use Rattle.std.proofs.lemmas.List.Sorted.{list_any-IsPermutation}
@@ -16,18 +17,24 @@ use Rattle.hx_model.specs.Keys.{same_key, is_among}
 use Rattle.hx_model.specs.declared.key.Key.{Key}
 use Rattle.hx_model.proofs.SameKeys.{same_key_is}
 use Rattle.hx_queue.specs.Kept.{Held, QueueView, Holds, Releases, AreApart as IsQueueApart, held_without, is_held, marked_again}
-use Rattle.hx_queue.specs.Spread.{HasPlace, Scope, SpreadView, is_place_of, is_spread, keys_in, names_in, place_keys, with_id}
-use Rattle.hx_queue.specs.Tied.{IsKept, IsTied, MarksEach, any_held, hand_in, hands_of, with_spread}
-use Rattle.hx_queue.specs.Workers.{AreApart, IsMarkedBy, IsTakenBy, IsLetGo, MaySpread, WorkersView}
+use Rattle.hx_queue.specs.Ordered.{in_order}
+use Rattle.hx_queue.specs.Spread.{HasPlace, Scope, SpreadView, is_place_of, is_spread, keys_in, names_in, place_keys, waiting_in, with_id}
+use Rattle.hx_queue.specs.Tied.{IsKept, IsTied, MarksEach, all_waiting, any_held, hand_in, hands_of, with_spread}
+use Rattle.hx_queue.specs.Workers.{AreApart, IsMarkedBy, IsTakenBy, IsLetGo, MaySpread, WorkersView, no_work}
 use Rattle.hx_queue.specs.declared.workers.Handed.{Handed}
 use Rattle.hx_queue.proofs.Beside.{among_more, among_waiting, distinct_waiting, places_apart, spread_absent, spread_more}
 use Rattle.hx_queue.proofs.Finding.{any_map}
 use Rattle.hx_queue.proofs.Marking.{held_any}
+use Rattle.hx_queue.proofs.Ordered.{among_in_order, in_order_distinct, in_order_none, length_in_order}
 use Rattle.hx_queue.proofs.Tying.{all_apart, held_in_hands, seen_by_marks, seen_by_release, seen_by_take, tied_by_release, tied_by_take, view_of}
 
 -- what is seen of hands, a queue and what was marked as a whole
 abbrev pub whole_of : List Hand → QueueView → SpreadView → WorkersView
 whole_of hands q s = view_of hands (with_spread q s)
+
+-- which keys wait
+waits_in : (k : Key) (q : QueueView) (s : SpreadView) → is_among k (in_order (all_waiting q s)) ≡ (is_among k q.waiting || is_among k (keys_in s.scope s.ids))
+waits_in k q s = among_in_order k (all_waiting q s) ∙ among_waiting k q.waiting (keys_in s.scope s.ids)
 
 -- ---- keys that were marked one by one
 
@@ -53,10 +60,10 @@ seen_by_all_marks keys hands old new s kept m =
     let line = seen_by_marks keys hands old new kept.tied m in
     record {
       hands = refl;
-      waiting = λ k. among_waiting k new.waiting (keys_in s.scope s.ids)
+      waiting = λ k. waits_in k new s
           ∙ ap (λ b. b || is_among k (keys_in s.scope s.ids)) (line.waiting k)
           ∙ beside (is_among k old.waiting) (is_among k keys && not (is_in_hands k hands)) (is_among k (keys_in s.scope s.ids))
-          ∙ ap (λ b. b || (is_among k keys && not (is_in_hands k hands))) (sym (among_waiting k old.waiting (keys_in s.scope s.ids)));
+          ∙ ap (λ b. b || (is_among k keys && not (is_in_hands k hands))) (sym (waits_in k old s));
       again = line.again;
     }
 
@@ -94,11 +101,11 @@ seen_by_taken hand k hands old new s is apart h =
     let line = seen_by_take hand k hands old new is h in
     record {
       hands = refl;
-      waiting = λ j. among_waiting j new.waiting (keys_in s.scope s.ids)
+      waiting = λ j. waits_in j new s
           ∙ ap (λ b. b || is_among j (keys_in s.scope s.ids)) (line.waiting j)
           ∙ but_one (is_among j old.waiting) (is_among j (keys_in s.scope s.ids)) (same_key j hand.key)
           (λ same. spread_absent j s.scope s.ids (ap (is_spread s.ids) (same_key_is j hand.key same ∙ is) ∙ apart))
-          ∙ ap (λ b. b && not (same_key j hand.key)) (sym (among_waiting j old.waiting (keys_in s.scope s.ids)));
+          ∙ ap (λ b. b && not (same_key j hand.key)) (sym (waits_in j old s));
       again = line.again;
     }
 
@@ -128,10 +135,10 @@ seen_by_let_go w k waits hands old new s r =
     let line = seen_by_release w k waits hands old new r in
     record {
       hands = refl;
-      waiting = λ j. among_waiting j new.waiting (keys_in s.scope s.ids)
+      waiting = λ j. waits_in j new s
           ∙ ap (λ b. b || is_among j (keys_in s.scope s.ids)) (line.waiting j)
           ∙ beside (is_among j old.waiting) (same_key j k && (waits || is_among k (marked_again old))) (is_among j (keys_in s.scope s.ids))
-          ∙ ap (λ b. b || (same_key j k && (waits || is_among k (marked_again old)))) (sym (among_waiting j old.waiting (keys_in s.scope s.ids)));
+          ∙ ap (λ b. b || (same_key j k && (waits || is_among k (marked_again old)))) (sym (waits_in j old s));
       again = line.again;
     }
 
@@ -182,11 +189,11 @@ again_same false false h none = refl
 pub seen_by_spread : (id : Id) (hands : List Hand) (q : QueueView) (s t : SpreadView) → MaySpread id hands s.scope s.ids → t.scope ≡ s.scope → t.ids ≡ with_id id s.ids → IsMarkedBy (place_keys (names_in s.scope) id) (whole_of hands q s) (whole_of hands q t)
 seen_by_spread id hands q s t may scope is = record {
   hands = refl;
-  waiting = λ k. among_waiting k q.waiting (keys_in t.scope t.ids)
+  waiting = λ k. waits_in k q t
       ∙ (λ i. is_among k q.waiting || is_among k (keys_in (scope i) (is i)))
       ∙ ap (λ b. is_among k q.waiting || b) (among_more k id s.scope s.ids)
       ∙ waits_more (is_among k q.waiting) (is_among k (keys_in s.scope s.ids)) (is_among k (place_keys (names_in s.scope) id)) (is_in_hands k hands) (none k)
-      ∙ ap (λ b. b || (is_among k (place_keys (names_in s.scope) id) && not (is_in_hands k hands))) (sym (among_waiting k q.waiting (keys_in s.scope s.ids)));
+      ∙ ap (λ b. b || (is_among k (place_keys (names_in s.scope) id) && not (is_in_hands k hands))) (sym (waits_in k q s));
   again = λ k. again_same (is_among k (marked_again q)) (is_among k (place_keys (names_in s.scope) id)) (is_in_hands k hands) (none k);
 }
   where
@@ -195,12 +202,23 @@ seen_by_spread id hands q s t may scope is = record {
 
 -- ---- what is apart
 
-pub whole_apart : (hands : List Hand) (q : QueueView) (s : SpreadView) → IsKept hands q s → IsQueueApart q → IsDistinct same_key (keys_in s.scope s.ids) → AreApart (whole_of hands q s)
-whole_apart hands q s kept apart distinct =
+pub whole_apart : (hands : List Hand) (q : QueueView) (s : SpreadView) → IsKept hands q s → IsQueueApart q → AreApart (whole_of hands q s)
+whole_apart hands q s kept apart =
     all_apart hands (with_spread q s)
     (record { same = kept.tied.same; workers = kept.tied.workers; keys = kept.tied.keys })
     (record {
-      waiting = distinct_waiting q.waiting (keys_in s.scope s.ids) apart.waiting distinct;
+      waiting = in_order_distinct (all_waiting q s);
       held = apart.held;
-      apart = λ k held. among_waiting k q.waiting (keys_in s.scope s.ids) ∙ (λ i. apart.apart k held i || spread_absent k s.scope s.ids (kept.free k held) i);
+      apart = λ k held. waits_in k q s ∙ (λ i. apart.apart k held i || spread_absent k s.scope s.ids (kept.free k held) i);
     })
+
+-- ---- how many wait
+
+pub whole_many : (q : QueueView) (s : SpreadView) → IsQueueApart q → IsDistinct same_key (keys_in s.scope s.ids) → length (all_waiting q s) ≡ length (in_order (all_waiting q s))
+whole_many q s apart distinct = sym (length_in_order (all_waiting q s) (distinct_waiting q.waiting (keys_in s.scope s.ids) apart.waiting distinct))
+
+-- nothing was marked
+pub whole_none : (hands : List Hand) (q : QueueView) (s : SpreadView) → hands ≡ [] → q.waiting ≡ [] → q.held ≡ [] → s.ids ≡ [] → whole_of hands q s ≡ no_work
+whole_none hands q s nobody line held ids =
+    let none : all_waiting q s ≡ [] = λ i. waiting_in (line i) (keys_in s.scope (ids i)) in
+    λ i. record { hands = nobody i; waiting = in_order_none (all_waiting q s) none i; again = map (λ (h : Held). h.key) (filter (λ (h : Held). h.again) (held i)) }

@@ -1,7 +1,7 @@
 pub mod Kept
-pub mod Line
 pub mod Slots
 pub mod Spread
 pub mod Spreading
+pub mod Ordered
 pub mod Workers
 pub mod Tied

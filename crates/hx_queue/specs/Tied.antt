@@ -1,19 +1,25 @@
 -- How hands and a queue are tied.
 --     hands_of     the hands as they are seen
 --     kept_of      how workers are seen
---     with_spread  a queue in which the keys wait, too, that were marked as a whole
+--     with_spread  a queue in which the keys wait, too, that were marked as a whole, in the order of keys
 --     IsTied       the queue holds the keys of the hands, each for its worker
 --     IsKept       and no key that is held was marked as a whole
 --     LinesUp      keys that were marked as a whole came in line
+--     Brings       a key came to the front
+--     IsInFront    it is the first of all that wait
 --     MarksEach    keys were marked in a queue, one by one
-use Rattle.std.specs.Prelude.{◌≡◌, ◌≤◌, ◌+◌, ℕ, Bool, true, false, not, ◌&&◌, ◌||◌, ◌==◌, List, map, length, if◌then◌else◌}
+use Rattle.std.specs.Prelude.{◌≡◌, ◌≤◌, ◌+◌, ℕ, Bool, true, false, not, ◌&&◌, ◌||◌, ◌==◌, List, [], map, length, slice_get, Some, None, if◌then◌else◌}
 use Rattle.std.specs.List.{AllPairs, list_any}
 use Rattle.hx_object.specs.declared.object.Id.{Id}
+use Rattle.hx_model.specs.Forest.{Forest}
 use Rattle.hx_model.specs.Hands.{Hand}
 use Rattle.hx_model.specs.Keys.{same_key, is_among}
 use Rattle.hx_model.specs.declared.key.Key.{Key}
+use Rattle.hx_order.specs.Ranks.{IsFirst}
+use Rattle.hx_line.specs.Line.{IsRanked}
 use Rattle.hx_reconcile.specs.Briefs.{hand_by}
 use Rattle.hx_queue.specs.Kept.{Held, QueueView, is_held, marked_again}
+use Rattle.hx_queue.specs.Ordered.{in_order}
 use Rattle.hx_queue.specs.Spread.{SpreadView, is_spread, keys_in, waiting_in}
 use Rattle.hx_queue.specs.Workers.{WorkersKept}
 use Rattle.hx_queue.specs.declared.workers.Handed.{Handed}
@@ -35,13 +41,14 @@ abbrev pub all_waiting : QueueView → SpreadView → List Key
 all_waiting q s = waiting_in q.waiting (keys_in s.scope s.ids)
 
 abbrev pub with_spread : QueueView → SpreadView → QueueView
-with_spread q s = record q { waiting = all_waiting q s }
+with_spread q s = record q { waiting = in_order (all_waiting q s) }
 
 abbrev pub kept_of : List Handed → ℕ → QueueView → SpreadView → WorkersKept
 kept_of hands places q s = record {
-  seen = record { hands = hands_of hands; waiting = all_waiting q s; again = marked_again q };
+  seen = record { hands = hands_of hands; waiting = in_order (all_waiting q s); again = marked_again q };
   scope = s.scope;
   spread = s.ids;
+  ranks = q.ranks;
   spare = room_of places q.spare;
   places = s.room;
 }
@@ -74,10 +81,26 @@ pub record IsKept (hands : List Hand) (q : QueueView) (s : SpreadView) : Type 0 
 -- The same keys wait, and the same ones are held. What wasn't marked as a whole still isn't
 pub record LinesUp (q r : QueueView) (s t : SpreadView) : Type 0 where
   pub waiting : all_waiting r t ≡ all_waiting q s
+  pub ranks : r.ranks ≡ q.ranks
   pub held : r.held ≡ q.held
   pub scope : t.scope ≡ s.scope
   pub apart : (k : Key) → is_spread s.ids k ≡ false → is_spread t.ids k ≡ false
   pub room : s.room ≤ t.room
+
+-- ---- the key whose turn it is
+
+-- the same keys wait, in any order, and the same ones are held
+pub record Brings (f : Forest) (q r : QueueView) (s t : SpreadView) : Type 0 where
+  pub waiting : (k : Key) → is_among k (all_waiting r t) ≡ is_among k (all_waiting q s)
+  pub ranks : IsRanked f r.ranks
+  pub held : r.held ≡ q.held
+  pub scope : t.scope ≡ s.scope
+  pub apart : (k : Key) → is_spread s.ids k ≡ false → is_spread t.ids k ≡ false
+
+-- the key at the front is the first of all that wait; where there is none, none waits
+pub record IsInFront (f : Forest) (q : QueueView) (s : SpreadView) : Type 0 where
+  pub first : (k : Key) → slice_get q.waiting 0 ≡ Some k → IsFirst f (all_waiting q s) k
+  pub none : slice_get q.waiting 0 ≡ None → all_waiting q s ≡ []
 
 -- ---- marks
 
@@ -85,5 +108,6 @@ pub record LinesUp (q r : QueueView) (s t : SpreadView) : Type 0 where
 pub record MarksEach (keys : List Key) (old new : QueueView) : Type 0 where
   pub waiting : (k : Key) → is_among k new.waiting ≡ (is_among k old.waiting || (is_among k keys && not (is_held old k)))
   pub again : (k : Key) → is_among k (marked_again new) ≡ (is_among k (marked_again old) || (is_among k keys && is_held old k))
+  pub ranks : new.ranks ≡ old.ranks
   pub held : (test : Key → ℕ → Bool) → any_held test new.held ≡ any_held test old.held
   pub spare : old.spare ≤ new.spare + length keys

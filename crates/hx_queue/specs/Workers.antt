@@ -1,6 +1,6 @@
 -- What workers hold, and which keys wait.
 --     WorkersView            the hands, the keys that wait, and those that are held and were marked since
---     WorkersKept            the same, with the keys that were marked as a whole, and the room for more
+--     WorkersKept            the same, with the keys that were marked as a whole, how deep those lie of which it is kept, and the room for more
 --     IsMarkedBy keys        keys were marked
 --     IsTakenBy, IsLetGo     a worker took a key;  a worker lets its key go
 --     MaySpread id           keys of an object may be marked as a whole
@@ -20,7 +20,7 @@ use Rattle.hx_model.specs.declared.key.Key.{Key}
 use Rattle.hx_model.specs.declared.key.Write.{Write}
 use Rattle.hx_queue.specs.Spread.{HasPlace, Scope, is_place_of, scope_code}
 
--- `again` are the keys that are held and were marked since
+-- `waiting` are the keys that wait, each once and in the order of keys; `again` are the keys that are held and were marked since
 pub record WorkersView : Type 0 where
   pub hands : List Hand
   pub waiting : List Key
@@ -30,11 +30,12 @@ pub record WorkersView : Type 0 where
 abbrev pub no_work : WorkersView
 no_work = record { hands = []; waiting = []; again = [] }
 
--- what is seen, where and of which objects keys were marked as a whole, and the room for keys that are marked or held later and for objects
+-- what is seen, where and of which objects keys were marked as a whole, how deep keys lie, and the room for keys that are marked or held later and for objects
 pub record WorkersKept : Type 0 where
   pub seen : WorkersView
   pub scope : Option Scope
   pub spread : List Id
+  pub ranks : List (Key × ℕ)
   pub spare : ℕ
   pub places : ℕ
 
@@ -85,5 +86,6 @@ workers_code = code_by (List Hand × (List Key × List Key)) (coded× (coded_lis
     (λ v. (v.hands, (v.waiting, v.again))) (λ p. record { hands = p.0; waiting = p.1.0; again = p.1.1 }) (λ _. refl)
 
 abbrev pub workers_kept_code : Coded WorkersKept
-workers_kept_code = code_by (WorkersView × (Option Scope × (List Id × (ℕ × ℕ)))) (coded× workers_code (coded× (coded_option scope_code) (coded× (coded_list id_type.the_row.coded) (coded× coded_ℕ coded_ℕ))))
-    (λ w. (w.seen, (w.scope, (w.spread, (w.spare, w.places))))) (λ p. record { seen = p.0; scope = p.1.0; spread = p.1.1.0; spare = p.1.1.1.0; places = p.1.1.1.1 }) (λ _. refl)
+workers_kept_code = code_by (WorkersView × (Option Scope × (List Id × (List (Key × ℕ) × (ℕ × ℕ)))))
+    (coded× workers_code (coded× (coded_option scope_code) (coded× (coded_list id_type.the_row.coded) (coded× (coded_list (coded× key.the_row.coded coded_ℕ)) (coded× coded_ℕ coded_ℕ)))))
+    (λ w. (w.seen, (w.scope, (w.spread, (w.ranks, (w.spare, w.places)))))) (λ p. record { seen = p.0; scope = p.1.0; spread = p.1.1.0; ranks = p.1.1.1.0; spare = p.1.1.1.1.0; places = p.1.1.1.1.1 }) (λ _. refl)

@@ -1,8 +1,6 @@
 //! The keys of reconcilers' work: which wait, and which a worker holds, with the brief that it was given.
 #![tactic(auto)]
 
-mod copy_of;
-mod line;
 mod queue;
 mod slots;
 mod spread;

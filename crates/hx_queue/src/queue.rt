@@ -1,13 +1,13 @@
 // The queue.
-ghost use Rattle.std.specs.Prelude.{◌≡◌, ◌≤◌, ◌<◌, ◌∷◌, [], List, false, true, OnOk, option_copied, option_map, length, slice_get};
-ghost use Rattle.hx_model.specs.declared.key.Key.{Key as key_of};
+ghost use Rattle.std.specs.Prelude.{◌≡◌, ◌≤◌, ◌<◌, [], false, true, OnOk, IfSome, nat_lt, option_copied, option_map, length, slice_get};
 ghost use Rattle.hx_model.specs.declared.key.Key.TheVariants as key_by;
-ghost use Rattle.hx_queue.specs.Line.{most_line};
-ghost use Rattle.hx_queue.specs.Kept.{AreApart, Marks, Holds, Releases, is_held, is_waiting, holding_of};
+ghost use Rattle.hx_line.specs.Line.{IsRanked, most_line};
+ghost use Rattle.hx_order.specs.Ranks.{rank_of};
+ghost use Rattle.hx_queue.specs.Kept.{AreApart, Marks, Holds, Ranks, Releases, is_held, is_waiting, holding_of};
 
-use crate::copy_of::CopyOf;
-use crate::line::Line;
 use crate::slots::{Slot, Slots, holder, let_go, mark_held, put};
+use hx_forest::Forest;
+use hx_line::{CopyOf, Line};
 use hx_model::Key;
 use hx_object::NoMemory;
 use indexmap::IndexMap;
@@ -45,6 +45,7 @@ impl Queue {
     /// No keys. It takes no memory.
     pub fn new(alloc: Global, keys: RandomState) -> Queue
         ensures waiting { result.waiting ≡ [] }
+        ensures ranks { result.ranks ≡ [] }
         ensures held { result.held ≡ [] }
     {
         Queue {
@@ -56,6 +57,7 @@ impl Queue {
     /// Makes room for `more` keys. Where no memory is left, the room stays.
     pub fn reserve(&mut self, more: usize) -> Result<(), NoMemory>
         ensures waiting { self.new.waiting ≡ self.old.waiting }
+        ensures ranks { self.new.ranks ≡ self.old.ranks }
         ensures held { self.new.held ≡ self.old.held }
         ensures room { OnOk result (more ≤ self.new.spare) }
         ensures kept { self.old.spare ≤ self.new.spare }
@@ -67,7 +69,7 @@ impl Queue {
         Ok(self.slots.reserve(more)?)
     }
 
-    /// Marks a key: one that is absent waits then, behind the others, and one that is held is going to wait again. It takes no memory.
+    /// Marks a key: one that is absent waits then, and one that is held is going to wait again. It takes no memory.
     pub fn mark(&mut self, key: Key)
         requires { 0 < self.old.spare }
         ensures { Marks key self.old self.new }
@@ -79,19 +81,44 @@ impl Queue {
         self.line.push(key);
     }
 
-    /// The key that waits longest.
+    /// Brings the key to the front whose turn it is in a tree. It takes no memory.
+    pub fn rank(&mut self, forest: &Forest)
+        requires { IsRanked forest.now.nodes self.old.ranks }
+        ensures { Ranks forest.now.nodes self.old self.new }
+    {
+        self.line.rank(forest);
+    }
+
+    /// The tree changes: keys may lie deeper than is kept, or less deep.
+    pub fn outdate(&mut self)
+        ensures waiting { self.new.waiting ≡ self.old.waiting }
+        ensures ranks { self.new.ranks ≡ [] }
+        ensures held { self.new.held ≡ self.old.held }
+        ensures spare { self.new.spare ≡ self.old.spare }
+    {
+        self.line.outdate();
+    }
+
+    /// The key at the front: that whose turn it is, where the keys were ranked and none was marked since.
     pub fn next(&self) -> Option<&Key>
         ensures { option_copied result ≡ slice_get self.now.waiting 0 }
     {
         self.line.first()
     }
 
+    /// Whether the key at the front is one whose turn depends on no depth: no copy, and before them.
+    pub(crate) fn is_early(&self) -> bool
+        ensures some { IfSome (slice_get self.now.waiting 0) (λ k. result ≡ nat_lt (rank_of k) 3) }
+        ensures none { self.now.waiting ≡ [] → result ≡ false }
+    {
+        self.line.is_early()
+    }
+
     /// A worker holds a key, which nobody holds, from now on. It takes no memory.
     pub fn hold(&mut self, worker: u32, key: Key)
         requires room { 0 < self.old.spare }
         requires free { is_held self.old key ≡ false }
-        ensures holds { Holds worker key self.old self.new }
-        ensures next { (rest : List key_of) → self.old.waiting ≡ key ∷ rest → self.new.waiting ≡ rest }
+        ensures { Holds worker key self.old self.new }
     {
         self.line.take(&key);
         let slot = Slot {

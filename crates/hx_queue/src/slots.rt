@@ -1,9 +1,9 @@
 // The keys that are held.
-ghost use Rattle.std.specs.Prelude.{◌≡◌, ◌≤◌, ◌<◌, ◌+◌, ◌++◌, ◌∷◌, [], true, false, OnOk, option_map, option_copied, length, is_some, find};
+ghost use Rattle.std.specs.Prelude.{◌≡◌, ◌≤◌, ◌<◌, ◌+◌, ◌++◌, ◌∷◌, [], true, false, option_map, length, is_some, find};
 ghost use Rattle.std.specs.List.Sorted.{IsPermutation};
 ghost use Rattle.indexmap.specs.IndexMap.{spare};
-ghost use Rattle.hx_model.specs.Keys.{same_key, is_among};
-ghost use Rattle.hx_queue.specs.Kept.{again_in, held_without, keys_held};
+ghost use Rattle.hx_model.specs.Keys.{same_key};
+ghost use Rattle.hx_queue.specs.Kept.{again_in, held_without};
 ghost use Rattle.hx_queue.specs.Slots.{held_of};
 
 use hx_model::Key;

@@ -9,8 +9,8 @@ ghost use Rattle.hx_model.specs.declared.key.Key.TheVariants as key_by;
 ghost use Rattle.hx_queue.specs.Spreading.{AreLinedUp, scope_of};
 ghost use Rattle.hx_queue.specs.Spread.{HasPlace, is_place_of, is_spread, keys_in, most_spread, names_in, outdated, place_keys, root_of, waiting_in, with_id};
 
-use crate::copy_of::CopyOf;
 use crate::queue::Queue;
+use hx_line::CopyOf;
 use hx_model::Key;
 use hx_object::{Id, NoMemory, Text};
 use indexmap::IndexSet;
@@ -174,6 +174,7 @@ impl Spread {
     pub(crate) fn line_up(&mut self, queue: &mut Queue) -> Result<(), NoMemory>
         requires { (k : key_of) → is_held queue.old k ≡ true → is_spread self.old.ids k ≡ false }
         ensures waiting { waiting_in queue.new.waiting (keys_in self.new.scope self.new.ids) ≡ waiting_in queue.old.waiting (keys_in self.old.scope self.old.ids) }
+        ensures ranks { queue.new.ranks ≡ queue.old.ranks }
         ensures held { queue.new.held ≡ queue.old.held }
         ensures ids { OnOk result (self.new.ids ≡ drop 1 self.old.ids) }
         ensures kept { OnErr result (self.new.ids ≡ self.old.ids) }
@@ -246,6 +247,7 @@ fn key_in(ns: &Text, id: &Id) -> Result<Key, NoMemory>
 fn mark_in(queue: &mut Queue, scope: &Option<Scope>, id: &Id) -> Result<(), NoMemory>
     requires distinct { IsDistinct bytes_eq (names_in (scope_of scope.now)) }
     requires free { (k : key_of) → is_place_of id.now k ≡ true → is_held queue.old k ≡ false }
+    ensures ranks { queue.new.ranks ≡ queue.old.ranks }
     ensures held { queue.new.held ≡ queue.old.held }
     ensures some { AreLinedUp (place_keys (names_in (scope_of scope.now)) id.now) queue.old.waiting queue.new.waiting }
     ensures all { OnOk result (queue.new.waiting ≡ waiting_in queue.old.waiting (place_keys (names_in (scope_of scope.now)) id.now)) }
@@ -264,6 +266,7 @@ fn mark_places(queue: &mut Queue, names: &[Text], id: &Id) -> Result<(), NoMemor
     requires room { length names.now ≤ queue.old.spare }
     requires distinct { IsDistinct bytes_eq names.now }
     requires free { (k : key_of) → is_place_of id.now k ≡ true → is_held queue.old k ≡ false }
+    ensures ranks { queue.new.ranks ≡ queue.old.ranks }
     ensures held { queue.new.held ≡ queue.old.held }
     ensures some { AreLinedUp (place_keys names.now id.now) queue.old.waiting queue.new.waiting }
     ensures all { OnOk result (queue.new.waiting ≡ waiting_in queue.old.waiting (place_keys names.now id.now)) }

@@ -4,14 +4,16 @@ ghost use Rattle.std.specs.List.{AllPairs, IsDistinct, list_any};
 ghost use Rattle.std.specs.Str.{bytes_eq};
 ghost use Rattle.std.specs.Vec.{vec_capacity};
 ghost use Rattle.hx_model.specs.Hands.{Hand, hand_of, is_held, without_hand};
-ghost use Rattle.hx_model.specs.Keys.{is_among};
+ghost use Rattle.hx_line.specs.Line.{IsRanked, KeepsRanks};
+ghost use Rattle.hx_order.specs.Ranks.{IsFirst};
 ghost use Rattle.hx_reconcile.specs.Briefs.{hand_by};
 ghost use Rattle.hx_queue.specs.Spread.{is_place_of, is_spread, names_in, outdated, place_keys, root_of};
-ghost use Rattle.hx_queue.specs.Tied.{IsFree, LinesUp, MarksEach, hands_of};
+ghost use Rattle.hx_queue.specs.Tied.{Brings, IsFree, IsInFront, LinesUp, MarksEach, hands_of};
 ghost use Rattle.hx_queue.specs.Workers.{AreApart, IsMarkedBy, IsTakenBy, IsLetGo, MaySpread, no_work};
 
 use crate::queue::Queue;
 use crate::spread::Spread;
+use hx_forest::Forest;
 use hx_model::Key;
 use hx_object::{Id, NoMemory, Text};
 use hx_reconcile::SharedBrief;
@@ -21,7 +23,7 @@ use std::marker::Model;
 
 /// The queue of keys, and the brief that each worker holds.
 ///
-/// The keys of one object's kind and name in all of a subtree are marked as a whole, in constant time. They come in line when a key is taken and none stands in line, or when one of them is named.
+/// A key is given by its rank, that of a copy by the depth of its namespace, and then by the order of keys. The keys of one object's kind and name in all of a subtree are marked as a whole, in constant time. They come in line when a key is given and no removal, subnamespace or tree labels wait, or when one of them is named.
 pub struct Workers {
     queue: Queue,
     spread: Spread,
@@ -67,6 +69,7 @@ impl Workers {
         ensures seen { result.seen ≡ no_work }
         ensures scope { result.scope ≡ None }
         ensures spread { result.spread ≡ [] }
+        ensures ranks { result.ranks ≡ [] }
     {
         Workers {
             queue: Queue::new(alloc, keys),
@@ -91,14 +94,17 @@ impl Workers {
         self.queue.holder(key)
     }
 
-    /// A key that waits, once more: the one that has waited longest in line. Where none stands in line, the keys that were marked as a whole come in line first.
-    pub fn next(&mut self) -> Result<Option<Key>, NoMemory>
-        ensures first { IfOk result (λ o. o ≡ slice_get self.old.seen.waiting 0) }
+    /// The key whose turn it is in a tree, once more: of those that wait the first by rank, by the depth of a copy's namespace, and by the order of keys.
+    pub fn next(&mut self, forest: &Forest) -> Result<Option<Key>, NoMemory>
+        requires { IsRanked forest.now.nodes self.old.ranks }
+        ensures first { IfOk result (λ o. IfSome o (λ key. IsFirst forest.now.nodes self.old.seen.waiting key)) }
+        ensures none { IfOk result (λ o. IfNone o (self.old.seen.waiting ≡ [])) }
         ensures free { IfOk result (λ o. IfSome o (λ key. is_held key self.old.seen.hands ≡ false)) }
         ensures seen { self.new.seen ≡ self.old.seen }
         ensures scope { self.new.scope ≡ self.old.scope }
+        ensures ranks { IsRanked forest.now.nodes self.new.ranks }
     {
-        line_up_first(&mut self.queue, &mut self.spread)?;
+        bring_first(&mut self.queue, &mut self.spread, forest)?;
         self.queue.law_apart();
         first_of(&self.queue)
     }
@@ -107,6 +113,8 @@ impl Workers {
     pub fn waiting(&self) -> usize
         ensures { result ≡ length self.now.seen.waiting }
     {
+        self.queue.law_apart();
+        self.spread.law_distinct();
         self.spread.count(&self.queue)
     }
 
@@ -124,6 +132,7 @@ impl Workers {
         ensures scope { self.new.scope ≡ self.old.scope }
         ensures spread { self.new.spread ≡ self.old.spread }
         ensures places { self.new.places ≡ self.old.places }
+        ensures ranks { self.new.ranks ≡ self.old.ranks }
     {
         self.queue.reserve(more)?;
         Ok(self.hands.reserve(1)?)
@@ -134,6 +143,7 @@ impl Workers {
         ensures seen { self.new.seen ≡ self.old.seen }
         ensures scope { self.new.scope ≡ self.old.scope }
         ensures apart { OnOk result (is_spread self.new.spread key.now ≡ false) }
+        ensures ranks { self.new.ranks ≡ self.old.ranks }
     {
         line_up_with(&mut self.queue, &mut self.spread, key)
     }
@@ -148,6 +158,7 @@ impl Workers {
         ensures taken { IsTakenBy (hand_by worker brief) self.old.seen self.new.seen }
         ensures scope { self.new.scope ≡ self.old.scope }
         ensures spread { self.new.spread ≡ self.old.spread }
+        ensures ranks { KeepsRanks self.old.ranks self.new.ranks }
     {
         self.queue.hold(worker, key);
         self.hands.push(Handed { worker, brief }).unwrap();
@@ -161,6 +172,7 @@ impl Workers {
         ensures scope { self.new.scope ≡ self.old.scope }
         ensures spread { self.new.spread ≡ self.old.spread }
         ensures places { self.new.places ≡ self.old.places }
+        ensures ranks { self.new.ranks ≡ self.old.ranks }
     {
         mark_each(&mut self.queue, keys);
     }
@@ -172,6 +184,7 @@ impl Workers {
         ensures room { self.old.spare ≤ self.new.spare }
         ensures scope { self.new.scope ≡ self.old.scope }
         ensures spread { self.new.spread ≡ self.old.spread }
+        ensures ranks { self.new.ranks ≡ self.old.ranks }
     {
         match give_up(&mut self.hands, worker) {
             Some(brief) => {
@@ -206,6 +219,7 @@ impl Workers {
         ensures spread { self.new.spread ≡ [] }
         ensures spare { self.new.spare ≡ self.old.spare }
         ensures places { self.new.places ≡ self.old.places }
+        ensures ranks { self.new.ranks ≡ self.old.ranks }
     {
         self.spread.set(root, names);
     }
@@ -218,6 +232,7 @@ impl Workers {
         ensures spare { self.new.spare ≡ self.old.spare }
         ensures places { OnOk result (1 ≤ self.new.places) }
         ensures kept { self.old.places ≤ self.new.places }
+        ensures ranks { self.new.ranks ≡ self.old.ranks }
     {
         self.spread.reserve()
     }
@@ -237,18 +252,21 @@ impl Workers {
         ensures marked { IsMarkedBy (place_keys (names_in self.old.scope) id) self.old.seen self.new.seen }
         ensures scope { self.new.scope ≡ self.old.scope }
         ensures spare { self.new.spare ≡ self.old.spare }
+        ensures ranks { self.new.ranks ≡ self.old.ranks }
     {
         self.spread.add(id);
     }
 
-    /// The tree has changed: the reach isn't current any more. What was marked as a whole stays. It takes no memory.
+    /// The tree has changed: the reach isn't current any more, and keys may lie deeper or less deep. What was marked as a whole stays. It takes no memory.
     pub fn outdate(&mut self)
         ensures seen { self.new.seen ≡ self.old.seen }
         ensures scope { self.new.scope ≡ outdated self.old.scope }
         ensures spread { self.new.spread ≡ self.old.spread }
         ensures spare { self.new.spare ≡ self.old.spare }
         ensures places { self.new.places ≡ self.old.places }
+        ensures ranks { self.new.ranks ≡ [] }
     {
+        self.queue.outdate();
         self.spread.outdate();
     }
 
@@ -257,7 +275,6 @@ impl Workers {
         ensures { AreApart self.now.seen }
     {
         let _held = self.hands.len();
-        self.spread.law_distinct();
         self.queue.law_apart();
     }
 }
@@ -271,15 +288,31 @@ fn line_up_one(queue: &mut Queue, spread: &mut Spread) -> Result<(), NoMemory>
     spread.line_up(queue)
 }
 
-// Brings keys in line until one stands there or nothing is marked as a whole.
-fn line_up_first(queue: &mut Queue, spread: &mut Spread) -> Result<(), NoMemory>
+// Brings all keys in line that were marked as a whole.
+fn line_up_all(queue: &mut Queue, spread: &mut Spread) -> Result<(), NoMemory>
     requires { IsFree queue.old spread.old.ids }
     ensures lines_up { LinesUp queue.old queue.new spread.old spread.new }
-    ensures none { OnOk result (queue.new.waiting ≡ [] → spread.new.ids ≡ []) }
+    ensures none { OnOk result (spread.new.ids ≡ []) }
 {
-    while queue.waiting() == 0 && !spread.is_empty() {
+    while !spread.is_empty() {
         line_up_one(queue, spread)?;
     }
+    Ok(())
+}
+
+// Brings the key to the front whose turn it is in a tree. Where it doesn't come before all copies, those come in line at first that were marked as a whole.
+fn bring_first(queue: &mut Queue, spread: &mut Spread, forest: &Forest) -> Result<(), NoMemory>
+    requires free { IsFree queue.old spread.old.ids }
+    requires ranked { IsRanked forest.now.nodes queue.old.ranks }
+    ensures brings { Brings forest.now.nodes queue.old queue.new spread.old spread.new }
+    ensures front { OnOk result (IsInFront forest.now.nodes queue.new spread.new) }
+{
+    queue.rank(forest);
+    if queue.is_early() {
+        return Ok(());
+    }
+    line_up_all(queue, spread)?;
+    queue.rank(forest);
     Ok(())
 }
 
@@ -295,7 +328,7 @@ fn line_up_with(queue: &mut Queue, spread: &mut Spread, key: &Key) -> Result<(),
     Ok(())
 }
 
-// The key that has waited longest in line, once more.
+// The key at the front, once more.
 fn first_of(queue: &Queue) -> Result<Option<Key>, NoMemory>
     ensures { IfOk result (λ o. o ≡ slice_get queue.now.waiting 0) }
 {

@@ -5,7 +5,7 @@ use Rattle.hx_model.specs.Keys.{same_key}
 use Rattle.hx_model.specs.declared.key.Key.{Key}
 use Rattle.hx_model.specs.declared.key.Key.TheVariants as key
 use Rattle.hx_queue.specs.Kept.{Held, is_held}
-use Rattle.hx_queue.specs.Line.{with_key}
+use Rattle.hx_line.specs.Line.{with_key}
 use Rattle.hx_queue.specs.Spread.{is_place_of, waiting_in}
 use Rattle.hx_queue.proofs.Beside.{place_itself}
 use Rattle.hx_queue.proofs.Spreads.{held_by_none, one_more}
@@ -30,6 +30,7 @@ loop-name-preserved c =
     let marked = held_by_none c.in_ok-key.key c.loop-name.queue c.mark.new.self c.mark.ensures free in
     let rest = ap (λ (l : List (List ℕ)). length l) (drop_more c.args.names.now c.loop-name.name-index [] within) in
     record {
+      ranks = c.mark.ensures.ranks ∙ c.loop-name.invariant.ranks;
       held = marked.1 ∙ c.loop-name.invariant.held;
       lined = one_more c.args.id.now c.args.names.now c.loop-name.name-index c.name-item.result c.args.queue.now.waiting c.loop-name.queue.waiting c.mark.new.self.waiting
           c.requires.distinct within at c.loop-name.invariant.lined (subst (λ (q : Key). c.mark.new.self.waiting ≡ with_key q c.loop-name.queue.waiting) is marked.0);

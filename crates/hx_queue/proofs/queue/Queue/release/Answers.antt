@@ -1,5 +1,5 @@
 use Rattle.std.proofs.Common.{◌≡◌, ◌++◌, [], ◌∷◌, false, cond, ap, ◌∙◌}
-use Rattle.hx_queue.specs.Line.{with_key}
+use Rattle.hx_line.specs.Line.{with_key}
 use Rattle.indexmap.specs.IndexMap.{spare}
 use Rattle.hx_model.specs.Keys.{is_among}
 use Rattle.hx_queue.specs.Kept.{QueueView, is_held}
@@ -25,7 +25,7 @@ invariant_of-self-else-waits c = free_queue c.args.key.now c.self.inside.line c.
 pub returns-then-waits : goal.returns-then-waits
 returns-then-waits c =
     rw (← c.self.view_is) (released_back c.args.key.now c.args.again c.let_go-key.result.1 c.self.inside.line c.push.new.self c.self.inside.slots.entries c.let_go-key.new.slots.entries (spare c.self.inside.slots) (spare c.let_go-key.new.slots)
-    c.self.invariant c.let_go-key.ensures.again c.if-waits.true (behind c) c.push.ensures.room
+    c.self.invariant c.let_go-key.ensures.again c.if-waits.true (behind c) c.push.ensures.ranks c.push.ensures.room
     c.let_go-key.ensures.held c.let_go-key.ensures.len c.let_go-key.ensures.room)
 
 pub returns-else-waits : goal.returns-else-waits

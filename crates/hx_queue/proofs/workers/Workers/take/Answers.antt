@@ -22,7 +22,7 @@ invariant_of-self c =
     subst (λ hs. IsKept hs c.hold.new.self c.self.inside.spread) (sym new)
     (kept_by_take hand c.args.key hands c.self.inside.queue c.hold.new.self c.self.inside.spread c.requires.is c.self.invariant
     (ap (λ (w : WorkersKept). hand_of c.args.worker w.seen.hands) c.self.view_is ∙ c.requires.empty)
-    (ap (λ (w : WorkersKept). is_held c.args.key w.seen.hands) c.self.view_is ∙ c.requires.free) (ap (λ (w : WorkersKept). is_spread w.spread c.args.key) c.self.view_is ∙ c.requires.apart) c.hold.ensures.holds)
+    (ap (λ (w : WorkersKept). is_held c.args.key w.seen.hands) c.self.view_is ∙ c.requires.free) (ap (λ (w : WorkersKept). is_spread w.spread c.args.key) c.self.view_is ∙ c.requires.apart) c.hold.ensures)
 
 pub returns-clause-taken : goal.returns-clause-taken
 returns-clause-taken c =
@@ -31,4 +31,4 @@ returns-clause-taken c =
     let new : hands_of c.push.new.self.items ≡ hands ++ hand ∷ [] = ap hands_of (rw c.unwrap.ensures at c.push.ensures.items) ∙ map-append hand_in _ _ in
     let apart = ap (λ (w : WorkersKept). is_spread w.spread c.args.key) c.self.view_is ∙ c.requires.apart in
     rw (← c.self.view_is) (subst (λ hs. IsTakenBy hand (whole_of hands c.self.inside.queue c.self.inside.spread) (whole_of hs c.hold.new.self c.self.inside.spread)) (sym new)
-    (seen_by_taken hand c.args.key hands c.self.inside.queue c.hold.new.self c.self.inside.spread c.requires.is apart c.hold.ensures.holds))
+    (seen_by_taken hand c.args.key hands c.self.inside.queue c.hold.new.self c.self.inside.spread c.requires.is apart c.hold.ensures))
