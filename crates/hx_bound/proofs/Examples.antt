@@ -15,7 +15,7 @@ use Rattle.hx_model.specs.Tree.{forest_of, hierarchy_id}
 use Rattle.hx_model.specs.Windows.{opened}
 use Rattle.hx_model.specs.declared.key.Key.TheVariants as key
 use Rattle.hx_bound.specs.Bound.{key_count, left_of, most_left, names_asked, pairs_of, turn_bound}
-use Rattle.hx_bound.specs.Rank.{precedes}
+use Rattle.hx_order.specs.Ranks.{precedes}
 
 abbrev acme : List ℕ
 acme = codes "acme"

@@ -33,7 +33,8 @@ use Rattle.hx_marks.proofs.Replacing.{copied_leaf, sources_same, uncopied}
 use Rattle.hx_marks.proofs.Reporting.{conditions_same, same_report}
 use Rattle.hx_marks.proofs.UsageTree.{kept_alike, used_alike}
 use Rattle.hx_bound.specs.Bound.{LateWrites, next_of}
-use Rattle.hx_bound.specs.Rank.{IsCalm, is_early, precedes, rank_of}
+use Rattle.hx_order.specs.Ranks.{precedes, rank_of}
+use Rattle.hx_bound.specs.Rank.{IsCalm, is_early}
 use Rattle.hx_bound.proofs.Deepening.{deeper}
 use Rattle.hx_bound.proofs.LateSteps.{IsLateStep, kinds_differ, late_step, place_of}
 use Rattle.hx_bound.proofs.Ranking.{by_rank}

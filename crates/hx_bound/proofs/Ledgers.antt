@@ -14,7 +14,8 @@ use Rattle.hx_model.specs.Wanted.{wanted_write}
 use Rattle.hx_model.specs.declared.key.Key.{Key}
 use Rattle.hx_model.specs.declared.key.Write.{Write}
 use Rattle.hx_model.proofs.SameKeys.{same_key_is}
-use Rattle.hx_bound.specs.Rank.{precedes, KeepsOrder}
+use Rattle.hx_order.specs.Ranks.{precedes}
+use Rattle.hx_bound.specs.Rank.{KeepsOrder}
 use Rattle.hx_bound.specs.Turns.{IsNext, IsLedger, LedgersGrow, left_turns, TurnsSpend, StaysWithin}
 use Rattle.hx_bound.proofs.Ranking.{behind, itself}
 

@@ -8,4 +8,4 @@ mod LateSteps
 pub mod Ledgers
 pub mod Ranking
 mod Turning
-mod WithinBound
+pub mod WithinBound

@@ -6,7 +6,8 @@ use Rattle.std.proofs.Common.{◌≡◌, ◌≤◌, ◌<◌, ◌==◌, ◌⊎◌
 use Rattle.std.proofs.lemmas.Bool.{or_cases, or_parts, or_left, and_parts, ltb-true, ltb-false, eqb-true, eqb-false, cases_Bool, cases_lt}
 use Rattle.hx_model.specs.Forest.{Forest}
 use Rattle.hx_model.specs.declared.key.Key.{Key}
-use Rattle.hx_bound.specs.Rank.{rank_of, depth_in, precedes, KeysAreRanked}
+use Rattle.hx_order.specs.Ranks.{rank_of, depth_in, precedes}
+use Rattle.hx_bound.specs.Rank.{KeysAreRanked}
 
 module _ (f : Forest) where
   abbrev Follows : Key → Key → Type 0

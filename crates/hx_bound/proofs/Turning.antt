@@ -23,7 +23,7 @@ use Rattle.hx_model.proofs.Passing.{any_filter}
 use Rattle.hx_model.proofs.SameKeys.{same_key_is, same_key_itself}
 use Rattle.hx_model.proofs.Wanting.{wanted_is_key}
 use Rattle.hx_bound.specs.Bound.{Writes, once}
-use Rattle.hx_bound.specs.Rank.{precedes}
+use Rattle.hx_order.specs.Ranks.{precedes}
 use Rattle.hx_bound.specs.Settles.{IsReady, IsTurn, TurnsGoOn, turn_of}
 use Rattle.hx_bound.proofs.Counting.{all_have, all_keys, any_by, once_has}
 use Rattle.hx_bound.proofs.KeysStaying.{next_valid}

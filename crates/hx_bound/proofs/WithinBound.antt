@@ -21,7 +21,8 @@ use Rattle.hx_model.specs.declared.key.Write.{Write}
 use Rattle.hx_model.proofs.SameKeys.{key_laws}
 use Rattle.hx_model.proofs.Wanting.{wanted_is_key}
 use Rattle.hx_bound.specs.Bound.{key_count, left_of, next_of}
-use Rattle.hx_bound.specs.Rank.{IsCalm, is_early, precedes, rank_of}
+use Rattle.hx_order.specs.Ranks.{precedes, rank_of}
+use Rattle.hx_bound.specs.Rank.{IsCalm, is_early}
 use Rattle.hx_bound.specs.Settles.{AreTurns, IsReady, IsTurn, SettlesWithin, turn_of}
 use Rattle.hx_bound.specs.Turns.{IsLedger, IsNext, left_turns}
 use Rattle.hx_bound.proofs.Counting.{all_count, all_have, all_keys, among_append, keys_count}

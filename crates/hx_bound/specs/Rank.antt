@@ -1,38 +1,16 @@
 -- In which order keys are written.
---     rank_of           removals, subnamespaces, tree labels, copies, reports, statuses of anchors, usage
---     depth_in f k      how deep the namespace of a copy lies
---     precedes f a b    a key comes before another: by rank, and copies by the depth of their namespaces
 --     IsByLevel         a test tells of each two whether one is on a lower level than the other
 --     KeysAreRanked     so does this one of keys
 --     is_early k        a key of a removal or a subnamespace
 --     IsCalm s          none of these wants a write
 --     KeepsOrder s t k  from one state to the other the order stays, k wants nothing any more, and nothing begins to want a write that doesn't come behind k
-use Rattle.std.specs.Prelude.{◌≡◌, ◌≢◌, ◌⊎◌, ℕ, Bool, true, false, ◌&&◌, ◌||◌, ◌==◌, nat_lt, None}
-use Rattle.hx_model.specs.Forest.{Forest, depth_of}
+use Rattle.std.specs.Prelude.{◌≡◌, ◌≢◌, ◌⊎◌, Bool, true, false, nat_lt, None}
+use Rattle.hx_model.specs.Forest.{Forest}
 use Rattle.hx_model.specs.State.{State}
 use Rattle.hx_model.specs.Tree.{forest_of}
 use Rattle.hx_model.specs.Wanted.{wanted_write}
 use Rattle.hx_model.specs.declared.key.Key.{Key}
-use Rattle.hx_model.specs.declared.key.Key.TheVariants as key
-
--- removals, subnamespaces, tree labels, copies, reports, statuses of anchors, usage
-abbrev pub rank_of : Key → ℕ
-rank_of (key.Purge n) = 0
-rank_of (key.Child n m) = 1
-rank_of (key.Tree n) = 2
-rank_of (key.Copy n kind name) = 3
-rank_of (key.Report n) = 4
-rank_of (key.Anchor n m) = 5
-rank_of (key.Used n name) = 6
-
--- how deep the namespace of a copy lies; for other keys it doesn't count
-abbrev pub depth_in : Forest → Key → ℕ
-depth_in f (key.Copy n kind name) = depth_of f n
-depth_in f _ = 0
-
--- by rank, and copies by the depth of their namespaces
-abbrev pub precedes : Forest → Key → Key → Bool
-precedes f a b = nat_lt (rank_of a) (rank_of b) || ((rank_of a == rank_of b) && nat_lt (depth_in f a) (depth_in f b))
+use Rattle.hx_order.specs.Ranks.{rank_of, precedes}
 
 -- nothing comes before itself, what comes before another comes before all behind that one, and so does what doesn't come before
 pub record IsByLevel (before : Key → Key → Bool) : Type 0 where

@@ -15,7 +15,7 @@ use Rattle.hx_model.specs.Wanted.{wanted_write}
 use Rattle.hx_model.specs.declared.key.Key.{Key}
 use Rattle.hx_model.specs.declared.key.Write.{Write}
 use Rattle.hx_bound.specs.Bound.{Writes, turn_bound}
-use Rattle.hx_bound.specs.Rank.{precedes}
+use Rattle.hx_order.specs.Ranks.{precedes}
 
 -- each key that wants a write waits, and none waits twice
 pub record IsReady (s : State) (waiting : List Key) : Type 0 where

@@ -12,7 +12,8 @@ use Rattle.hx_model.specs.State.{State}
 use Rattle.hx_model.specs.Tree.{forest_of}
 use Rattle.hx_model.specs.Wanted.{wanted_write}
 use Rattle.hx_model.specs.declared.key.Key.{Key}
-use Rattle.hx_bound.specs.Rank.{precedes, KeepsOrder}
+use Rattle.hx_order.specs.Ranks.{precedes}
+use Rattle.hx_bound.specs.Rank.{KeepsOrder}
 
 -- a key wants a write, and none that wants one precedes it
 abbrev pub IsNext : State → Key → Type 0

@@ -2,7 +2,5 @@
 #![tactic(auto)]
 
 mod law;
-mod order;
 
 pub use law::{law_of_keys, law_of_order, law_of_settling, law_of_turns, law_of_writes};
-pub use order::rank;
