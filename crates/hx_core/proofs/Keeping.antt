@@ -1,6 +1,6 @@
 -- What a cluster keeps true where a worker takes a key or lets it go.
 --     again_free         a key that nobody holds isn't marked again
---     next_in, next_none     the key that has waited longest, and where there is none
+--     next_in            the first of the keys that wait
 --     short_by, given_job    a brief that is given
 --     sound_taken, sound_given, sound_let
 --     sound_ready              where nothing that is seen changes
@@ -8,11 +8,12 @@
 --     settled_now        where no key waits and none is held, the state is settled
 --     counts             how many keys wait and are held
 use Rattle.std.proofs.Common.{◌≡◌, ◌≢◌, ◌<◌, ◌^◌, ℕ, Bool, true, false, List, [], ◌∷◌, length, ◌||◌, Option, Some, None, IfSome, IfNone, is_some, refl, sym, ap, ◌∙◌, subst, true≢false, Ok, Err}
-use Rattle.std.specs.Prelude.{IfOk, slice_get}
+use Rattle.std.specs.Prelude.{IfOk}
 use Rattle.std.specs.declared.result.Result.{Result}
 use Rattle.std.specs.List.{AllByRecursion}
 use Rattle.hx_ports.specs.Views.{KeeperView}
 use Rattle.hx_model.specs.Covered.{IsCovered, IsUpToDate}
+use Rattle.hx_model.specs.Forest.{Forest}
 use Rattle.hx_model.specs.Hands.{Hand, hand_of, is_held, are_met}
 use Rattle.hx_model.specs.Keys.{same_key, is_among}
 use Rattle.hx_model.specs.Machine.{World, Checked, given_back, let_go, taken_by, wants}
@@ -22,6 +23,7 @@ use Rattle.hx_model.specs.Valid.{IsValid}
 use Rattle.hx_model.specs.Wanted.{wanted_write}
 use Rattle.hx_model.specs.declared.key.Key.{Key}
 use Rattle.hx_model.specs.declared.key.Write.{Write}
+use Rattle.hx_order.specs.Ranks.{IsFirst}
 use Rattle.hx_reconcile.specs.Briefs.{IsShort, IsStorable, StandsFor, hand_by, planned_by}
 use Rattle.hx_reconcile.specs.declared.brief.Brief.{Brief}
 use Rattle.hx_reconcile.specs.declared.brief.Facts.{Facts}
@@ -48,26 +50,11 @@ use Rattle.std.proofs.lemmas.Bool.{false_from_ne_true}
 pub again_free : (v : WorkersView) (k : Key) → AreApart v → is_held k v.hands ≡ false → is_among k v.again ≡ false
 again_free v k apart free = false_from_ne_true (is_among k v.again) (λ e. true≢false (sym (again_held v k apart e) ∙ free))
 
--- the first of some keys is among them
-first_among : (k : Key) (keys : List Key) → slice_get keys 0 ≡ Some k → is_among k keys ≡ true
-first_among k [] e = absurd (true≢false (sym (ap is_some e)))
-first_among k (x ∷ keys) e = ap (λ b. b || is_among k keys) (let same : x ≡ k = cc in ap (same_key k) same ∙ same_key_itself k)
-
--- the key that has waited longest, and that nobody holds
-pub next_in : {E : Type 0} (v : WorkersView) (r : Result (Option Key) E) → AreApart v → IfOk r (λ o. o ≡ slice_get v.waiting 0) → IfOk r (λ o. IfSome o (λ k. is_held k v.hands ≡ false)) → IfOk r (λ o. IfSome o (IsNext v))
-next_in v (Err e) apart first free = tt
-next_in v (Ok None) apart first free = tt
-next_in v (Ok (Some k)) apart first free = record { first = sym first; waits = first_among k v.waiting (sym first); free = free; again = again_free v k apart free }
-
--- where there is none no key waits
-pub next_none : {E : Type 0} (v : WorkersView) (r : Result (Option Key) E) → IfOk r (λ o. o ≡ slice_get v.waiting 0) → IfOk r (λ o. IfNone o (v.waiting ≡ []))
-next_none v (Err e) first = tt
-next_none v (Ok (Some k)) first = tt
-next_none v (Ok None) first = empty v.waiting (sym first)
-  where
-    empty : (keys : List Key) → slice_get keys 0 ≡ None → keys ≡ []
-    empty [] e = refl
-    empty (x ∷ keys) e = absurd (true≢false (ap is_some e))
+-- the first of the keys that wait, in a tree, which nobody holds
+pub next_in : {E : Type 0} (f g : Forest) (v : WorkersView) (r : Result (Option Key) E) → AreApart v → f ≡ g → IfOk r (λ o. IfSome o (λ k. IsFirst f v.waiting k)) → IfOk r (λ o. IfSome o (λ k. is_held k v.hands ≡ false)) → IfOk r (λ o. IfSome o (IsNext g v))
+next_in f g v (Err e) apart same first free = tt
+next_in f g v (Ok None) apart same first free = tt
+next_in f g v (Ok (Some k)) apart same first free = record { first = subst (λ (t : Forest). IsFirst t v.waiting k) same first; waits = first.there; free = free; again = again_free v k apart free }
 
 -- ---- a key is taken
 

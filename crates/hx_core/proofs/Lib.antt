@@ -21,6 +21,7 @@ pub mod Turning
 pub mod Keeping
 pub mod Attempting
 pub mod Finishing
+pub mod Bounding
 pub mod Simulating
 pub mod Settled
 pub mod Listed

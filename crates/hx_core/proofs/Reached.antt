@@ -1,12 +1,14 @@
 -- Keys that are marked one by one, and those of an object as a whole.
 --     marked_none, marked_both, marked_same    marks of no key, of two lists one behind the other, and of a list that has the same
 --     may_still          an object's keys may be marked as a whole while hands, reach and room stay
---     scope_same         the reach stays right while the state does
+--     scope_same, ranks_same, ranks_kept   the reach stays right while the state does, and so does how deep keys lie
+--     none_ranked, ranked_tree   nothing is kept of how deep keys lie;  the tree stays
 --     ready_each, ready_whole    keys are ready: one by one, and as a whole
 --     marked_ready       what is marked then
---     scope_after        the reach is right after a commit
+--     scope_after, ranks_after   the reach is right after a commit, and so is how deep keys lie
 use Rattle.std.proofs.Common.{◌≡◌, ◌≤◌, ◌||◌, ◌&&◌, not, ℕ, Bool, true, false, List, [], ◌++◌, length, Option, Some, None, refl, sym, ap, ◌∙◌, subst, Ok, Err, true≢false}
 use Rattle.std.specs.Prelude.{OnOk, IsErrOf, IsSomeAnd, option_map, if◌then◌else◌}
+use Rattle.std.specs.List.{list_all}
 use Rattle.std.specs.declared.result.Result.{Result}
 use Rattle.hx_object.specs.declared.object.Id.{Id}
 use Rattle.hx_ports.specs.Views.{KeeperView}
@@ -17,6 +19,7 @@ use Rattle.hx_model.specs.State.{State, state_after}
 use Rattle.hx_model.specs.Tree.{forest_of}
 use Rattle.hx_model.specs.declared.key.Key.{Key}
 use Rattle.hx_model.specs.declared.key.Write.{Write}
+use Rattle.hx_line.specs.Line.{IsRanked, KeepsRanks, is_at}
 use Rattle.hx_marks.proofs.Among.{among_append}
 use Rattle.hx_marks.specs.Law.{all_marks, open_below}
 use Rattle.hx_queue.specs.Spread.{Scope, names_in, place_keys, root_of}
@@ -83,6 +86,21 @@ scope_is f (Some r) n right at = right at.1 ∙ ap (open_below f) at.0
 pub scope_same : (s s' : State) (p p' : Option Scope) → s' ≡ s → p' ≡ p → IsScopeOf (forest_of s) p → IsScopeOf (forest_of s') p'
 scope_same s s' p p' state place right = subst (λ (r : Option Scope). IsScopeOf (forest_of s') r) (sym place) (subst (λ (t : State). IsScopeOf (forest_of t) p) (sym state) right)
 
+pub ranks_same : (s s' : State) (ranks ranks' : List (Key × ℕ)) → s' ≡ s → ranks' ≡ ranks → IsRanked (forest_of s) ranks → IsRanked (forest_of s') ranks'
+ranks_same s s' ranks ranks' state same right = subst (λ (rs : List (Key × ℕ)). IsRanked (forest_of s') rs) (sym same) (subst (λ (t : State). IsRanked (forest_of t) ranks) (sym state) right)
+
+-- and where what holds of all that is kept still does
+pub ranks_kept : (s s' : State) (ranks ranks' : List (Key × ℕ)) → s' ≡ s → KeepsRanks ranks ranks' → IsRanked (forest_of s) ranks → IsRanked (forest_of s') ranks'
+ranks_kept s s' ranks ranks' state keeps right = subst (λ (t : State). IsRanked (forest_of t) ranks') (sym state) (keeps (is_at (forest_of s)) right)
+
+-- where nothing is kept of it, it is right of any tree
+pub none_ranked : (f : Forest) (ranks : List (Key × ℕ)) → ranks ≡ [] → IsRanked f ranks
+none_ranked f ranks none = ap (list_all (is_at f)) none
+
+-- it stays right of trees that are the same
+pub ranked_tree : (f g : Forest) (ranks : List (Key × ℕ)) → g ≡ f → IsRanked f ranks → IsRanked g ranks
+ranked_tree f g ranks same right = subst (λ (t : Forest). IsRanked t ranks) (sym same) right
+
 -- a reach that is outdated is right of any tree
 pub outdated_right : (f : Forest) (p p' : Option Scope) → p' ≡ option_map (λ (r : Scope). record r { current = false }) p → IsScopeOf f p'
 outdated_right f p p' is = subst (λ (r : Option Scope). IsScopeOf f r) (sym is) (by p)
@@ -113,16 +131,17 @@ at_root n (Some r) at = at.0
 
 -- ---- what is ready
 
-pub ready_each : (s : State) (ws : List Write) (own : Option Key) (keys : List Key) (w : WorkersKept) → keys ≡ marks_but own (all_marks s ws) → length keys ≤ w.spare → IsScopeOf (forest_of (state_after s ws)) w.scope → IsReady s ws own keys None w
-ready_each s ws own keys w is room right = record { named = λ k. or_none (is_among k keys) ∙ ap (is_among k) is; room = room; may = tt; scope = right }
+pub ready_each : (s : State) (ws : List Write) (own : Option Key) (keys : List Key) (w : WorkersKept) → keys ≡ marks_but own (all_marks s ws) → length keys ≤ w.spare → IsScopeOf (forest_of (state_after s ws)) w.scope → IsRanked (forest_of (state_after s ws)) w.ranks → IsReady s ws own keys None w
+ready_each s ws own keys w is room right ranked = record { named = λ k. or_none (is_among k keys) ∙ ap (is_among k) is; room = room; may = tt; scope = right; ranks = ranked }
 
 pub ready_whole : (s : State) (ws : List Write) (others : List Key) (id : Id) (w : WorkersKept) → ((k : Key) → is_among k (all_marks s ws) ≡ (is_among k others || is_among k (place_keys (open_below (forest_of s) id.ns) id)))
-    → forest_of (state_after s ws) ≡ forest_of s → IsScopeOf (forest_of s) w.scope → length others ≤ w.spare → IsSpreadable id w → IsReady s ws None others (Some id) w
-ready_whole s ws others id w named tree right room may = record {
+    → forest_of (state_after s ws) ≡ forest_of s → IsScopeOf (forest_of s) w.scope → IsRanked (forest_of s) w.ranks → length others ≤ w.spare → IsSpreadable id w → IsReady s ws None others (Some id) w
+ready_whole s ws others id w named tree right ranked room may = record {
   named = λ k. ap (λ (names : List (List ℕ)). is_among k others || is_among k (place_keys names id)) (scope_is (forest_of s) w.scope id.ns right may.at) ∙ sym (named k);
   room = room;
   may = may;
   scope = subst (λ (f : Forest). IsScopeOf f w.scope) (sym tree) right;
+  ranks = ranked_tree (forest_of s) (forest_of (state_after s ws)) w.ranks tree ranked;
 }
 
 -- keys that were ready are marked
@@ -140,3 +159,9 @@ pub scope_after : {T : Type 0} (s t : State) (ws : List Write) (k k' : KeeperVie
 scope_after s t ws k k' p p' (Ok l) before after place landed memory fault = scope_same (state_after s ws) t p p' landed.state place after
 scope_after s t ws k k' p p' (Err NoMemory) before after place landed memory fault = scope_same s t p p' (memory refl) place before
 scope_after s t ws k k' p p' (Err KeeperFault) before after place landed memory fault = scope_same s t p p' (fault refl).state place before
+
+pub ranks_after : {T : Type 0} (s t : State) (ws : List Write) (k k' : KeeperView) (ranks ranks' : List (Key × ℕ)) (result : Result T CommitFault) → IsRanked (forest_of s) ranks → IsRanked (forest_of (state_after s ws)) ranks → ranks' ≡ ranks
+    → OnOk result (HasLanded s k ws t k') → (IsErrOf result NoMemory → t ≡ s) → (IsErrOf result KeeperFault → HasFailed s k ws t k') → IsRanked (forest_of t) ranks'
+ranks_after s t ws k k' ranks ranks' (Ok l) before after same landed memory fault = ranks_same (state_after s ws) t ranks ranks' landed.state same after
+ranks_after s t ws k k' ranks ranks' (Err NoMemory) before after same landed memory fault = ranks_same s t ranks ranks' (memory refl) same before
+ranks_after s t ws k k' ranks ranks' (Err KeeperFault) before after same landed memory fault = ranks_same s t ranks ranks' (fault refl).state same before

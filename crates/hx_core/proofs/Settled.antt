@@ -14,10 +14,13 @@ use Rattle.std.proofs.lemmas.List.{append-nil, append_assoc, length-append}
 use Rattle.std.proofs.lemmas.Grind.{flat_map-append}
 use Rattle.hx_model.specs.Hands.{hand_of}
 use Rattle.hx_model.specs.Machine.{Took, Finished, LostTake, Checked}
+use Rattle.hx_model.specs.Tree.{forest_of}
 use Rattle.hx_model.specs.declared.key.Finish.{Finish}
 use Rattle.hx_model.specs.declared.key.Finish.TheVariants as ending
 use Rattle.hx_model.specs.declared.key.Key.{Key}
+use Rattle.hx_order.specs.Ranks.{IsFirst}
 use Rattle.hx_reconcile.specs.declared.brief.Brief.{Brief}
+use Rattle.hx_core.specs.Bounding.{IsCounted}
 use Rattle.hx_core.specs.Queued.{HasTurned, HaveTurned, IsEnding}
 use Rattle.hx_core.specs.Refinement.{ClusterView, HasWorld, Simulates}
 use Rattle.hx_core.specs.Settling.{IsTurn, IsWhole, IsTraced, EndsWithin, IsEnded, IsRun, IsRest, rest_of}
@@ -28,6 +31,7 @@ use Rattle.hx_core.specs.declared.turns.Settle.{Settle}
 use Rattle.hx_core.specs.declared.turns.Settle.TheVariants as settled
 use Rattle.hx_core.specs.declared.turns.Turn.TheVariants as turn
 use Rattle.hx_core.specs.declared.turns.Turned.{Turned}
+use Rattle.hx_core.proofs.Bounding.{counted_more, counted_start, loss_leaves, over_leaves}
 use Rattle.hx_core.proofs.Simulating.{Simulates-none, Simulates-then}
 use Rattle.hx_core.proofs.Turning.{takes_job}
 
@@ -65,7 +69,7 @@ have_turned (x ∷ xs) ys a b c (mid, one, first) rest = (mid, one, have_turned 
 -- ---- runs
 
 pub run_start : (c : ClusterView) (trace : List Turned) → HasWorld c → hand_of 0 c.workers.hands ≡ None → IsRun c trace c trace 0
-run_start c trace stood none = record { made = []; trace = sym (append-nil trace); simulates = Simulates-none c stood; leaves = refl; whole = tt; counts = refl; empty = none }
+run_start c trace stood none = record { made = []; trace = sym (append-nil trace); simulates = Simulates-none c stood; leaves = refl; whole = tt; counts = refl; empty = none; counted = counted_start c }
 
 pub run_turn : (old mid new : ClusterView) (before during after : List Turned) (count : ℕ) → IsRun old before mid during count → IsTraced mid during new after → hand_of 0 new.workers.hands ≡ None → IsRun old before new after (count + 1)
 run_turn old mid new before during after count run traced none = record {
@@ -76,6 +80,7 @@ run_turn old mid new before during after count run traced none = record {
   whole = whole_more run.made traced.turned run.whole traced.whole;
   counts = let long : length (run.made ++ traced.turned ∷ []) ≡ length run.made + 1 = longer run.made (traced.turned ∷ []) in omega (arith, long, run.counts);
   empty = none;
+  counted = counted_more old mid new count traced.turned run.counted traced.counts traced.whole;
 }
 
 -- a turn that ended nothing
@@ -179,43 +184,44 @@ over_by v settled.NoMemory none never = tt
 
 pub turn_rests : (c new : ClusterView) (end : Settle) → new ≡ c → c.workers.waiting ≡ [] → hand_of 0 c.workers.hands ≡ None → IsRest c end → IsTurn c (turn.Over end) new
 turn_rests c new end same none empty rest =
-    subst (λ (v : ClusterView). IsTurn c (turn.Over end) v) (sym same) (record { simulates = rest.simulates; leaves = refl; over = over_by c.workers end none rest.left; empty = empty })
+    subst (λ (v : ClusterView). IsTurn c (turn.Over end) v) (sym same) (record { simulates = rest.simulates; leaves = refl; over = over_by c.workers end none rest.left; empty = empty; counts = tt })
 
 -- memory is wanting
 pub turn_lacks : (c new : ClusterView) → new ≡ c → hand_of 0 c.workers.hands ≡ None → Simulates c (LostTake 0 ∷ []) new → IsTurn c (turn.Over settled.NoMemory) new
-turn_lacks c new same empty lost = record { simulates = lost; leaves = same; over = tt; empty = ap (λ (v : ClusterView). hand_of 0 v.workers.hands) same ∙ empty }
+turn_lacks c new same empty lost = record { simulates = lost; leaves = same; over = tt; empty = ap (λ (v : ClusterView). hand_of 0 v.workers.hands) same ∙ empty; counts = tt }
 
--- the key that has waited longest was taken, and its turn ended
-pub turn_made : (old mid new : ClusterView) (k taken : Key) (brief : Brief) (end : Finish) → HasWorld old → hand_of 0 old.workers.hands ≡ None → IsNext old.workers k → taken ≡ k → IsJob 0 k old brief mid
-    → Simulates mid (Finished 0 end ∷ []) new → IsEnding 0 mid end new → hand_of 0 new.workers.hands ≡ None → IsTurn old (turn.Made (record { key = taken; end = end })) new
-turn_made old mid new k taken brief end stood none next same job ends leaves empty =
+-- the first of the keys that wait was taken, and its turn ended
+pub turn_made : (old mid new : ClusterView) (k taken : Key) (brief : Brief) (end : Finish) → HasWorld old → hand_of 0 old.workers.hands ≡ None → IsNext (forest_of old.state) old.workers k → taken ≡ k → IsJob 0 k old brief mid
+    → Simulates mid (Finished 0 end ∷ []) new → IsEnding 0 mid end new → hand_of 0 new.workers.hands ≡ None → IsCounted old (turn.Made (record { key = taken; end = end })) new → IsTurn old (turn.Made (record { key = taken; end = end })) new
+turn_made old mid new k taken brief end stood none next same job ends leaves empty counts =
     let took : Simulates old (Took 0 k false ∷ []) mid = takes_job old mid 0 k brief false stood none next.free (λ _. next.waits) next.again job in
     record {
       simulates = Simulates-then old mid new (Took 0 taken false ∷ []) (Finished 0 end ∷ []) (subst (λ j. Simulates old (Took 0 j false ∷ []) mid) (sym same) took) ends;
-      leaves = record { between = mid; brief = brief; taken = record { same = job.same; taken = job.taken }; key = job.key ∙ sym same; first = next.first ∙ ap Some (sym same); ended = leaves };
+      leaves = record { between = mid; brief = brief; taken = record { same = job.same; taken = job.taken }; key = job.key ∙ sym same; first = subst (λ (j : Key). IsFirst (forest_of old.state) old.workers.waiting j) (sym same) next.first; ended = leaves };
       over = tt;
       empty = empty;
+      counts = counts;
     }
 
 -- ---- traces
 
 -- memory is wanting for the trace
 pub trace_lacks : (c : ClusterView) (before after : List Turned) → Simulates c (LostTake 0 ∷ []) c → after ≡ before → IsEnded c before c after settled.NoMemory
-trace_lacks c before after lost same = record { made = []; trace = same ∙ sym (append-nil before); simulates = lost; leaves = refl; ends = tt; few = omega arith }
+trace_lacks c before after lost same = record { made = []; trace = same ∙ sym (append-nil before); simulates = lost; leaves = refl; ends = tt; few = omega arith; all = λ none never. never }
 
 -- no turn is made
 pub trace_over : (old new : ClusterView) (before after : List Turned) (end : Settle) → Simulates old (end_entries end) new → new ≡ old → IsOver new.workers end → after ≡ before → IsEnded old before new after end
-trace_over old new before after end simulates leaves over same = record { made = []; trace = same ∙ sym (append-nil before); simulates = simulates; leaves = leaves; ends = over; few = omega arith }
+trace_over old new before after end simulates leaves over same = record { made = []; trace = same ∙ sym (append-nil before); simulates = simulates; leaves = leaves; ends = over; few = omega arith; all = λ none. over_leaves new.workers end over (ap (λ (v : ClusterView). v.workers.hands) leaves ∙ none) }
 
-module _ (old new : ClusterView) (before after : List Turned) (turned : Turned) (simulates : Simulates old (turn_entries turned) new) (leaves : HasTurned turned old new) (trace : after ≡ before ++ turned ∷ []) where
+module _ (old new : ClusterView) (before after : List Turned) (turned : Turned) (simulates : Simulates old (turn_entries turned) new) (leaves : HasTurned turned old new) (trace : after ≡ before ++ turned ∷ []) (counts : IsCounted old (turn.Made turned) new) where
   -- one is that wasn't lost
   pub trace_none : (o : Option Settle) → o ≡ loss_in turned.end → IfNone o (IsTraced old before new after)
-  trace_none None is = record { turned = turned; trace = trace; simulates = simulates; leaves = leaves; whole = sym is }
+  trace_none None is = record { turned = turned; trace = trace; simulates = simulates; leaves = leaves; whole = sym is; counts = counts }
   trace_none (Some end) is = tt
 
   -- one is that was lost
   ended : (end : Settle) → loss_in turned.end ≡ Some end → Simulates old (turn_entries turned ++ end_entries end) new → IsEnded old before new after end
-  ended end is both = record { made = turned ∷ []; trace = trace; simulates = both; leaves = (new, leaves, refl); ends = subst (λ loss. EndsWithin loss new.workers end) (sym is) refl; few = omega arith }
+  ended end is both = record { made = turned ∷ []; trace = trace; simulates = both; leaves = (new, leaves, refl); ends = subst (λ loss. EndsWithin loss new.workers end) (sym is) refl; few = omega arith; all = λ _. loss_leaves turned.end end is }
 
   by_loss : (end : Finish) (loss : Settle) → loss_in end ≡ Some loss → Simulates new (LostTake 0 ∷ []) new → Simulates old (turn_entries turned ++ end_entries loss) new
   by_loss ending.Empty loss is lost = absurd (let h : None ≡ Some loss = is in cc)

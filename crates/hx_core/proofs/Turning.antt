@@ -13,18 +13,21 @@
 --     drops                 a worker drops what it holds
 --     stands_back, stands_gone   the worlds where a hand is let go
 use Rattle.std.proofs.Common.{◌≡◌, ℕ, Bool, true, false, not, ◌&&◌, List, [], ◌∷◌, ◌++◌, Option, Some, None, IfSome, IfNone, refl, sym, ap, ◌∙◌, subst, inl, inr, true≢false}
-use Rattle.std.specs.Prelude.{IsSomeAnd, option_map, is_some, slice_get}
+use Rattle.std.specs.Prelude.{IsSomeAnd, option_map, is_some}
 use Rattle.std.proofs.lemmas.Bool.{or_cases, or_left, or_right, and_parts}
 use Rattle.hx_ports.specs.Views.{KeeperView}
 use Rattle.hx_model.specs.Covered.{IsCovered}
+use Rattle.hx_model.specs.Forest.{Forest}
 use Rattle.hx_model.specs.Hands.{Hand, hand_at, hand_of, is_held, without_hand}
 use Rattle.hx_model.specs.Keys.{same_key, is_among}
 use Rattle.hx_model.specs.Machine.{World, Took, Idle, Already, HeldBy, LostTake, Dropped, taken_by, let_go, given_back}
 use Rattle.hx_model.specs.State.{State}
+use Rattle.hx_model.specs.Tree.{forest_of}
 use Rattle.hx_model.specs.Wanted.{wanted_write}
 use Rattle.hx_model.specs.declared.key.Key.{Key}
 use Rattle.hx_model.specs.declared.key.Key.TheVariants as key
 use Rattle.hx_model.specs.declared.key.Write.{Write}
+use Rattle.hx_order.specs.Ranks.{IsFirst}
 use Rattle.hx_reconcile.specs.Briefs.{StandsFor, facts_of, hand_by, planned}
 use Rattle.hx_reconcile.specs.declared.brief.Brief.{Brief}
 use Rattle.hx_reconcile.specs.declared.brief.Facts.{Facts}
@@ -33,7 +36,7 @@ use Rattle.hx_core.specs.Refinement.{ClusterView, Represents, HasWorld, Simulate
 use Rattle.hx_core.specs.Turns.{IsInHand, IsOfKey, take_entry, take_key_entry}
 use Rattle.hx_queue.specs.Workers.{WorkersView, AreApart, IsLetGo}
 use Rattle.hx_core.specs.Inside.{view_of}
-use Rattle.hx_core.specs.Queued.{IsFirst, IsLet, IsReleased, IsSameKeeping, IsTaking}
+use Rattle.hx_core.specs.Queued.{GivesFirst, IsLet, IsReleased, IsSameKeeping, IsTaking}
 use Rattle.hx_core.specs.Working.{IsGiven, IsGivenBy, IsJob, IsKept, IsNext, IsTake, IsTakeOf}
 use Rattle.hx_core.specs.declared.turns.Take.{Take}
 use Rattle.hx_core.specs.declared.turns.Take.TheVariants as take
@@ -216,12 +219,12 @@ kept_leaves c worker brief (take.Already other) same = refl
 kept_leaves c worker brief (take.Other holder) never = refl
 kept_leaves c worker brief take.NoMemory same = refl
 
-kept_first : (keys : List Key) (brief : Brief) (answer : Take) → IsKept brief answer → IsFirst keys answer
-kept_first keys brief (take.Job other) never = absurd never
-kept_first keys brief take.Idle never = tt
-kept_first keys brief (take.Already other) same = tt
-kept_first keys brief (take.Other holder) never = tt
-kept_first keys brief take.NoMemory same = tt
+kept_first : (f : Forest) (keys : List Key) (brief : Brief) (answer : Take) → IsKept brief answer → GivesFirst f keys answer
+kept_first f keys brief (take.Job other) never = absurd never
+kept_first f keys brief take.Idle never = tt
+kept_first f keys brief (take.Already other) same = tt
+kept_first f keys brief (take.Other holder) never = tt
+kept_first f keys brief take.NoMemory same = tt
 
 given_leaves : (old new : ClusterView) (worker : ℕ) (k : Key) (answer : Take) → IsGiven worker k old answer new → IsTaking worker old answer new
 given_leaves old new worker k (take.Job brief) job = record { same = job.same; taken = job.taken }
@@ -230,8 +233,8 @@ given_leaves old new worker k (take.Already brief) never = absurd never
 given_leaves old new worker k (take.Other holder) never = absurd never
 given_leaves old new worker k take.NoMemory same = same
 
-given_first : (old new : ClusterView) (worker : ℕ) (k : Key) (answer : Take) → slice_get old.workers.waiting 0 ≡ Some k → IsGiven worker k old answer new → IsFirst old.workers.waiting answer
-given_first old new worker k (take.Job brief) first job = first ∙ ap Some (sym job.key)
+given_first : (old new : ClusterView) (worker : ℕ) (k : Key) (answer : Take) → IsFirst (forest_of old.state) old.workers.waiting k → IsGiven worker k old answer new → GivesFirst (forest_of old.state) old.workers.waiting answer
+given_first old new worker k (take.Job brief) first job = subst (λ (j : Key). IsFirst (forest_of old.state) old.workers.waiting j) (sym job.key) first
 given_first old new worker k take.Idle first never = tt
 given_first old new worker k (take.Already brief) first never = tt
 given_first old new worker k (take.Other holder) first never = tt
@@ -245,7 +248,7 @@ take_kept c worker brief answer stood at kept = record {
   idle = λ is. kept_not_idle brief answer kept is;
   unnamed = λ holder is. subst (IsKept brief) is kept;
   leaves = kept_leaves c worker brief answer kept;
-  first = kept_first c.workers.waiting brief answer kept;
+  first = kept_first (forest_of c.state) c.workers.waiting brief answer kept;
 }
 
 pub take_idle : (c : ClusterView) (worker : ℕ) → HasWorld c → IsCovered c.state c.workers.hands c.workers.waiting c.workers.again → AreApart c.workers → c.workers.waiting ≡ [] → hand_of worker c.workers.hands ≡ None → IsTake worker c take.Idle c
@@ -254,7 +257,7 @@ take_idle c worker stood covered apart none empty = record { simulates = idles c
 pub take_lost : (c : ClusterView) (worker : ℕ) → HasWorld c → IsTake worker c take.NoMemory c
 take_lost c worker stood = record { simulates = loses c c worker stood refl; hand = tt; idle = λ is. absurd (let h : take.NoMemory ≡ take.Idle = is in cc); unnamed = λ holder is. let h : take.NoMemory ≡ take.Other holder = is in cc; leaves = refl; first = tt }
 
-pub take_given : (old new : ClusterView) (worker : ℕ) (k : Key) (answer : Take) → HasWorld old → hand_of worker old.workers.hands ≡ None → IsNext old.workers k → IsGiven worker k old answer new → IsTake worker old answer new
+pub take_given : (old new : ClusterView) (worker : ℕ) (k : Key) (answer : Take) → HasWorld old → hand_of worker old.workers.hands ≡ None → IsNext (forest_of old.state) old.workers k → IsGiven worker k old answer new → IsTake worker old answer new
 take_given old new worker k answer stood none next given = record {
   simulates = gives old new worker k answer stood none next.free next.waits next.again given;
   hand = in_hand old new worker k answer none given;

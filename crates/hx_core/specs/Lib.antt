@@ -8,5 +8,6 @@ pub mod Reaching
 pub mod Inside
 pub mod Queued
 pub mod Working
+pub mod Bounding
 pub mod Settling
 pub mod Listing

@@ -4,18 +4,21 @@
 --     IsLet, IsReleased              a worker lets go what it holds
 --     HasTaken worker old brief new  a worker took a key
 --     IsTaking worker old take new   what a take leaves, by its answer
---     IsFirst keys take              the key that it gives has waited longest
+--     GivesFirst f keys take         the key that it gives is the first one in a tree
 --     HasWritten, IsEnding           what the end of a turn leaves: with a write, and by how it ended
 --     HasTurned, IsTurning           a turn of a settle was made, or none
 --     HaveTurned                     turns were made, one after the other
-use Rattle.std.specs.Prelude.{◌≡◌, ℕ, Bool, true, false, List, [], ◌∷◌, Option, Some, None, slice_get}
+use Rattle.std.specs.Prelude.{◌≡◌, ℕ, Bool, true, false, List, [], ◌∷◌, Option, Some, None}
+use Rattle.hx_model.specs.Forest.{Forest}
 use Rattle.hx_model.specs.Hands.{Hand, hand_of}
 use Rattle.hx_model.specs.Machine.{Entry, Request, writes_by, writes_made}
 use Rattle.hx_model.specs.State.{State}
+use Rattle.hx_model.specs.Tree.{forest_of}
 use Rattle.hx_model.specs.declared.key.Finish.{Finish}
 use Rattle.hx_model.specs.declared.key.Finish.TheVariants as ending
 use Rattle.hx_model.specs.declared.key.Key.{Key}
 use Rattle.hx_model.specs.declared.key.Write.{Write}
+use Rattle.hx_order.specs.Ranks.{IsFirst}
 use Rattle.hx_reconcile.specs.Briefs.{hand_by}
 use Rattle.hx_reconcile.specs.declared.brief.Brief.{Brief}
 use Rattle.hx_core.specs.Committing.{HasMarked}
@@ -49,10 +52,10 @@ abbrev pub IsTaking : ℕ → ClusterView → Take → ClusterView → Type 0
 IsTaking worker old (take.Job brief) new = HasTaken worker old brief new
 IsTaking worker old answer new = new ≡ old
 
--- the key that is given has waited longest
-abbrev pub IsFirst : List Key → Take → Type 0
-IsFirst keys (take.Job brief) = slice_get keys 0 ≡ Some brief.key
-IsFirst keys answer = Unit {0}
+-- the key that is given is the first of some keys in a tree
+abbrev pub GivesFirst : Forest → List Key → Take → Type 0
+GivesFirst f keys (take.Job brief) = IsFirst f keys brief.key
+GivesFirst f keys answer = Unit {0}
 
 -- ---- ends
 
@@ -83,13 +86,13 @@ IsEnding worker old ending.NoMemory new = IsReleased worker true old new
 
 -- ---- turns of a settle
 
--- worker 0 took the key that has waited longest, and its turn ended
+-- worker 0 took the first of the keys that wait, and its turn ended
 pub record HasTurned (turned : Turned) (old new : ClusterView) : Type 0 where
   pub between : ClusterView
   pub brief : Brief
   pub taken : HasTaken 0 old brief between
   pub key : brief.key ≡ turned.key
-  pub first : slice_get old.workers.waiting 0 ≡ Some turned.key
+  pub first : IsFirst (forest_of old.state) old.workers.waiting turned.key
   pub ended : IsEnding 0 between turned.end new
 
 -- where none was made nothing changes

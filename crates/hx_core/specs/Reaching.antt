@@ -12,6 +12,7 @@ use Rattle.hx_model.specs.State.{State, state_after}
 use Rattle.hx_model.specs.Tree.{forest_of}
 use Rattle.hx_model.specs.declared.key.Key.{Key}
 use Rattle.hx_model.specs.declared.key.Write.{Write}
+use Rattle.hx_line.specs.Line.{IsRanked}
 use Rattle.hx_marks.specs.Law.{all_marks, open_below}
 use Rattle.hx_queue.specs.Spread.{Scope, names_in, place_keys}
 use Rattle.hx_queue.specs.Workers.{WorkersKept, MaySpread}
@@ -40,9 +41,10 @@ pub record IsSpreadable (id : Id) (w : WorkersKept) : Type 0 where
 abbrev pub MayMark : Option Id → WorkersKept → Type 0
 MayMark spread w = IfSome spread (λ (id : Id). IsSpreadable id w)
 
--- Keys, and those of an object in all of the reach, are the ones that writes mark, but for one. They may be marked, and the reach is right afterwards
+-- Keys, and those of an object in all of the reach, are the ones that writes mark, but for one. They may be marked, and the reach is right afterwards, and so is how deep keys lie
 pub record IsReady (s : State) (writes : List Write) (own : Option Key) (keys : List Key) (spread : Option Id) (w : WorkersKept) : Type 0 where
   pub named : (k : Key) → (is_among k keys || is_among k (whole_keys spread w.scope)) ≡ is_among k (marks_but own (all_marks s writes))
   pub room : length keys ≤ w.spare
   pub may : MayMark spread w
   pub scope : IsScopeOf (forest_of (state_after s writes)) w.scope
+  pub ranks : IsRanked (forest_of (state_after s writes)) w.ranks

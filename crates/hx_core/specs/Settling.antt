@@ -9,6 +9,7 @@
 use Rattle.std.specs.Prelude.{◌≡◌, ◌≤◌, ℕ, ◌&&◌, ◌==◌, List, [], ◌∷◌, ◌++◌, length, Option, Some, None, if◌then◌else◌}
 use Rattle.std.specs.List.{AllByRecursion}
 use Rattle.hx_model.specs.Hands.{hand_of}
+use Rattle.hx_core.specs.Bounding.{AreCounted, IsCounted, IsUnsettled}
 use Rattle.hx_core.specs.Queued.{HasTurned, HaveTurned, IsTurning}
 use Rattle.hx_core.specs.Refinement.{ClusterView, Simulates}
 use Rattle.hx_core.specs.Turns.{IfOver, IsLeft, IsOver, end_entries, entries_of, loss_in, loss_of, turn_entries, turns_entries}
@@ -16,6 +17,7 @@ use Rattle.hx_queue.specs.Workers.{WorkersView}
 use Rattle.hx_core.specs.declared.turns.Settle.{Settle}
 use Rattle.hx_core.specs.declared.turns.Settle.TheVariants as settled
 use Rattle.hx_core.specs.declared.turns.Turn.{Turn}
+use Rattle.hx_core.specs.declared.turns.Turn.TheVariants as turn
 use Rattle.hx_core.specs.declared.turns.Turned.{Turned}
 
 -- ---- one turn
@@ -26,6 +28,7 @@ pub record IsTurn (old : ClusterView) (result : Turn) (new : ClusterView) : Type
   pub leaves : IsTurning old result new
   pub over : IfOver result (IsOver new.workers)
   pub empty : hand_of 0 new.workers.hands ≡ None
+  pub counts : IsCounted old result new
 
 -- no turn was lost
 abbrev pub IsWhole : List Turned → Type 0
@@ -38,6 +41,7 @@ pub record IsTraced (old : ClusterView) (before : List Turned) (new : ClusterVie
   pub simulates : Simulates old (turn_entries turned) new
   pub leaves : HasTurned turned old new
   pub whole : loss_in turned.end ≡ None
+  pub counts : IsCounted old (turn.Made turned) new
 
 -- ---- ends
 
@@ -46,7 +50,7 @@ abbrev pub EndsWithin : Option Settle → WorkersView → Settle → Type 0
 EndsWithin (Some loss) v end = end ≡ loss
 EndsWithin None v end = IsOver v end
 
--- with at most one turn more
+-- with at most one turn more. Where no worker held a key, none is left
 pub record IsEnded (old : ClusterView) (before : List Turned) (new : ClusterView) (after : List Turned) (end : Settle) : Type 0 where
   pub made : List Turned
   pub trace : after ≡ before ++ made
@@ -54,6 +58,7 @@ pub record IsEnded (old : ClusterView) (before : List Turned) (new : ClusterView
   pub leaves : HaveTurned made old new
   pub ends : EndsWithin (loss_of made) new.workers end
   pub few : length made ≤ 1
+  pub all : old.workers.hands ≡ [] → IsUnsettled end → ⊥
 
 -- so many turns were made, none of which was lost
 pub record IsRun (old : ClusterView) (before : List Turned) (new : ClusterView) (after : List Turned) (count : ℕ) : Type 0 where
@@ -64,6 +69,7 @@ pub record IsRun (old : ClusterView) (before : List Turned) (new : ClusterView) 
   pub whole : IsWhole made
   pub counts : length made ≡ count
   pub empty : hand_of 0 new.workers.hands ≡ None
+  pub counted : AreCounted old count new
 
 -- a settle ends that makes no turn more
 pub record IsRest (c : ClusterView) (end : Settle) : Type 0 where

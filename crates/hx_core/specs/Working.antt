@@ -1,5 +1,5 @@
 -- What the parts of a worker's turn leave of a cluster.
---     IsNext v k                  a key has waited longest, and nobody holds it
+--     IsNext f v k                a key is the first in a tree of those that wait, and nobody holds it
 --     IsGiven worker k old take new    a worker was given a key that nobody holds, or no memory was left
 --     IsTake, IsTakeOf            what takes do
 --     IsDone s hand               a hand whose key needs no turn more: it isn't up to date, or its key wants nothing
@@ -9,25 +9,28 @@
 --     IsKept                      what a worker is answered that holds a brief already
 --     chain_in, sums_in           the chain of facts that have one;  the sums of those that have some
 --     is_removal                  the key of a removal: once its write is made it may want the next one
-use Rattle.std.specs.Prelude.{◌≡◌, ◌<◌, ◌+◌, ℕ, Bool, true, false, List, [], ◌∷◌, Some, None, slice_get}
+use Rattle.std.specs.Prelude.{◌≡◌, ◌<◌, ◌+◌, ℕ, Bool, true, false, List, [], ◌∷◌, Some, None}
+use Rattle.hx_model.specs.Forest.{Forest}
 use Rattle.hx_model.specs.Hands.{Hand, hand_of, is_held, are_met, may_write, versioned}
 use Rattle.hx_model.specs.Keys.{is_among}
 use Rattle.hx_model.specs.Covered.{IsUpToDate}
 use Rattle.hx_model.specs.Limits.{greatest_version}
 use Rattle.hx_model.specs.Machine.{Finished}
 use Rattle.hx_model.specs.State.{State}
+use Rattle.hx_model.specs.Tree.{forest_of}
 use Rattle.hx_model.specs.Wanted.{wanted_write}
 use Rattle.hx_model.specs.declared.key.Finish.{Finish}
 use Rattle.hx_model.specs.declared.key.Finish.TheVariants as ending
 use Rattle.hx_model.specs.declared.key.Key.{Key}
 use Rattle.hx_model.specs.declared.key.Key.TheVariants as key
 use Rattle.hx_model.specs.declared.key.Write.{Write}
+use Rattle.hx_order.specs.Ranks.{IsFirst}
 use Rattle.hx_reconcile.specs.Briefs.{IsShort, StandsFor, hand_by, planned_by}
 use Rattle.hx_reconcile.specs.declared.brief.Brief.{Brief}
 use Rattle.hx_reconcile.specs.declared.brief.Facts.{Facts}
 use Rattle.hx_reconcile.specs.declared.brief.Facts.TheVariants as facts
 use Rattle.hx_core.specs.Committing.{HasLanded, HasFailed, HasMarked}
-use Rattle.hx_core.specs.Queued.{IsEnding, IsFirst, IsSameKeeping, IsTaking}
+use Rattle.hx_core.specs.Queued.{GivesFirst, IsEnding, IsSameKeeping, IsTaking}
 use Rattle.hx_core.specs.Refinement.{ClusterView, Simulates}
 use Rattle.hx_core.specs.Turns.{IsInHand, IsOfKey, take_entry, take_key_entry}
 use Rattle.hx_queue.specs.Workers.{WorkersView, IsTakenBy}
@@ -36,9 +39,9 @@ use Rattle.hx_core.specs.declared.turns.Take.TheVariants as take
 
 -- ---- takes
 
--- a key has waited longest, nobody holds it, and it isn't marked again
-pub record IsNext (v : WorkersView) (k : Key) : Type 0 where
-  pub first : slice_get v.waiting 0 ≡ Some k
+-- a key is the first of those that wait, nobody holds it, and it isn't marked again
+pub record IsNext (f : Forest) (v : WorkersView) (k : Key) : Type 0 where
+  pub first : IsFirst f v.waiting k
   pub waits : is_among k v.waiting ≡ true
   pub free : is_held k v.hands ≡ false
   pub again : is_among k v.again ≡ false
@@ -70,7 +73,7 @@ pub record IsTake (worker : ℕ) (old : ClusterView) (answer : Take) (new : Clus
   pub idle : answer ≡ take.Idle → (old.workers.waiting ≡ []) × (hand_of worker old.workers.hands ≡ None)
   pub unnamed : (holder : ℕ) → answer ≡ take.Other holder → ⊥
   pub leaves : IsTaking worker old answer new
-  pub first : IsFirst old.workers.waiting answer
+  pub first : GivesFirst (forest_of old.state) old.workers.waiting answer
 
 -- and one whose line names a key
 pub record IsTakeOf (worker : ℕ) (k : Key) (old : ClusterView) (answer : Take) (new : ClusterView) : Type 0 where

@@ -15,6 +15,8 @@ ghost use Rattle.hx_model.specs.Wanted.{wanted_write};
 ghost use Rattle.hx_model.specs.Windows.{opened};
 ghost use Rattle.hx_model.specs.Writes.{MayWriteAll};
 ghost use Rattle.hx_model.specs.declared.key.Key.{Key as key_of};
+ghost use Rattle.hx_line.specs.Line.{IsRanked};
+ghost use Rattle.hx_queue.specs.Workers.{AreApart};
 ghost use Rattle.hx_core.specs.Committing.{HasLanded, HasFailed, HasMarked, IsOrderly};
 ghost use Rattle.hx_core.specs.Loading.{Asked};
 ghost use Rattle.hx_core.specs.Queued.{writes_in};
@@ -57,7 +59,7 @@ impl<K: Keeper> Model for Cluster<K> {
 
     ghost view = { λ c. view_of c.state.state c.workers.seen (K.shown c.keeper) };
 
-    ghost invariant = { λ c. IsInside c.state.state c.workers.seen c.workers.scope (K.shown c.keeper) c.state.staged };
+    ghost invariant = { λ c. IsInside c.state.state c.workers.seen c.workers.scope c.workers.ranks (K.shown c.keeper) c.state.staged };
 }
 
 /// A keeper that no cluster was started on.
@@ -166,12 +168,13 @@ impl<K: Keeper> Cluster<K> {
         keeper
     }
 
-    /// A theorem, not to be called for what it does: there is a world that the cluster stands for, and its state is valid. No work is forgotten: where no key waits and none is held, the state is settled.
+    /// A theorem, not to be called for what it does: there is a world that the cluster stands for, and its state is valid. No work is forgotten: where no key waits and none is held, the state is settled. No key is there twice, and no worker.
     pub fn law_of_worlds(&self)
         ensures world { HasWorld self.now }
         ensures valid { IsValid self.now.state }
         ensures covered { IsCovered self.now.state self.now.workers.hands self.now.workers.waiting self.now.workers.again }
         ensures settled { self.now.workers.waiting ≡ [] → self.now.workers.hands ≡ [] → IsSettled self.now.state }
+        ensures apart { AreApart self.now.workers }
     {
         let _ = &self.keeper;
         self.workers.law_apart();
@@ -225,6 +228,7 @@ fn load_work<K: Keeper>(
     ensures hands { IfOk result (λ p. p.1.seen.hands ≡ []) }
     ensures again { IfOk result (λ p. p.1.seen.again ≡ []) }
     ensures scope { IfOk result (λ p. IsScopeOf (forest_of p.0.state) p.1.scope) }
+    ensures ranks { IfOk result (λ p. IsRanked (forest_of p.0.state) p.1.ranks) }
 {
     let state = load_state(alloc, keeper, config, keys, damaged_key)?;
     let mut workers = Workers::new(alloc, keys);

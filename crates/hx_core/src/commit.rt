@@ -9,6 +9,7 @@ ghost use Rattle.hx_marks.specs.Law.{all_marks};
 ghost use Rattle.hx_core.specs.Committing.{HasLanded, HasFailed, Holds, IsPrepared, marks_but};
 ghost use Rattle.hx_core.specs.Reaching.{IsScopeOf, MayMark, whole_keys};
 ghost use Rattle.hx_core.specs.Rows.{batch_of};
+ghost use Rattle.hx_line.specs.Line.{IsRanked};
 ghost use Rattle.hx_queue.specs.Workers.{IsMarkedBy};
 
 use crate::rows::batch_of;
@@ -124,6 +125,7 @@ pub fn write_marked<K: Keeper>(
     requires may { MayWriteAll state.old.state writes.items }
     requires some { writes.items ≢ [] }
     requires scope { IsScopeOf (forest_of state.old.state) workers.old.scope }
+    requires ranks { IsRanked (forest_of state.old.state) workers.old.ranks }
     ensures landed { OnOk result (HasLanded state.old.state (K.shown keeper.old) writes.items state.new.state (K.shown keeper.new)) }
     ensures marked { OnOk result (IsMarkedBy (marks_but (option_copied own.entry) (all_marks state.old.state writes.items)) workers.old.seen workers.new.seen) }
     ensures seen { OnErr result (workers.new.seen ≡ workers.old.seen) }
@@ -132,6 +134,7 @@ pub fn write_marked<K: Keeper>(
     ensures fault { IsErrOf result CommitFault.KeeperFault → HasFailed state.old.state (K.shown keeper.old) writes.items state.new.state (K.shown keeper.new) }
     ensures staged { state.new.staged ≡ [] }
     ensures scope { IsScopeOf (forest_of state.new.state) workers.new.scope }
+    ensures ranks { IsRanked (forest_of state.new.state) workers.new.ranks }
 {
     match marks_of(state, workers, writes.as_slice(), own) {
         Ok(marks) => write_marks(keeper, state, workers, writes, marks),
@@ -161,6 +164,7 @@ fn write_marks<K: Keeper>(
     ensures marked { OnOk result (IsMarkedBy (marks.keys.items ++ whole_keys marks.spread workers.old.scope) workers.old.seen workers.new.seen) }
     ensures seen { OnErr result (workers.new.seen ≡ workers.old.seen) }
     ensures scope { workers.new.scope ≡ workers.old.scope }
+    ensures ranks { workers.new.ranks ≡ workers.old.ranks }
     ensures state { IsErrOf result CommitFault.NoMemory → state.new.state ≡ state.old.state }
     ensures keeper { IsErrOf result CommitFault.NoMemory → K.shown keeper.new ≡ K.shown keeper.old }
     ensures fault { IsErrOf result CommitFault.KeeperFault → HasFailed state.old.state (K.shown keeper.old) writes.items state.new.state (K.shown keeper.new) }

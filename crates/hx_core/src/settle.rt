@@ -1,6 +1,9 @@
 // Turns of worker 0, one after the other, until nothing is left to do.
-ghost use Rattle.std.specs.Prelude.{◌≡◌, ◌<◌, ◌∷◌, [], ◌++◌, List, None, IfNone, IfSome, vec_len, vec_capacity};
+ghost use Rattle.std.specs.Prelude.{◌≡◌, ◌≤◌, ◌<◌, length, ◌∷◌, [], ◌++◌, List, None, IfNone, IfSome, vec_len, vec_capacity};
+ghost use Rattle.hx_bound.specs.Bound.{turn_bound};
 ghost use Rattle.hx_model.specs.Hands.{hand_of};
+ghost use Rattle.hx_model.specs.Tree.{forest_of};
+ghost use Rattle.hx_core.specs.Bounding.{IsUnsettled};
 ghost use Rattle.hx_core.specs.Queued.{HaveTurned};
 ghost use Rattle.hx_core.specs.Refinement.{Simulates};
 ghost use Rattle.hx_core.specs.Settling.{IsEnded, IsRest, IsTraced, IsTurn, rest_of};
@@ -18,11 +21,16 @@ use hx_ports::Keeper;
 impl<K: Keeper> Cluster<K> {
     /// Worker 0 takes, plans and finishes until no key waits, so many keys were taken, or a turn was lost. The trace gets its turns, behind those that it has.
     ///
+    /// Where no worker holds a key, as many turns as `turn_bound` says suffice: for each write that may come, and once more, a turn of each key that there is or that waits.
+    ///
+    /// [`turn_bound`]: hx_bound
+    ///
     /// A caller that tells of each turn before the next one is made calls `turn`, `end_of` and `rest` in the same way.
     pub fn settle(&mut self, turns: u64, trace: &mut Vec<Turned>) -> Settle
         requires { hand_of 0 self.old.workers.hands ≡ None }
         ensures made { (made : List turned_of) × (trace.new.items ≡ trace.old.items ++ made) × Simulates self.old (turns_entries made ++ end_entries result) self.new × HaveTurned made self.old self.new × IsSettleEnd turns made self.new.workers result }
         ensures empty { hand_of 0 self.new.workers.hands ≡ None }
+        ensures bound { self.old.workers.hands ≡ [] → turn_bound self.old.state (length self.old.workers.waiting) ≤ turns → IsUnsettled result → ⊥ }
     {
         self.law_of_worlds();
         for _made in 0..turns {
@@ -33,7 +41,7 @@ impl<K: Keeper> Cluster<K> {
         self.rest()
     }
 
-    /// One turn of worker 0 in a settle: it takes the key that has waited longest, plans and finishes. Where no key waits, or no memory is left to take it, the settle is over.
+    /// One turn of worker 0 in a settle: it takes the first of the keys that wait, plans and finishes. Where no key waits, or no memory is left to take it, the settle is over.
     pub fn turn(&mut self) -> Turn
         requires { hand_of 0 self.old.workers.hands ≡ None }
         ensures { IsTurn self.old result self.new }
@@ -78,7 +86,7 @@ impl<K: Keeper> Cluster<K> {
     /// One turn of worker 0 with the next key.
     fn turn_next(&mut self, key: Key) -> Turn
         requires nothing { hand_of 0 self.old.workers.hands ≡ None }
-        requires next { IsNext self.old.workers key }
+        requires next { IsNext (forest_of self.old.state) self.old.workers key }
         ensures { IsTurn self.old result self.new }
     {
         self.law_of_worlds();
@@ -94,7 +102,7 @@ impl<K: Keeper> Cluster<K> {
     /// One turn of worker 0 with a key that waits.
     fn turn_of(&mut self, key: Key, taken: Key) -> Turn
         requires nothing { hand_of 0 self.old.workers.hands ≡ None }
-        requires next { IsNext self.old.workers key }
+        requires next { IsNext (forest_of self.old.state) self.old.workers key }
         requires same { taken ≡ key }
         ensures { IsTurn self.old result self.new }
     {
@@ -103,6 +111,7 @@ impl<K: Keeper> Cluster<K> {
             Take::Job(brief) => {
                 drop(brief);
                 let end = self.complete(0);
+                self.law_of_worlds();
                 Turn::Made(Turned { key: taken, end })
             }
             other => {

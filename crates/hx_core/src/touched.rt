@@ -8,6 +8,7 @@ ghost use Rattle.hx_model.specs.Valid.{IsValid};
 ghost use Rattle.hx_model.specs.Writes.{MayWriteAll};
 ghost use Rattle.hx_model.specs.declared.key.Key.{Key as key_of};
 ghost use Rattle.hx_marks.specs.Law.{all_marks, open_below};
+ghost use Rattle.hx_line.specs.Line.{IsRanked};
 ghost use Rattle.hx_queue.specs.Spread.{place_keys};
 ghost use Rattle.hx_queue.specs.Workers.{IsMarkedBy};
 ghost use Rattle.hx_core.specs.Committing.{marks_but};
@@ -34,6 +35,7 @@ pub fn mark(workers: &mut Workers, marks: Marks)
     requires spread { MayMark marks.spread workers.old }
     ensures marked { IsMarkedBy (marks.keys.items ++ whole_keys marks.spread workers.old.scope) workers.old.seen workers.new.seen }
     ensures scope { workers.new.scope ≡ workers.old.scope }
+    ensures ranks { workers.new.ranks ≡ workers.old.ranks }
 {
     let Marks { keys, spread } = marks;
     workers.mark_all(keys);
@@ -45,6 +47,7 @@ fn mark_whole(workers: &mut Workers, spread: Option<Id>)
     requires { MayMark spread workers.old }
     ensures marked { IsMarkedBy (whole_keys spread workers.old.scope) workers.old.seen workers.new.seen }
     ensures scope { workers.new.scope ≡ workers.old.scope }
+    ensures ranks { workers.new.ranks ≡ workers.old.ranks }
 {
     match spread {
         Some(id) => workers.mark_spread(id),
@@ -64,8 +67,10 @@ pub fn marks_of(
     requires valid { IsValid state.now.state }
     requires may { MayWriteAll state.now.state writes.now }
     requires scope { IsScopeOf (forest_of state.now.state) workers.old.scope }
+    requires ranks { IsRanked (forest_of state.now.state) workers.old.ranks }
     ensures ready { IfOk result (λ marks. IsReady state.now.state writes.now (option_copied own.entry) marks.keys.items marks.spread workers.new) }
     ensures scope { IsScopeOf (forest_of state.now.state) workers.new.scope }
+    ensures ranks { IsRanked (forest_of state.now.state) workers.new.ranks }
     ensures seen { workers.new.seen ≡ workers.old.seen }
 {
     match own {
@@ -79,8 +84,10 @@ fn any_of(state: &IndexedState, workers: &mut Workers, writes: &[Change]) -> Res
     requires valid { IsValid state.now.state }
     requires may { MayWriteAll state.now.state writes.now }
     requires scope { IsScopeOf (forest_of state.now.state) workers.old.scope }
+    requires ranks { IsRanked (forest_of state.now.state) workers.old.ranks }
     ensures ready { IfOk result (λ marks. IsReady state.now.state writes.now None marks.keys.items marks.spread workers.new) }
     ensures scope { IsScopeOf (forest_of state.now.state) workers.new.scope }
+    ensures ranks { IsRanked (forest_of state.now.state) workers.new.ranks }
     ensures seen { workers.new.seen ≡ workers.old.seen }
 {
     match whole_of(state, workers, writes)? {
@@ -99,8 +106,10 @@ fn each_of(
     requires valid { IsValid state.now.state }
     requires may { MayWriteAll state.now.state writes.now }
     requires scope { IsScopeOf (forest_of state.now.state) workers.old.scope }
+    requires ranks { IsRanked (forest_of state.now.state) workers.old.ranks }
     ensures ready { IfOk result (λ marks. IsReady state.now.state writes.now (option_copied own.entry) marks.keys.items marks.spread workers.new) }
     ensures scope { IsScopeOf (forest_of state.now.state) workers.new.scope }
+    ensures ranks { IsRanked (forest_of state.now.state) workers.new.ranks }
     ensures seen { workers.new.seen ≡ workers.old.seen }
 {
     outdate_for(workers, writes);
@@ -108,11 +117,13 @@ fn each_of(
     Ok(Marks { keys, spread: None })
 }
 
-/// Where writes change the tree, the reach is outdated.
+/// Where writes change the tree, the reach is outdated, and so is how deep keys lie.
 fn outdate_for(workers: &mut Workers, writes: &[Change])
     ensures seen { workers.new.seen ≡ workers.old.seen }
     ensures before { (f : forest) → IsScopeOf f workers.old.scope → IsScopeOf f workers.new.scope }
     ensures after { (s : State) → IsScopeOf (forest_of s) workers.old.scope → IsScopeOf (forest_of (state_after s writes.now)) workers.new.scope }
+    ensures ranked { (f : forest) → IsRanked f workers.old.ranks → IsRanked f workers.new.ranks }
+    ensures ranked_after { (s : State) → IsRanked (forest_of s) workers.old.ranks → IsRanked (forest_of (state_after s writes.now)) workers.new.ranks }
 {
     if keeps_tree(writes) {
         return;
@@ -133,6 +144,7 @@ fn keys_of(
     ensures room { IfOk result (λ keys. length keys.items ≤ workers.new.spare) }
     ensures seen { workers.new.seen ≡ workers.old.seen }
     ensures scope { workers.new.scope ≡ workers.old.scope }
+    ensures ranks { workers.new.ranks ≡ workers.old.ranks }
 {
     let mut keys = marks(state, writes)?;
     leave_out(&mut keys, own);
@@ -154,8 +166,10 @@ fn whole_of(
     requires valid { IsValid state.now.state }
     requires may { MayWriteAll state.now.state writes.now }
     requires scope { IsScopeOf (forest_of state.now.state) workers.old.scope }
+    requires ranks { IsRanked (forest_of state.now.state) workers.old.ranks }
     ensures ready { IfOk result (λ o. IfSome o (λ marks. IsReady state.now.state writes.now None marks.keys.items marks.spread workers.new)) }
     ensures scope { IsScopeOf (forest_of state.now.state) workers.new.scope }
+    ensures ranks { IsRanked (forest_of state.now.state) workers.new.ranks }
     ensures seen { workers.new.seen ≡ workers.old.seen }
 {
     let Some(SpreadMarks { id, others }) = spread_marks(state, writes)? else {
@@ -191,6 +205,7 @@ fn make_room(
     ensures room { IfOk result (λ made. made ≡ true → others ≤ workers.new.spare) }
     ensures spread { IfOk result (λ made. made ≡ true → IsSpreadable id.now workers.new) }
     ensures scope { IsScopeOf (forest_of state.now.state) workers.new.scope }
+    ensures ranks { workers.new.ranks ≡ workers.old.ranks }
     ensures seen { workers.new.seen ≡ workers.old.seen }
 {
     workers.reserve_spread()?;
@@ -210,6 +225,7 @@ fn reaches(state: &IndexedState, workers: &mut Workers, name: &Text) -> Result<b
     requires scope { IsScopeOf (forest_of state.now.state) workers.old.scope }
     ensures at { IfOk result (λ at. at ≡ true → HasRoot name.now workers.new.scope) }
     ensures scope { IsScopeOf (forest_of state.now.state) workers.new.scope }
+    ensures ranks { workers.new.ranks ≡ workers.old.ranks }
     ensures seen { workers.new.seen ≡ workers.old.seen }
     ensures places { workers.new.places ≡ workers.old.places }
 {

@@ -3,11 +3,13 @@ ghost use Rattle.std.specs.Prelude.{◌≡◌, ◌≤◌, ℕ, [], ◌∷◌, tr
 ghost use Rattle.hx_model.specs.Keys.{is_among};
 ghost use Rattle.hx_model.specs.Hands.{hand_of, is_held};
 ghost use Rattle.hx_model.specs.Machine.{Checked, Dropped, Finished};
+ghost use Rattle.hx_model.specs.Tree.{forest_of};
 ghost use Rattle.hx_reconcile.specs.Briefs.{IsShort, StandsFor, hand_by, planned_by};
-ghost use Rattle.hx_core.specs.Queued.{IsEnding, IsFirst, IsReleased, IsTaking};
+ghost use Rattle.hx_core.specs.Queued.{GivesFirst, IsEnding, IsReleased, IsTaking};
 ghost use Rattle.hx_core.specs.Refinement.{Simulates};
 ghost use Rattle.hx_core.specs.Turns.{IsInHand, IsOfKey, take_entry, take_key_entry};
 ghost use Rattle.hx_core.specs.Working.{IsDone, IsFinish, IsGiven, IsGivenBy, IsKept, IsNext, IsTake, IsTakeOf};
+ghost use Rattle.hx_line.specs.Line.{KeepsRanks};
 ghost use Rattle.hx_queue.specs.Spread.{is_spread};
 
 use crate::briefs::job_of;
@@ -23,14 +25,14 @@ use hx_state::IndexedState;
 use std::alloc::Global;
 
 impl<K: Keeper> Cluster<K> {
-    /// Gives a worker the key that has waited longest, with what its plan is made from.
+    /// Gives a worker the first of the keys that wait, by rank, by the depth of a copy's namespace, and by the order of keys, with what its plan is made from.
     pub fn take(&mut self, worker: u32) -> Take
         ensures simulates { Simulates self.old (take_entry worker result ∷ []) self.new }
         ensures hand { IsInHand self.new.workers.hands worker result }
         ensures idle { result ≡ Take.Idle → (self.old.workers.waiting ≡ []) × (hand_of worker self.old.workers.hands ≡ None) }
         ensures unnamed { (holder : ℕ) → result ≡ Take.Other holder → ⊥ }
         ensures leaves { IsTaking worker self.old result self.new }
-        ensures first { IsFirst self.old.workers.waiting result }
+        ensures first { GivesFirst (forest_of self.old.state) self.old.workers.waiting result }
     {
         match self.workers.hand(worker) {
             Some(brief) => already(brief),
@@ -132,14 +134,14 @@ impl<K: Keeper> Cluster<K> {
         }
     }
 
-    /// The key that has waited longest, once more.
+    /// The first of the keys that wait, once more.
     pub(crate) fn next(&mut self) -> Result<Option<Key>, NoMemory>
         ensures same { self.new ≡ self.old }
-        ensures some { IfOk result (λ o. IfSome o (IsNext self.old.workers)) }
+        ensures some { IfOk result (λ o. IfSome o (IsNext (forest_of self.old.state) self.old.workers)) }
         ensures none { IfOk result (λ o. IfNone o (self.old.workers.waiting ≡ [])) }
     {
         self.workers.law_apart();
-        self.workers.next()
+        self.workers.next(self.state.forest())
     }
 
     /// A worker that holds nothing takes a key that is named.
@@ -237,6 +239,7 @@ fn give_to(state: &IndexedState, workers: &mut Workers, worker: u32, key: Key) -
     requires free { is_held key workers.old.seen.hands ≡ false }
     ensures given { IsGivenBy worker key state.now.state workers.old.seen result workers.new.seen }
     ensures scope { workers.new.scope ≡ workers.old.scope }
+    ensures ranks { KeepsRanks workers.old.ranks workers.new.ranks }
 {
     match ready_job(state, workers, &key) {
         Ok((brief, shared)) => {
@@ -264,6 +267,7 @@ fn ready_job(
     ensures room { OnOk result (1 ≤ workers.new.spare) }
     ensures apart { OnOk result (is_spread workers.new.spread key.now ≡ false) }
     ensures scope { workers.new.scope ≡ workers.old.scope }
+    ensures ranks { workers.new.ranks ≡ workers.old.ranks }
 {
     workers.line_up(key)?;
     workers.reserve(1)?;

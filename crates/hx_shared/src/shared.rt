@@ -114,7 +114,7 @@ impl<K: Keeper> Shared<K> {
         answer
     }
 
-    /// Gives a worker the key that has waited longest, with what its plan is made from. A worker whose key another seat took is told so by `Already`.
+    /// Gives a worker the first of the keys that wait, with what its plan is made from. A worker whose key another seat took is told so by `Already`.
     pub fn take<R: Wait>(&self, rt: &R, seat: &mut Seat<K>, worker: u32) -> Take
         requires own { seat.old.table_id ≡ self.now }
         requires outside { IsOutside seat.old.me }

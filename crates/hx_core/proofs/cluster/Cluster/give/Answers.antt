@@ -3,7 +3,7 @@ use Rattle.hx_model.specs.State.{State}
 use Rattle.hx_core.specs.Inside.{view_of}
 use Rattle.hx_core.specs.Working.{IsGiven, IsGivenBy}
 use Rattle.hx_core.proofs.Keeping.{sound_given, sound_ready}
-use Rattle.hx_core.proofs.Reached.{scope_same}
+use Rattle.hx_core.proofs.Reached.{ranks_kept, scope_same}
 use Rattle.hx_core.proofs.Turning.{given_by}
 use Rattle.hx_core.proofs.cluster.Cluster.give.Goals as goal
 
@@ -14,6 +14,7 @@ invariant_of-self g c =
     record {
       sound = sound_given c.make_ready.new.state.state c.self.inside.workers.seen c.give_to.new.workers.seen (g.K.Keeper.shown c.self.inside.keeper) c.make_ready.new.state.staged c.args.worker c.args.key c.give_to.result ready requires.empty requires.free c.law_apart.ensures c.give_to.ensures.given;
       scope = scope_same c.self.inside.state.state c.make_ready.new.state.state c.self.inside.workers.scope c.give_to.new.workers.scope c.make_ready.ensures.state c.give_to.ensures.scope c.self.invariant.scope;
+      ranks = ranks_kept c.self.inside.state.state c.make_ready.new.state.state c.self.inside.workers.ranks c.give_to.new.workers.ranks c.make_ready.ensures.state c.give_to.ensures.ranks c.self.invariant.ranks;
     }
 
 pub returns : goal.returns

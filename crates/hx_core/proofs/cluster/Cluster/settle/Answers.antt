@@ -1,3 +1,4 @@
+use Rattle.hx_core.proofs.Bounding.{bound_reached}
 use Rattle.hx_core.proofs.Settled.{run_start, run_turn, ends_run, rests_run, turn_in, all_made}
 use Rattle.hx_core.proofs.cluster.Cluster.settle.Goals as goal
 
@@ -21,3 +22,12 @@ returns-clause-made g c =
 
 pub returns-clause-empty : goal.returns-clause-empty
 returns-clause-empty g c = c.loop-made.invariant.empty
+
+-- no key is left where the bound is no more than the turns
+pub returns-in-Some-clause-bound : goal.returns-in-Some-clause-bound
+returns-in-Some-clause-bound g c = λ none enough left. c.in-Some.ensures.end.all (c.loop-made.invariant.counted none).hands left
+
+pub returns-clause-bound : goal.returns-clause-bound
+returns-clause-bound g c =
+    λ none enough left.
+    bound_reached c.args.self.now c.loop-made.self c.loop-made._made c.args.turns c.law_of_worlds.ensures.covered c.law_of_worlds.ensures.apart c.loop-made.invariant.counted (all_made c.loop-made._made c.args.turns c.loop-made.auto._made-end c.loop-made-test.false) none enough

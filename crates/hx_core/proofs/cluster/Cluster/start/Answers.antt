@@ -11,6 +11,7 @@ invariant_of-result g c =
       sound = sound_opening (g.K.Keeper.shown c.args.keeper) (g.K.Keeper.shown c.load_work.new.keeper) c.in-Ok.state.state c.in-Ok.workers.seen c.in-Ok.state.staged c.in-Ok.ensures.valid c.in-Ok.ensures.staged c.in-Ok.ensures.asked.same.kept c.in-Ok.ensures.holds
           c.in-Ok.ensures.waiting c.in-Ok.ensures.hands c.in-Ok.ensures.again;
       scope = c.in-Ok.ensures.scope;
+      ranks = c.in-Ok.ensures.ranks;
     }
 
 pub returns-in-Ok-clause-opens : goal.returns-in-Ok-clause-opens

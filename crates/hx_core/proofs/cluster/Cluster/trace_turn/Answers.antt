@@ -12,12 +12,12 @@ returns-then-is_err-clause-end g c = trace_lacks c.args.self.now c.args.trace.no
 pub returns-in-Made-clause-turn : goal.returns-in-Made-clause-turn
 returns-in-Made-clause-turn g c =
     let made = subst (λ r. IsTurn c.args.self.now r c.turn.new.self) c.in-Made.is c.turn.ensures in
-    trace_none c.args.self.now c.turn.new.self c.args.trace.now.items c.note.new.trace.items c.in-Made.turned made.simulates made.leaves (c.note.ensures ∙ ap (λ xs. xs ++ c.in-Made.turned ∷ []) c.reserve.ensures.items) c.end_of.result c.end_of.ensures
+    trace_none c.args.self.now c.turn.new.self c.args.trace.now.items c.note.new.trace.items c.in-Made.turned made.simulates made.leaves (c.note.ensures ∙ ap (λ xs. xs ++ c.in-Made.turned ∷ []) c.reserve.ensures.items) made.counts c.end_of.result c.end_of.ensures
 
 pub returns-in-Made-clause-end : goal.returns-in-Made-clause-end
 returns-in-Made-clause-end g c =
     let made = subst (λ r. IsTurn c.args.self.now r c.turn.new.self) c.in-Made.is c.turn.ensures in
-    trace_some c.args.self.now c.turn.new.self c.args.trace.now.items c.note.new.trace.items c.in-Made.turned made.simulates made.leaves (c.note.ensures ∙ ap (λ xs. xs ++ c.in-Made.turned ∷ []) c.reserve.ensures.items) c.end_of.result c.end_of.ensures
+    trace_some c.args.self.now c.turn.new.self c.args.trace.now.items c.note.new.trace.items c.in-Made.turned made.simulates made.leaves (c.note.ensures ∙ ap (λ xs. xs ++ c.in-Made.turned ∷ []) c.reserve.ensures.items) made.counts c.end_of.result c.end_of.ensures
     (loses c.turn.new.self c.turn.new.self 0 (HasWorld-after c.args.self.now c.turn.new.self _ made.simulates) refl)
 
 -- none was

@@ -10,6 +10,7 @@ invariant_of-self g c =
           c.self.inside.state.staged c.write_marked.new.state.staged c.write_marked.result c.self.invariant.sound requires.may requires.orderly requires.some requires.own c.write_marked.ensures.staged c.write_marked.ensures.landed c.write_marked.ensures.marked c.write_marked.ensures.seen
           c.write_marked.ensures.state c.write_marked.ensures.keeper c.write_marked.ensures.fault;
       scope = c.write_marked.ensures.scope;
+      ranks = c.write_marked.ensures.ranks;
     }
 
 pub returns-clause-marked : goal.returns-clause-marked
