@@ -30,7 +30,7 @@ use Rattle.hx_script.proofs.Simulating.{Simulates-refused, Simulates-lost, Simul
 
 -- its line is all that is written
 HasMade-one : (reading : Result Order Refusal) (e : Entry) (unsaid : Bool) (text : List ℕ) (a b : ClusterView) → Makes reading (One e) → MayBeUnsaid (One e) unsaid → (HasWorld a → Simulates a (e ∷ []) b) → said_lines (One e) unsaid ≡ text → HasMade reading [] text a b
-HasMade-one reading e unsaid text a b makes said simulates is = record { made = One e; unsaid = unsaid; makes = makes; said = said; simulates = simulates; whole = is; last = ([], is) }
+HasMade-one reading e unsaid text a b makes said simulates is = record { made = One e; unsaid = unsaid; makes = makes; said = said; simulates = simulates; bounded = tt; whole = is; last = ([], is) }
 
 Serves-one : {T E : Type 0} (reading : Result Order Refusal) (text : List ℕ) (a b : ClusterView) (x y : SinkView) (r : Result T E) → HasMade reading [] text a b → SaysText text x y r → Serves reading a b x y r
 Serves-one reading text a b x y r made says = record { head = []; end = text; made = made; between = x; said = Said-none x; says = says }

@@ -15,6 +15,7 @@ use Rattle.hx_model.specs.Machine.{History}
 use Rattle.hx_core.specs.Refinement.{ClusterView, HasWorld, Simulates}
 use Rattle.hx_script.specs.Lines.{Line, line_of_text, asking, is_asking}
 use Rattle.hx_script.specs.Forms.{reading_of}
+use Rattle.hx_script.specs.Bounded.{AreBounded}
 use Rattle.hx_script.specs.Exchanges.{made_entries, Exchange, IsExchange, lines_of, entries_of, answer_lines, exchange_line, last_lines}
 use Rattle.hx_script.specs.Running.{Ran, Does, Cuts, LacksLast, IsEndOf, WritesFront, IsCalm, HasMade, Serves}
 use Rattle.hx_script.proofs.Simulating.{Simulates-none, Simulates-after}
@@ -57,9 +58,13 @@ Appends-trans (Some x) None c bs cs p q = absurd p
 Appends-trans (Some x) (Some y) None bs cs p q = absurd q
 Appends-trans (Some x) (Some y) (Some z) bs cs p q = q ∙ ap (λ l. l ++ cs) p ∙ append_assoc x bs cs
 
+bounded_together : (ts us : List Exchange) (a b c : ClusterView) → AreBounded ts a b → AreBounded us b c → AreBounded (ts ++ us) a c
+bounded_together [] us a b c p q = subst (λ (v : ClusterView). AreBounded us v c) p q
+bounded_together (t ∷ ts) us a b c (first, (between, made, rest)) q = (first, (between, made, bounded_together ts us between b c rest q))
+
 -- nothing was done
 pub Ran-none : (ls : List Line) (c : ClusterView) (x : Option (List ℕ)) → Ran ls ls [] c c x x
-Ran-none ls c x = record { exchanges = []; text = []; each = tt; split = refl; simulates = Simulates-none c; says = refl; lacks = inl refl; wrote = Appends-nil x }
+Ran-none ls c x = record { exchanges = []; text = []; each = tt; split = refl; simulates = Simulates-none c; bounded = refl; says = refl; lacks = inl refl; wrote = Appends-nil x }
 
 pub Cuts-none : (ls : List Line) (c : ClusterView) (x : Option (List ℕ)) → Cuts ls c c x x
 Cuts-none ls c x = record { rest = ls; lacking = []; ran = Ran-none ls c x }
@@ -73,6 +78,7 @@ Ran-then ls ks rest lacking a b c x y z p q =
       each = each_append p.exchanges q.exchanges p.each q.each;
       split = lines_together ls ks rest p.exchanges q.exchanges p.split q.split;
       simulates = λ stood. subst (λ es. Simulates a es c) (sym (flat_map-append entries_of_exchange p.exchanges q.exchanges)) (Simulates-after a b c (entries_of p.exchanges) (entries_of q.exchanges) p.simulates q.simulates stood);
+      bounded = bounded_together p.exchanges q.exchanges a b c p.bounded q.bounded;
       says = texts_together p.exchanges q.exchanges p.text q.text lacking p.says q.says;
       lacks = LacksLast-before p.exchanges q.exchanges lacking q.lacks;
       wrote = Appends-trans x y z p.text q.text p.wrote q.wrote;
@@ -87,7 +93,7 @@ Does-cuts ls ks a b c x y z p q = record { rest = q.rest; lacking = q.lacking; r
 -- more lines stay unanswered
 pub Ran-more : (ls rest more : List Line) (lacking : List ℕ) (a b : ClusterView) (x y : Option (List ℕ)) → Ran ls rest lacking a b x y → Ran (ls ++ more) (rest ++ more) lacking a b x y
 Ran-more ls rest more lacking a b x y p =
-    record { exchanges = p.exchanges; text = p.text; each = p.each; split = ap (λ l. l ++ more) p.split ∙ append_assoc (lines_of p.exchanges) rest more; simulates = p.simulates; says = p.says; lacks = p.lacks; wrote = p.wrote }
+    record { exchanges = p.exchanges; text = p.text; each = p.each; split = ap (λ l. l ++ more) p.split ∙ append_assoc (lines_of p.exchanges) rest more; simulates = p.simulates; bounded = p.bounded; says = p.says; lacks = p.lacks; wrote = p.wrote }
 
 pub Cuts-more : (ls more : List Line) (a b : ClusterView) (x y : Option (List ℕ)) → Cuts ls a b x y → Cuts (ls ++ more) a b x y
 Cuts-more ls more a b x y p = record { rest = p.rest ++ more; lacking = p.lacking; ran = Ran-more ls p.rest more p.lacking a b x y p.ran }
@@ -107,6 +113,7 @@ Does-made line head end a b x y p wrote =
       each = (record { makes = p.makes; said = p.said }, tt);
       split = refl;
       simulates = simulates_one exchange a b p.simulates;
+      bounded = (p.bounded, (b, p.simulates, refl));
       says = ap (λ l. l ++ []) p.whole;
       lacks = inl refl;
       wrote = wrote;
@@ -129,6 +136,7 @@ Cuts-made line head end a b x y z p wrote q =
         each = (record { makes = p.makes; said = p.said }, tt);
         split = refl;
         simulates = simulates_one exchange a b p.simulates;
+        bounded = (p.bounded, (b, p.simulates, refl));
         says = append-nil (exchange_line exchange) ∙ p.whole ∙ ap (λ l. head ++ l) q.whole ∙ sym (append_assoc head q.front q.lacking);
         lacks = inr ([], exchange, refl, IsEndOf-trans (last_lines exchange) end q.lacking p.last (q.front, q.whole));
         wrote = Appends-trans x y z head q.front wrote q.wrote;

@@ -12,13 +12,18 @@ use Rattle.std.proofs.lemmas.List.{nil_from_length}
 use Rattle.hx_ports.specs.Views.{SinkView}
 use Rattle.hx_model.specs.declared.key.Finish.{Finish}
 use Rattle.hx_model.specs.declared.key.Finish.TheVariants as ending
+use Rattle.hx_bound.specs.Bound.{turn_bound}
+use Rattle.hx_core.specs.Bounding.{IsCounted, IsUnsettled}
 use Rattle.hx_core.specs.Refinement.{ClusterView, HasWorld, Simulates}
 use Rattle.hx_core.specs.Settling.{IsWhole}
 use Rattle.hx_core.specs.Turns.{turn_entries, turns_entries, end_entries, loss_in, loss_of, IsLeft, IsOver, LoseLast}
 use Rattle.hx_queue.specs.Workers.{WorkersView}
 use Rattle.hx_core.specs.declared.turns.Settle.{Settle}
 use Rattle.hx_core.specs.declared.turns.Settle.TheVariants as settled
+use Rattle.hx_core.specs.declared.turns.Turn.TheVariants as turn
 use Rattle.hx_core.specs.declared.turns.Turned.{Turned}
+use Rattle.hx_core.proofs.Bounding.{counted_more, counted_start}
+use Rattle.hx_script.specs.Bounded.{SettlesFor}
 use Rattle.hx_script.specs.Exchanges.{Turns, EndsBy, IsSettle, last_turn_lines}
 use Rattle.hx_script.specs.Running.{MadeTurns, IsEndOf, Said, SaysText, Serves}
 use Rattle.hx_script.specs.Turns.{settled_line, turned_lines}
@@ -71,7 +76,7 @@ lines_more turns turned = flat_map-append turned_lines turns (turned ∷ []) ∙
 
 -- no turn was made yet
 pub MadeTurns-none : (c : ClusterView) (x : SinkView) → MadeTurns 0 c c x x
-MadeTurns-none c x = record { turns = []; many = refl; whole = tt; simulates = Simulates-none c; said = Said-none x }
+MadeTurns-none c x = record { turns = []; many = refl; whole = tt; simulates = Simulates-none c; counted = counted_start c; said = Said-none x }
 
 Simulates-turned : (turns : List Turned) (turned : Turned) (a b c : ClusterView) → (HasWorld a → Simulates a (turns_entries turns) b) → Simulates b (turn_entries turned) c → HasWorld a → Simulates a (turns_entries (turns ++ turned ∷ [])) c
 Simulates-turned turns turned a b c p q stood =
@@ -82,13 +87,14 @@ Said-turned turns turned x y z p q =
     subst (λ l. Said l x z) (sym (lines_more turns turned)) (Said-then (flat_map turned_lines turns) (turned_lines turned) x y z p q)
 
 -- a turn was made that wasn't lost, and its lines were written
-pub MadeTurns-more : (count : ℕ) (turned : Turned) (a b c : ClusterView) (x y z : SinkView) → MadeTurns count a b x y → loss_in turned.end ≡ None → Simulates b (turn_entries turned) c → Said (turned_lines turned) y z → MadeTurns (count + 1) a c x z
-MadeTurns-more count turned a b c x y z p none made said =
+pub MadeTurns-more : (count : ℕ) (turned : Turned) (a b c : ClusterView) (x y z : SinkView) → MadeTurns count a b x y → loss_in turned.end ≡ None → Simulates b (turn_entries turned) c → IsCounted b (turn.Made turned) c → Said (turned_lines turned) y z → MadeTurns (count + 1) a c x z
+MadeTurns-more count turned a b c x y z p none made counts said =
     record {
       turns = p.turns ++ turned ∷ [];
       many = longer p.turns turned ∙ ap (λ n. n + 1) p.many;
       whole = whole_more p.turns turned p.whole none;
       simulates = Simulates-turned p.turns turned a b c p.simulates made;
+      counted = counted_more a b c count turned p.counted counts none;
       said = Said-turned p.turns turned x y z p.said said;
     }
 
@@ -99,14 +105,18 @@ not_lost end (Some loss) is never = absurd (never loss refl)
 
 -- ---- ends
 
+-- a settle of so many turns that ends so, as the bound has it
+abbrev pub SettlesWith : Settle → ℕ → ClusterView → Type 0
+SettlesWith end most c = c.workers.hands ≡ [] → turn_bound c.state (length c.workers.waiting) ≤ most → IsUnsettled end → ⊥
+
 -- the end is written
 pub Serves-settled : {T E : Type 0} (most : ℕ) (turns : List Turned) (end : Settle) (a b : ClusterView) (x y z : SinkView) (r : Result T E) → IsSettle most turns end → (HasWorld a → Simulates a (turns_entries turns ++ end_entries end) b)
-    → Said (flat_map turned_lines turns) x y → SaysText (settled_line end) y z r → Serves (Ok (order.Settle most)) a b x z r
-Serves-settled most turns end a b x y z r is simulates said says =
+    → SettlesFor (Turns turns end) (Ok (order.Settle most)) a → Said (flat_map turned_lines turns) x y → SaysText (settled_line end) y z r → Serves (Ok (order.Settle most)) a b x z r
+Serves-settled most turns end a b x y z r is simulates bounded said says =
     record {
       head = flat_map turned_lines turns;
       end = settled_line end;
-      made = record { made = Turns turns end; unsaid = false; makes = is; said = tt; simulates = simulates; whole = refl; last = end_is_last turns end };
+      made = record { made = Turns turns end; unsaid = false; makes = is; said = tt; simulates = simulates; bounded = bounded; whole = refl; last = end_is_last turns end };
       between = y;
       said = said;
       says = says;
@@ -114,14 +124,14 @@ Serves-settled most turns end a b x y z r is simulates said says =
 
 -- it makes no turn more
 pub Serves-over : {T E : Type 0} (most count : ℕ) (end : Settle) (a b c : ClusterView) (x y z : SinkView) (r : Result T E) → MadeTurns count a b x y → count ≤ most → ((turns : List Turned) → length turns ≡ count → EndsBy None most turns end)
-    → Simulates b (end_entries end) c → SaysText (settled_line end) y z r → Serves (Ok (order.Settle most)) a c x z r
-Serves-over most count end a b c x y z r p few ends simulates says =
+    → Simulates b (end_entries end) c → SettlesWith end most a → SaysText (settled_line end) y z r → Serves (Ok (order.Settle most)) a c x z r
+Serves-over most count end a b c x y z r p few ends simulates bounded says =
     let is : IsSettle most p.turns end = record {
       few = let many = p.many in omega (arith, many, few);
       whole = lose_none p.turns p.whole;
       ends = subst (λ loss. EndsBy loss most p.turns end) (sym (loss_none p.turns p.whole)) (ends p.turns p.many);
     } in
-    Serves-settled most p.turns end a c x y z r is (Simulates-after a b c (turns_entries p.turns) (end_entries end) p.simulates (λ _. simulates)) p.said says
+    Serves-settled most p.turns end a c x y z r is (Simulates-after a b c (turns_entries p.turns) (end_entries end) p.simulates (λ _. simulates)) bounded p.said says
 
 some_left : {A : Type 0} (n : ℕ) (xs : List A) → n ≡ length xs → xs ≢ [] → n ≢ 0
 some_left n xs is some zero = some (nil_from_length xs (sym is ∙ zero))
@@ -158,6 +168,16 @@ Simulates-behind (ending.Written version) c stood = Simulates-lost_take c 0 stoo
 Simulates-behind ending.Fault c stood = Simulates-none c stood
 Simulates-behind ending.NoMemory c stood = Simulates-lost_take c 0 stood
 
+-- which is no end of a settle that keys outlast
+behind_settled : (end : Finish) → IsUnsettled (end_behind end) → ⊥
+behind_settled ending.Empty e = e
+behind_settled ending.Nothing e = e
+behind_settled (ending.Conflict seen now) e = e
+behind_settled ending.Spent e = e
+behind_settled (ending.Written version) e = e
+behind_settled ending.Fault e = e
+behind_settled ending.NoMemory e = e
+
 ends_behind : (loss : Option Settle) (most : ℕ) (turns : List Turned) → EndsBy loss most turns (unwrap_or loss settled.NoMemory)
 ends_behind None most turns = tt
 ends_behind (Some loss) most turns = refl
@@ -182,6 +202,7 @@ Serves-lost most count turned end a b c x y z w r p less lost made said says =
     let few : length p.turns < most = let many = p.many in omega (arith, many, less) in
     Serves-settled most turns end a c x z w r (subst (IsSettle most turns) same (IsSettle-behind most p.turns turned p.whole few))
     (λ stood. subst (λ e. Simulates a (turns_entries turns ++ end_entries e) c) same (Simulates-last p.turns turned a b c p.simulates made stood))
+    (λ _ _. subst (λ e. IsUnsettled e → ⊥) same (behind_settled turned.end))
     (Said-turned p.turns turned x y z p.said said) says
 
 -- its lines weren't written, or not whole
@@ -200,6 +221,7 @@ Serves-cut P most count turned a b c x y z e r p less made err says =
         makes = IsSettle-behind most p.turns turned p.whole few;
         said = tt;
         simulates = Simulates-last p.turns turned a b c p.simulates made;
+        bounded = λ _ _. behind_settled turned.end;
         whole = ap (λ l. l ++ settled_line end) (lines_more p.turns turned) ∙ append_assoc (flat_map turned_lines p.turns) (turned_lines turned) (settled_line end);
         last = ([], last_lines_last p.turns turned end);
       };

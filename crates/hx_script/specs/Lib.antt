@@ -5,5 +5,6 @@ pub mod Forms
 pub mod Replies
 pub mod Turns
 pub mod Exchanges
+pub mod Bounded
 pub mod Running
 pub mod Inside

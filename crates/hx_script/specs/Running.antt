@@ -23,12 +23,14 @@ use Rattle.hx_model.specs.declared.ask.Answer.{Answer}
 use Rattle.hx_model.specs.declared.ask.Answer.TheVariants.{Refused}
 use Rattle.hx_model.specs.declared.refusal.Refusal.{Refusal}
 use Rattle.hx_model.specs.declared.refusal.Refusal.TheVariants.{StoreFailed}
+use Rattle.hx_core.specs.Bounding.{AreCounted}
 use Rattle.hx_core.specs.Refinement.{ClusterView, HasWorld, Simulates}
 use Rattle.hx_core.specs.Settling.{IsWhole}
 use Rattle.hx_core.specs.Turns.{turns_entries}
 use Rattle.hx_core.specs.declared.turns.Turned.{Turned}
 use Rattle.hx_script.specs.Lines.{Line, most_line_bytes, script_lines, unended}
 use Rattle.hx_script.specs.Replies.{answer_line}
+use Rattle.hx_script.specs.Bounded.{AreBounded, SettlesFor}
 use Rattle.hx_script.specs.Exchanges.{Made, made_entries, Makes, MayBeUnsaid, Exchange, IsExchange, lines_of, entries_of, answer_lines, said_lines, said_last, last_lines, no_memory_line}
 use Rattle.hx_script.specs.Turns.{turned_lines}
 use Rattle.hx_script.specs.declared.order.Order.{Order}
@@ -42,6 +44,7 @@ abbrev pub LacksLast : List Exchange → List ℕ → Type 0
 LacksLast exchanges lacking = (lacking ≡ []) ⊎ ((before : List Exchange) × (last : Exchange) × (exchanges ≡ before ++ last ∷ []) × IsEndOf (last_lines last) lacking)
 
 -- All lines but the rest were answered by exchanges, whose entries the cluster made if it stood for a world. What was written are their lines, but for what is lacking of the last one.
+-- A settle that had turns enough by the bound, while no worker held a key, didn't end unsettled.
 -- Where a write failed in a settle, its exchange has the turns that were made, and ends with the loss of the last one, or else with a take that was lost: that changes nothing, and its line is among what is lacking.
 pub record Ran (lines rest : List Line) (lacking : List ℕ) (old new : ClusterView) (before after : Option (List ℕ)) : Type 0 where
   pub exchanges : List Exchange
@@ -49,6 +52,7 @@ pub record Ran (lines rest : List Line) (lacking : List ℕ) (old new : ClusterV
   pub each : AllByRecursion IsExchange exchanges
   pub split : lines ≡ lines_of exchanges ++ rest
   pub simulates : HasWorld old → Simulates old (entries_of exchanges) new
+  pub bounded : AreBounded exchanges old new
   pub says : answer_lines exchanges ≡ text ++ lacking
   pub lacks : LacksLast exchanges lacking
   pub wrote : Appends before after text
@@ -110,6 +114,7 @@ pub record HasMade (reading : Result Order Refusal) (head end : List ℕ) (old n
   pub makes : Makes reading made
   pub said : MayBeUnsaid made unsaid
   pub simulates : HasWorld old → Simulates old (made_entries made) new
+  pub bounded : SettlesFor made reading old
   pub whole : said_lines made unsaid ≡ head ++ end
   pub last : IsEndOf (said_last made unsaid) end
 
@@ -128,6 +133,7 @@ pub record MadeTurns (count : ℕ) (old new : ClusterView) (before after : SinkV
   pub many : length turns ≡ count
   pub whole : IsWhole turns
   pub simulates : HasWorld old → Simulates old (turns_entries turns) new
+  pub counted : AreCounted old count new
   pub said : Said (flat_map turned_lines turns) before after
 
 -- no line ends in it

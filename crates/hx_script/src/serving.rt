@@ -106,6 +106,7 @@ pub fn settle<W: Sink, K: Keeper>(
     ensures serves { Serves (Ok (Order.Settle turns)) cluster.old cluster.new (W.shown sink.old) (W.shown sink.new) result }
     ensures idle { IsIdle cluster.new }
 {
+    cluster.law_of_worlds();
     for _made in 0..turns {
         match cluster.turn() {
             Turn::Made(turned) => {
