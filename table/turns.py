@@ -7,11 +7,14 @@ Role its verb), its exception as
 `KEY=TEXT`, the namespace that a copy comes from, and its status (a namespace that is on its way out, what an anchor is told, the children and the
 conditions that a HierarchyConfiguration tells, where there are any, or how many Pods a quota tells, and its limit). Lines are in the short form of turns.txt.
 """
-import itertools
+import copy
 from typing import NamedTuple, Optional
 
 # in the order of their numbers
 KINDS = ("namespace", "hierarchy", "anchor", "quota", "role", "pod")
+# in the order of their turns, and in that of keys
+RANKS = ("purge", "child", "tree", "copy", "report", "anchor", "used")
+KEYS = ("copy", "tree", "report", "child", "anchor", "used", "purge")
 DEPTH = ".tree.hnc.x-k8s.io/depth"
 INCLUDED = "hnc.x-k8s.io/included-namespace"
 
@@ -304,14 +307,41 @@ class Machine:
     def values(self):
         return frozenset((place, value) for place, (value, _) in self.objects.items())
 
-    def settled(self):
-        """The objects, without their versions, in which it may settle: keys may be taken in any order."""
+    def keys(self):
+        """The keys that there are."""
         names = {place[2] for place in self.objects if place[0] in ("namespace", "anchor")}
         roles = {place[2] for place in self.objects if place[0] == "role"}
         anchors = [place[1:] for place in self.objects if place[0] == "anchor"]
         keys = [f"{what} {ns}" for ns in names for what in ("tree", "report", "purge")] + [f"copy {ns} roles {role}" for ns in names for role in roles]
         keys += [f"{what} {ns} {name}" for ns, name in anchors for what in ("child", "anchor")]
-        keys += [f"used {ns} {name}" for kind, ns, name in self.objects if kind == "quota"]
+        return keys + [f"used {ns} {name}" for kind, ns, name in self.objects if kind == "quota"]
+
+    def turn(self, key):
+        """Where a key comes among those that wait: by rank, of copies by how deep the namespace lies, and then by the order of keys."""
+        what, ns, *rest = key.split(" ")
+        return RANKS.index(what), max(len(self.chain(ns)) - 1, 0) if what == "copy" else 0, KEYS.index(what), ns, rest
+
+    def bound(self, waiting):
+        """As many turns as suffice, where so many keys wait and no worker holds one."""
+        leaving = sum(self.home(ns or name) is not None and not self.is_live(ns or name) for _, ns, name in self.objects)
+        left, all_keys = leaving + sum(place[0] == "anchor" for place in self.objects), len(self.keys())
+        return (left + all_keys + 1) * (all_keys + waiting + 1)
+
+    def misled(self, turns):
+        """What is wrong with turns that settle, each a key and its end: one that isn't the first of the keys that want a write, or that ends otherwise."""
+        for key, end in turns:
+            first = min(filter(self.wanted, self.keys()), key=self.turn, default=key)
+            if self.turn(first) < self.turn(key):
+                return f"takes {key} before {first}"
+            self.take(0, key)
+            found = self.finish(0)
+            if found != end:
+                return f"finishes {key} with {end}, and not {found}"
+        return None
+
+    def settled(self):
+        """The objects, without their versions, in which it may settle: keys may be taken in any order."""
+        keys = self.keys()
         todo, seen, ends = [self.objects], set(), set()
         while todo:
             self.objects = todo.pop()
@@ -388,10 +418,10 @@ def interleavings(*sequences):
 
 
 def scripts():
-    """Each script: its title, its lines with their answers, and the states in which it may settle."""
+    """Each script: its title, its lines with their answers, the machine as they leave it, and the states in which it may settle."""
     for title, before, keys, end, writes in STORIES:
         turns = [[f"take {worker} {key}", f"{end} {worker}"] for worker, (key, end) in enumerate(zip(keys, ("finish", end)), 1)]
         for number, lines in enumerate(interleavings(*turns, writes)):
             machine = Machine()
             rows = [(line, machine.line(line)) for line in [*before, *lines]]
-            yield f"{title}, {number}", rows, machine.settled()
+            yield f"{title}, {number}", rows, copy.deepcopy(machine), machine.settled()
