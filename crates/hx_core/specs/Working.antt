@@ -9,7 +9,7 @@
 --     IsKept                      what a worker is answered that holds a brief already
 --     chain_in, sums_in           the chain of facts that have one;  the sums of those that have some
 --     is_removal                  the key of a removal: once its write is made it may want the next one
-use Rattle.std.specs.Prelude.{◌≡◌, ◌<◌, ◌+◌, ℕ, Bool, true, false, List, [], ◌∷◌, Some, None}
+use Rattle.std.specs.Prelude.{◌≡◌, ◌<◌, ◌+◌, ℕ, Bool, true, false, List, [], ◌∷◌, None}
 use Rattle.hx_model.specs.Forest.{Forest}
 use Rattle.hx_model.specs.Hands.{Hand, hand_of, is_held, are_met, may_write, versioned}
 use Rattle.hx_model.specs.Keys.{is_among}
