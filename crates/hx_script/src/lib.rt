@@ -15,5 +15,5 @@ mod worker;
 mod writing;
 
 pub use script::{RunEnd, run_script};
-pub use turns::push_key;
+pub use turns::{push_key, push_settled};
 pub use writing::{Unwritten, write_all};

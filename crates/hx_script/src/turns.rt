@@ -249,6 +249,20 @@ pub fn say_settled<W: Sink>(room: &mut String, sink: &mut W, end: Settle) -> Res
     )
 }
 
+/// Appends the line of a settle's end.
+#[tactic(auto, unfolding(crate::specs::Turns::settled_line))]
+pub fn push_settled(text: &mut String, end: Settle) -> Result<(), NoMemory>
+    ensures { OnOk result (string_bytes text.new ≡ string_bytes text.old ++ settled_line end) }
+{
+    let mut first = Buffer::new();
+    let mut second = Buffer::new();
+    lay_line(
+        text,
+        &["settle: "],
+        &settled_pieces(end, &mut first, &mut second),
+    )
+}
+
 // ---- texts in pieces
 
 /// Appends a key as it is written in a line: its kind and its names, joined by single spaces.
