@@ -6,8 +6,8 @@ use Rattle.clap.specs.Words.{Text}
 use Rattle.hx_words.specs.declared.command.Command.{Command}
 use Rattle.hx_words.specs.declared.command.Report.TheVariants.{Tree, Describe, Quota, Audit}
 use Rattle.hx_words.specs.declared.command.Task.{Task}
-use Rattle.hx_words.specs.declared.command.Task.TheVariants.{Run, Serve, Print}
-use Rattle.hx_words.specs.Words.{command_of, run_of, reading_of}
+use Rattle.hx_words.specs.declared.command.Task.TheVariants.{Run, Serve, Print, Generate}
+use Rattle.hx_words.specs.Words.{command_of, run_of, reading_of, making_of}
 
 -- a command that is asked for
 asking_for : Task → Text → List Text → Bool → Option Command
@@ -260,9 +260,53 @@ running_served : refused (codes "run" ∷ codes "--listen" ∷ codes "x" ∷ [])
 unfolding refused command_of clap_on_literals
 running_served = refl
 
-making : refused (codes "gen" ∷ codes "1" ∷ codes "2" ∷ [])
-unfolding refused command_of clap_on_literals
+making : command_of (codes "gen" ∷ codes "1" ∷ codes "2" ∷ []) ≡ asking_for (Generate (record { number = 1; count = 2 })) [] [] false
+unfolding command_of asking_for clap_on_literals
 making = refl
+
+making_most : command_of (codes "gen" ∷ codes "2147483647" ∷ codes "2048" ∷ []) ≡ asking_for (Generate (record { number = 2147483647; count = 2048 })) [] [] false
+unfolding command_of asking_for clap_on_literals
+making_most = refl
+
+making_least : command_of (codes "gen" ∷ codes "--" ∷ codes "0" ∷ codes "1" ∷ []) ≡ asking_for (Generate (record { number = 0; count = 1 })) [] [] false
+unfolding command_of asking_for clap_on_literals
+making_least = refl
+
+made_of_nothing : refused (codes "gen" ∷ [])
+unfolding refused command_of clap_on_literals
+made_of_nothing = refl
+
+made_of_one : refused (codes "gen" ∷ codes "1" ∷ [])
+unfolding refused command_of clap_on_literals
+made_of_one = refl
+
+made_of_three : refused (codes "gen" ∷ codes "1" ∷ codes "2" ∷ codes "3" ∷ [])
+unfolding refused command_of clap_on_literals
+made_of_three = refl
+
+none_made : refused (codes "gen" ∷ codes "1" ∷ codes "0" ∷ [])
+unfolding refused command_of clap_on_literals
+none_made = refl
+
+many_made : refused (codes "gen" ∷ codes "1" ∷ codes "2049" ∷ [])
+unfolding refused command_of clap_on_literals
+many_made = refl
+
+great_number : refused (codes "gen" ∷ codes "2147483648" ∷ codes "1" ∷ [])
+unfolding refused command_of clap_on_literals
+great_number = refl
+
+no_number_made : refused (codes "gen" ∷ codes "one" ∷ codes "2" ∷ [])
+unfolding refused command_of clap_on_literals
+no_number_made = refl
+
+made_in_file : refused (codes "gen" ∷ codes "1" ∷ codes "2" ∷ codes "--db" ∷ codes "a" ∷ [])
+unfolding refused command_of clap_on_literals
+made_in_file = refl
+
+making_excludes : refused (codes "gen" ∷ codes "1" ∷ codes "2" ∷ codes "--excluded-namespace=a" ∷ [])
+unfolding refused command_of clap_on_literals
+making_excludes = refl
 
 -- ---- events
 
@@ -319,3 +363,11 @@ a_tree_is_no_run = refl
 a_tree_is_a_reading : reading_of (codes "tree" ∷ []) ≡ asking_for (Print Tree) [] [] false
 unfolding command_of asking_for clap_on_literals
 a_tree_is_a_reading = refl
+
+a_making_is_a_making : making_of (codes "gen" ∷ codes "1" ∷ codes "2" ∷ []) ≡ asking_for (Generate (record { number = 1; count = 2 })) [] [] false
+unfolding command_of asking_for clap_on_literals
+a_making_is_a_making = refl
+
+a_making_is_no_reading : reading_of (codes "gen" ∷ codes "1" ∷ codes "2" ∷ []) ≡ None
+unfolding command_of clap_on_literals
+a_making_is_no_reading = refl

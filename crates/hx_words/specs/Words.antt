@@ -5,6 +5,7 @@
 --     describe    NAMESPACE, which has to stand, --db PATH, --excluded-namespace NAMES
 --     quota       --db PATH
 --     audit       --db PATH, --excluded-namespace NAMES
+--     gen         NUMBER 0 to 2147483647 and COUNT 1 to 2048, which have to stand
 -- The words are those behind the program's own name.
 --     hnc                 the command, as the crate `clap` reads it
 --     names_in value      the names that a value joins by commas
@@ -13,6 +14,7 @@
 --     serving_of words    the same, where it serves messages
 --     number_in least most value       the number that a value says, within bounds
 --     reading_of words    the same, where it only reads what is stored
+--     making_of words     the same, where it makes a cluster
 --     fault_told kind     how an error of `clap` is told
 use Rattle.std.specs.Prelude.{ℕ, Bool, true, false, ◌&&◌, ◌==◌, nat_le, List, [], ◌∷◌, slice_index, codes, Option, Some, None, option_and_then, option_map, unwrap_or, if◌then◌else◌}
 use Rattle.std.specs.List.{list_all, slice_split}
@@ -29,7 +31,7 @@ use Rattle.hx_model.specs.declared.config.RunConfig.{RunConfig}
 use Rattle.hx_words.specs.declared.command.Command.{Command}
 use Rattle.hx_words.specs.declared.command.Report.TheVariants.{Tree, Describe, Quota, Audit}
 use Rattle.hx_words.specs.declared.command.Task.{Task}
-use Rattle.hx_words.specs.declared.command.Task.TheVariants.{Run, Serve, Print}
+use Rattle.hx_words.specs.declared.command.Task.TheVariants.{Run, Serve, Print, Generate}
 use Rattle.hx_words.specs.declared.WordsFault.{WordsFault}
 use Rattle.hx_words.specs.declared.WordsFault.TheVariants.{Usage, NoMemory}
 
@@ -55,6 +57,10 @@ flag name = record (new_rule name) { long = Some name; action = Some SetTrue }
 abbrev pub positional : Text → Rule
 positional name = record (new_rule name) { required = true }
 
+-- a number within bounds that has to stand, without an option before it
+abbrev pub number : Text → ℕ → ℕ → Rule
+number name least most = record (positional name) { parser = Some (Unsigned least most) }
+
 -- a subcommand that reads what is stored
 abbrev pub stored : Text → App
 stored name = with_rule (new_app name) (text_option (codes "db"))
@@ -77,6 +83,10 @@ serve = with_rule (with_rule (with_rule listening (number_option (codes "session
 abbrev pub describe : App
 describe = with_rule (in_trees (codes "describe")) (positional (codes "namespace"))
 
+-- the subcommand that makes a cluster, with its two numbers
+abbrev pub generate : App
+generate = with_rule (with_rule (new_app (codes "gen")) (number (codes "number") 0 2147483647)) (number (codes "count") 1 2048)
+
 -- the program: it has to be given a subcommand, and has no help
 abbrev pub program : App
 program = let a = new_app (codes "hnc") in record a {
@@ -96,9 +106,13 @@ changing = with_subcommand (with_subcommand program (running (codes "run")).top)
 abbrev pub trees : App
 trees = with_subcommand (with_subcommand changing (in_trees (codes "tree")).top) describe.top
 
+-- the program with the subcommands that change or read what is stored
+abbrev pub reading : App
+reading = with_subcommand (with_subcommand trees (stored (codes "quota")).top) (in_trees (codes "audit")).top
+
 -- the program with all its subcommands
 abbrev pub hnc : App
-hnc = with_subcommand (with_subcommand trees (stored (codes "quota")).top) (in_trees (codes "audit")).top
+hnc = with_subcommand reading generate.top
 
 -- ---- what is asked for
 
@@ -150,15 +164,29 @@ serving_by listen _ _ _ = None
 abbrev pub serving_in : List Row → Option Task
 serving_in rows = serving_by (value_of rows (codes "listen")) (number_in 1 16 (value_of rows (codes "sessions"))) (number_in 0 16 (value_of rows (codes "workers"))) (number_in 1 1000000 (value_of rows (codes "links")))
 
+-- to make a cluster of so many namespaces, whose parents are drawn from a number
+abbrev pub workload_by : Option ℕ → Option ℕ → Option Task
+workload_by (Some number) (Some count) = Some (Generate (record { number = number; count = count }))
+workload_by _ _ = None
+
+-- to make a cluster, as the numbers say
+abbrev pub workload_in : List Row → Option Task
+workload_in rows = workload_by (number_in 0 2147483647 (value_of rows (codes "number"))) (number_in 1 2048 (value_of rows (codes "count")))
+
+-- the task of a subcommand that prints a report
+abbrev pub printing_of : Text → List Row → Option Task
+printing_of name rows =
+    if bytes_eq name (codes "tree") then Some (Print Tree) else (
+    if bytes_eq name (codes "describe") then description_of (value_of rows (codes "namespace")) else (
+    if bytes_eq name (codes "quota") then Some (Print Quota) else (
+    if bytes_eq name (codes "audit") then Some (Print Audit) else None)))
+
 -- the task that a subcommand names
 abbrev pub task_of : Text → List Row → Option Task
 task_of name rows =
     if bytes_eq name (codes "run") then Some Run else (
     if bytes_eq name (codes "serve") then serving_in rows else (
-    if bytes_eq name (codes "tree") then Some (Print Tree) else (
-    if bytes_eq name (codes "describe") then description_of (value_of rows (codes "namespace")) else (
-    if bytes_eq name (codes "quota") then Some (Print Quota) else (
-    if bytes_eq name (codes "audit") then Some (Print Audit) else None)))))
+    if bytes_eq name (codes "gen") then workload_in rows else printing_of name rows))
 
 -- what a subcommand and its options ask for
 abbrev pub asked_by : Text → List Row → Option Command
@@ -173,7 +201,7 @@ without_fault (fault ∷ faults) asked = None
 unfoldable pub command_of : List Text → Option Command
 command_of words = without_fault (fault_of hnc words) (option_and_then (λ sub. asked_by sub.0 sub.1) (subcommand_of hnc words))
 
--- ---- runs, servings and readings
+-- ---- runs, servings, readings and makings
 
 -- a task that answers a script
 abbrev pub is_run : Task → Bool
@@ -190,6 +218,11 @@ abbrev pub is_reading : Task → Bool
 is_reading (Print report) = true
 is_reading _ = false
 
+-- a task that makes a cluster
+abbrev pub is_making : Task → Bool
+is_making (Generate workload) = true
+is_making _ = false
+
 -- what is asked for, where its task is such a one
 abbrev pub asked_if : (Task → Bool) → Option Command → Option Command
 asked_if is asked = option_and_then (λ (command : Command). if is command.task then Some command else None) asked
@@ -205,6 +238,10 @@ serving_of words = asked_if is_serving (command_of words)
 -- what the words ask for, where it only reads what is stored
 abbrev pub reading_of : List Text → Option Command
 reading_of words = asked_if is_reading (command_of words)
+
+-- what the words ask for, where it makes a cluster
+abbrev pub making_of : List Text → Option Command
+making_of words = asked_if is_making (command_of words)
 
 -- ---- faults
 

@@ -11,7 +11,7 @@ pub struct Command {
     pub task: Task,
     /// The path of the database. The empty path asks for rows in memory.
     pub db: Text,
-    /// What is fixed for the cluster. Only `run` and `serve` can allow to skip rules, and `quota` excludes no namespace.
+    /// What is fixed for the cluster. Only `run` and `serve` can allow to skip rules, and `quota` and `gen` exclude no namespace.
     pub config: RunConfig,
     /// Whether each event is to be printed as it happens. Only `run` and `serve` can ask for it.
     pub events: bool,
@@ -26,6 +26,7 @@ impl Command {
             Task::Run => false,
             Task::Serve(_serving) => false,
             Task::Print(_report) => true,
+            Task::Generate(_workload) => false,
         }
     }
 }
@@ -38,6 +39,8 @@ pub enum Task {
     Serve(Serving),
     /// To print a report on what is stored.
     Print(Report),
+    /// To make a cluster, settle it and print its counts.
+    Generate(Workload),
 }
 
 impl Drop for Task {
@@ -46,6 +49,7 @@ impl Drop for Task {
             Task::Run => {}
             Task::Serve(_) => {}
             Task::Print(_) => {}
+            Task::Generate(_) => {}
         }
     }
 }
@@ -61,6 +65,15 @@ pub struct Serving {
     pub workers: u32,
     /// After how many links to end, 1 to 1,000,000.
     pub links: u64,
+}
+
+/// Which cluster is made.
+#[derive(Clone, Copy)]
+pub struct Workload {
+    /// What the parents of its namespaces are drawn from, 0 to 2,147,483,647.
+    pub number: u32,
+    /// How many namespaces it has, 1 to 2,048.
+    pub count: u32,
 }
 
 /// What is printed of the stored rows.

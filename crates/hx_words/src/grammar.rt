@@ -20,6 +20,13 @@ pub(crate) fn parsed<'a>(alloc: Global, words: &'a [String]) -> Result<ArgMatche
 fn hnc<'a>(alloc: Global) -> Result<Command<'a>, AllocError>
     ensures app { IfOk result (λ command. app_of command ≡ spec.hnc) }
 {
+    reading(alloc)?.subcommand(generate(alloc)?)
+}
+
+/// The program with the subcommands that change or read what is stored.
+fn reading<'a>(alloc: Global) -> Result<Command<'a>, AllocError>
+    ensures app { IfOk result (λ command. app_of command ≡ spec.reading) }
+{
     let trees = trees(alloc)?.subcommand(stored(alloc, "quota")?)?;
     trees.subcommand(in_trees(alloc, "audit")?)
 }
@@ -86,6 +93,15 @@ fn describe<'a>(alloc: Global) -> Result<Command<'a>, AllocError>
     in_trees(alloc, "describe")?.arg(positional(alloc, "namespace"))
 }
 
+/// The subcommand that makes a cluster, with its two numbers.
+fn generate<'a>(alloc: Global) -> Result<Command<'a>, AllocError>
+    ensures app { IfOk result (λ command. app_of command ≡ spec.generate) }
+    ensures local { IfOk result (λ command. (fields_of command).has_globals ≡ false) }
+{
+    let numbered = Command::new(alloc, "gen").arg(number(alloc, "number", 0, 2_147_483_647))?;
+    numbered.arg(number(alloc, "count", 1, 2_048))
+}
+
 /// A subcommand that reads what is stored, with the namespaces that take no part.
 fn in_trees<'a>(alloc: Global, name: &'a str) -> Result<Command<'a>, AllocError>
     ensures app { IfOk result (λ command. app_of command ≡ spec.in_trees name.entry.now) }
@@ -142,4 +158,12 @@ fn positional<'a>(alloc: Global, name: &'a str) -> Arg<'a>
     ensures local { result.global ≡ false }
 {
     Arg::new(alloc, name).required(true)
+}
+
+/// A number within bounds that has to stand, without an option before it.
+fn number<'a>(alloc: Global, name: &'a str, least: u64, most: u64) -> Arg<'a>
+    ensures rule { rule_of result ≡ spec.number name.entry.now least most }
+    ensures local { result.global ≡ false }
+{
+    positional(alloc, name).value_parser(ValueParser::unsigned(least, most))
 }

@@ -10,6 +10,7 @@
 //! | `describe` | `NAMESPACE`, which has to stand, `--db PATH`, `--excluded-namespace NAMES` |
 //! | `quota` | `--db PATH` |
 //! | `audit` | `--db PATH`, `--excluded-namespace NAMES` |
+//! | `gen` | `NUMBER` and `COUNT`, which have to stand |
 #![tactic(auto)]
 
 mod command;
@@ -19,9 +20,9 @@ mod untaken;
 
 ghost use Rattle.std.specs.Prelude.{◌≡◌, ◌≤◌, map, IfOk, IfSome, IsErrOf, None, Some, string_bytes};
 ghost use Rattle.clap.specs.Words.{found_of, rows_of};
-ghost use Rattle.hx_words.specs.Words.{asked_by, command_of, config_of, description_of, has_events, if_within, number_in, serving_in, task_of, value_of};
+ghost use Rattle.hx_words.specs.Words.{asked_by, command_of, config_of, description_of, has_events, if_within, number_in, printing_of, serving_in, task_of, value_of, workload_in};
 
-pub use crate::command::{Command, Report, Serving, Task};
+pub use crate::command::{Command, Report, Serving, Task, Workload};
 use crate::grammar::parsed;
 use crate::names::{has_names, names_in};
 pub use crate::untaken::first_untaken;
@@ -76,7 +77,7 @@ impl From<AllocError> for WordsFault {
 
 /// Reads the words behind the program's name: a subcommand, and behind it what it takes, in any order and each at most once.
 ///
-/// PATH and ADDRESS are any text. A NUMBER is one as `clap` reads it: 1 to 16 sessions (else 4), 0 to 16 workers (2), 1 to 1,000,000 links (1,000,000). NAMES are names of namespaces (DNS labels), joined by commas; the empty value has none. NAMESPACE is the name of one.
+/// PATH and ADDRESS are any text. A NUMBER is one as `clap` reads it: 1 to 16 sessions (else 4), 0 to 16 workers (2), 1 to 1,000,000 links (1,000,000); what parents are drawn from is 0 to 2,147,483,647, and a COUNT 1 to 2,048. NAMES are names of namespaces (DNS labels), joined by commas; the empty value has none. NAMESPACE is the name of one.
 /// As is usual with `clap`, `--db=PATH` and `--excluded-namespace=NAMES` are taken too, and a PATH that begins with a dash and has more bytes only so; a word `--` says that no option follows.
 /// `Usage` where the words aren't taken: another word, a missing value, an option twice, a value out of form, and a request for help or a version.
 pub fn read_words(alloc: Global, words: &[String]) -> Result<Command, WordsFault>
@@ -121,6 +122,17 @@ fn task_of(alloc: Global, name: &str, options: &ArgMatches<'_>) -> Result<Task, 
     match name {
         "run" => Ok(Task::Run),
         "serve" => serving_in(alloc, options),
+        "gen" => workload_in(options),
+        _ => printing_of(alloc, name, options),
+    }
+}
+
+/// The task of a subcommand that prints a report.
+fn printing_of(alloc: Global, name: &str, options: &ArgMatches<'_>) -> Result<Task, WordsFault>
+    ensures task { IfOk result (λ task. printing_of name.now (rows_of (found_of options.now)) ≡ Some task) }
+    ensures usage { IsErrOf result WordsFault.Usage → printing_of name.now (rows_of (found_of options.now)) ≡ None }
+{
+    match name {
         "tree" => Ok(Task::Print(Report::Tree)),
         "describe" => description_of(alloc, value_of(options, "namespace")),
         "quota" => Ok(Task::Print(Report::Quota)),
@@ -148,6 +160,23 @@ fn serving_in(alloc: Global, options: &ArgMatches<'_>) -> Result<Task, WordsFaul
         sessions: sessions as u32,
         workers: workers as u32,
         links,
+    }))
+}
+
+/// To make a cluster, as the numbers say.
+fn workload_in(options: &ArgMatches<'_>) -> Result<Task, WordsFault>
+    ensures task { IfOk result (λ task. workload_in (rows_of (found_of options.now)) ≡ Some task) }
+    ensures usage { IsErrOf result WordsFault.Usage → workload_in (rows_of (found_of options.now)) ≡ None }
+{
+    let Some(number) = number_in(0, 2_147_483_647, value_of(options, "number")) else {
+        return Err(WordsFault::Usage);
+    };
+    let Some(count) = number_in(1, 2_048, value_of(options, "count")) else {
+        return Err(WordsFault::Usage);
+    };
+    Ok(Task::Generate(Workload {
+        number: number as u32,
+        count: count as u32,
     }))
 }
 

@@ -31,6 +31,7 @@ enum Wanted {
 #[derive(Clone, Copy)]
 enum Form {
     Text,
+    Name,
     Names,
     Number { least: u64, most: u64 },
 }
@@ -83,25 +84,43 @@ fn after_option(subcommand: &str, before: &[String], word: &str) -> Option<Wante
     }
 }
 
-/// What has to come behind a value without an option: the name of a namespace, which only one subcommand takes, and once.
+/// What has to come behind a value without an option, where the subcommand takes one more.
 fn after_value(subcommand: &str, before: &[String], word: &str, next: Wanted) -> Option<Wanted> {
-    if subcommand != "describe" || !is_dns_label(word.as_bytes()) || has_value(before) {
+    let form = form_of_value(subcommand, values_in(before))?;
+    if !has_form(form, word) {
         return None;
     }
     Some(next)
 }
 
-/// Whether a value without an option is among the words: one that neither is an option nor follows one.
-fn has_value(words: &[String]) -> bool {
+/// What a value without an option has to be, behind so many others.
+fn form_of_value(subcommand: &str, before: usize) -> Option<Form> {
+    match (subcommand, before) {
+        ("describe", 0) => Some(Form::Name),
+        ("gen", 0) => Some(Form::Number {
+            least: 0,
+            most: 2_147_483_647,
+        }),
+        ("gen", 1) => Some(Form::Number {
+            least: 1,
+            most: 2_048,
+        }),
+        _ => None,
+    }
+}
+
+/// How many values without an option are among the words: those that neither are options nor follow one.
+fn values_in(words: &[String]) -> usize {
+    let mut count: usize = 0;
     let mut follows = false;
     for word in words {
         let option = is_dashed(word.as_str());
         if !option && !follows {
-            return true;
+            count = count.saturating_add(1);
         }
         follows = option && word.as_str() != "--" && !word.as_str().contains('=');
     }
-    false
+    count
 }
 
 /// Whether an option is among the words, alone or with its value.
@@ -115,13 +134,14 @@ fn is_given(words: &[String], option: &str) -> bool {
 fn is_subcommand(word: &str) -> bool {
     matches!(
         word,
-        "run" | "serve" | "tree" | "describe" | "quota" | "audit"
+        "run" | "serve" | "tree" | "describe" | "quota" | "audit" | "gen"
     )
 }
 
 /// What an option of a subcommand takes, where the subcommand has it.
 fn taken_by(subcommand: &str, option: &str) -> Option<Taken> {
     match option {
+        _ if subcommand == "gen" => None,
         "--db" => Some(Taken::Value(Form::Text)),
         "--excluded-namespace" if subcommand != "quota" => Some(Taken::Value(Form::Names)),
         "--allow-skip" | "--events" if subcommand == "run" || subcommand == "serve" => Some(
@@ -149,6 +169,7 @@ fn taken_in_serving(option: &str) -> Option<Taken> {
 fn has_form(form: Form, value: &str) -> bool {
     match form {
         Form::Text => true,
+        Form::Name => is_dns_label(value.as_bytes()),
         Form::Names => has_names(value),
         Form::Number { least, most } => match value.parse::<u64>() {
             Ok(number) => least <= number && number <= most,
