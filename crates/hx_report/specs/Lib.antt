@@ -4,4 +4,5 @@ pub mod Outlined
 pub mod Trees
 pub mod Describing
 pub mod Sums
+pub mod Summing
 pub mod Inside

@@ -1,6 +1,5 @@
 // What is told of one namespace.
-ghost use Rattle.std.specs.Prelude.{◌≡◌, ◌++◌, ◌∷◌, [], codes, IfOk, OnOk, option_copied, string_bytes};
-ghost use Rattle.std.specs.Fmt.{decimal};
+ghost use Rattle.std.specs.Prelude.{◌≡◌, ◌++◌, codes, IfOk, OnOk, option_copied, string_bytes};
 ghost use Rattle.hx_model.specs.Forest.{depth_of, node_of, parent_of};
 ghost use Rattle.hx_model.specs.Limits.{is_copy};
 ghost use Rattle.hx_model.specs.Propagation.{as_list, is_source};
@@ -9,11 +8,10 @@ ghost use Rattle.hx_survey.specs.Surveyed.{tree_of};
 ghost use Rattle.hx_report.specs.Describing.{counts_lines, describe_text, number_in, place_lines};
 ghost use Rattle.hx_report.specs.Words.{named_line};
 
-use crate::words::{push_names_line, push_reasons_line, push_word_line};
+use crate::words::{push_names_line, push_number_line, push_reasons_line, push_word_line};
 use hx_model::{Node, is_copy, is_source};
 use hx_object::{Id, NoMemory, Shared, Text};
 use hx_survey::Survey;
-use itoa::Buffer;
 
 /// What is told of a namespace: its name, its parent, its children, the reasons of its conditions, how deep it stands, and how many sources and copies lie in it, a line each.
 ///
@@ -53,16 +51,16 @@ fn push_parent(out: &mut String, parent: Option<&Text>) -> Result<(), NoMemory>
 fn push_counts(out: &mut String, survey: &Survey, ns: &Text) -> Result<(), NoMemory>
     ensures { OnOk result (string_bytes out.new ≡ string_bytes out.old ++ counts_lines survey.now.objects (tree_of survey.now) ns.now) }
 {
-    let depth = survey.chain(ns)?.len().saturating_sub(1);
-    push_number_line(out, "depth", depth)?;
+    push_number_line(out, "depth", depth_of(survey, ns)?)?;
     push_number_line(out, "sources", sources_in(survey.objects(), ns))?;
     push_number_line(out, "copies", copies_in(survey.objects(), ns))
 }
 
-fn push_number_line(out: &mut String, name: &str, number: usize) -> Result<(), NoMemory>
-    ensures { OnOk result (string_bytes out.new ≡ string_bytes out.old ++ named_line name.now (decimal number ∷ [])) }
+/// How far a namespace is from the end of its chain.
+pub(crate) fn depth_of(survey: &Survey, ns: &Text) -> Result<usize, NoMemory>
+    ensures { IfOk result (λ depth. depth ≡ depth_of (tree_of survey.now) ns.now) }
 {
-    push_word_line(out, name, Buffer::new().format(number))
+    Ok(survey.chain(ns)?.len().saturating_sub(1))
 }
 
 /// What a namespace names as its parent.

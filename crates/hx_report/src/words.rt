@@ -1,10 +1,12 @@
 // Words and lines of a report.
 ghost use Rattle.std.specs.Prelude.{◌≡◌, ◌++◌, [], ◌∷◌, map, string_bytes, OnOk};
+ghost use Rattle.std.specs.Fmt.{decimal};
 ghost use Rattle.std.specs.List.{flat_map};
 ghost use Rattle.hx_object.specs.Json.{reason_text};
 ghost use Rattle.hx_report.specs.Words.{named_line, spaced, words_text};
 
 use hx_object::{Condition, NoMemory, Text};
+use itoa::Buffer;
 
 /// Appends a text as it is.
 pub(crate) fn push(out: &mut String, text: &str) -> Result<(), NoMemory>
@@ -28,6 +30,13 @@ pub(crate) fn push_word_line(out: &mut String, name: &str, word: &str) -> Result
     push(out, name)?;
     push_spaced(out, word)?;
     push(out, "\n")
+}
+
+/// Appends a line of a name and a number.
+pub(crate) fn push_number_line(out: &mut String, name: &str, number: usize) -> Result<(), NoMemory>
+    ensures { OnOk result (string_bytes out.new ≡ string_bytes out.old ++ named_line name.now (decimal number ∷ [])) }
+{
+    push_word_line(out, name, Buffer::new().format(number))
 }
 
 /// Appends a line of a name and the words behind it.
