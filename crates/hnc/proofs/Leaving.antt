@@ -135,6 +135,12 @@ carries words entries keeper keeper' a b starts is simulates =
       told = there.told;
     }
 
+-- where it begins and ends
+pub carries_ends : (words : Command) (entries : History) (keeper keeper' : KeeperView) (a b : ClusterView) (starts : Starts words keeper a) (is : keeper' ≡ b.keeper) (simulates : HasWorld a → Simulates a entries b)
+    → ((carries words entries keeper keeper' a b starts is simulates).first ≡ a.state) × ((carries words entries keeper keeper' a b starts is simulates).last ≡ replay (opening_world keeper.broken a.state) entries)
+unfolding carries
+carries_ends words entries keeper keeper' a b starts is simulates = (refl, refl)
+
 -- a run of a cluster that was started
 leaves : (words : Command) (script : List ℕ) (rest : List Line) (lacking : List ℕ) (sink sink' : SinkView) (keeper keeper' : KeeperView) (a b : ClusterView)
     → Starts words keeper a → keeper' ≡ b.keeper → Ran (script_lines script) rest lacking a b sink.written sink'.written → Leaves words script rest lacking sink sink' keeper keeper'

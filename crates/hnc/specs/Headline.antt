@@ -8,8 +8,10 @@
 --     LeavesRead                 of one whose source failed: each line that ended before has its answer
 --     LeavesServed               what serving links one after the other leaves: such a history of their messages and of the settles behind them
 --     LeavesShared               what serving them beside one another leaves: such a history of the calls of all sessions and workers
+--     LeavesMade                 what making a cluster of a given size leaves: such a history of its asks and of the settle behind them, and what it writes
+--     LeavesMadeInPart           the same where no memory was left on the way
 --     OfRun words source P       there is a script with P, for the run that the words ask for: the one that the source tells, where it tells
---     IsCarriedOut, IsCutShort   a run reached its script's end, a report was printed, or links were served;  the first part of a run or a report was
+--     IsCarriedOut, IsCutShort   a run reached its script's end, a report was printed, links were served, or a cluster was made;  the first part of what is written was
 --     is_cut_short, has_not_begun      what a status says of a command
 --     IsUnbegun                  nothing was begun
 --     IsLeftByDoor               what a command leaves whose door failed
@@ -24,19 +26,25 @@ use Rattle.hx_ports.specs.Views.{KeeperView, SinkView, SourceView}
 use Rattle.hx_watch.specs.Watching.{HaveFollowed}
 use Rattle.hx_words.specs.declared.command.Command.{Command}
 use Rattle.hx_words.specs.declared.command.Task.{Task}
-use Rattle.hx_words.specs.declared.command.Task.TheVariants.{Serve}
+use Rattle.hx_words.specs.declared.command.Task.TheVariants.{Generate, Serve}
 use Rattle.hx_model.specs.State.{State}
 use Rattle.hx_model.specs.Overruns.{IsHeldBetween, KeepsLimits}
 use Rattle.hx_model.specs.Machine.{World, History, Checked, opening_world, IsHistory, replay, loses_to_fault}
 use Rattle.hx_model.specs.Settled.{IsSettled}
+use Rattle.hx_model.specs.declared.ask.Ask.{Ask}
 use Rattle.hx_model.specs.declared.resource.Resource.{Resource}
 use Rattle.hx_model.specs.Excess.{BeginsOnlyThere, HoldsOn}
 use Rattle.hx_model.specs.Happening.{events_in}
 use Rattle.hx_model.specs.Known.{SpeaksOfKeys, none_known}
 use Rattle.hx_core.specs.Refinement.{AllValid, IsKeptOf, kept_of}
 use Rattle.hx_core.specs.Starting.{IsUndamaged}
+use Rattle.hx_core.specs.declared.turns.Settle.{Settle}
+use Rattle.hx_core.specs.declared.turns.Settle.TheVariants as settled
+use Rattle.hx_core.specs.declared.turns.Turned.{Turned}
+use Rattle.hx_gen.specs.Asked.{asks_of}
 use Rattle.hnc.specs.declared.top.Status.{Status}
 use Rattle.hnc.specs.declared.top.Status.TheVariants.{Done, Usage, ReadFault, WriteFault, KeeperFault, Damaged, NoMemory, DoorFault, Unsettled, TooLong, NotFound}
+use Rattle.hnc.specs.Generating.{HasAnswer, HasEnded, Made, asks_in, entries_in, settled_entries, told_of}
 use Rattle.hnc.specs.Reports.{PrintsWhole, PrintsFront}
 use Rattle.hnc.specs.Serving.{is_alone}
 use Rattle.hx_door.specs.Doors.{DoorView}
@@ -149,20 +157,54 @@ LeavesServedBy served _ result door door' keeper keeper' = ⊥
 abbrev pub LeavesLinks : Command → (Result ℕ Fault → Type 0) → DoorView → DoorView → KeeperView → KeeperView → Type 0
 LeavesLinks served P door door' keeper keeper' = (result : Result ℕ Fault) × P result × LeavesServedBy served served.task result door door' keeper keeper'
 
+-- A cluster was made and settled. There is one history of the machine: its entries are the asks, each with its answer, and the turns of a settle behind them, and none was lost for want of memory. What is written is what the state that it leaves counts, and how settling ended, but for what is lacking.
+-- Where no version had been given out before, settling ended with all settled, or by a fault of the keeper, whose count rose.
+pub record LeavesMade (command : Command) (asks : List Ask) (lacking : List ℕ) (sink sink' : SinkView) (keeper keeper' : KeeperView) : Type 0 where
+  pub made : Made
+  pub turns : List Turned
+  pub end : Settle
+  pub is : asks_in made ≡ asks
+  pub answered : AllByRecursion HasAnswer made
+  pub ended : AllByRecursion HasEnded turns
+  pub carries : Carries command (entries_in made ++ settled_entries turns end) keeper keeper'
+  pub text : List ℕ
+  pub tells : told_of carries.last.state end ≡ text ++ lacking
+  pub wrote : Appends sink.written sink'.written text
+  pub sure : carries.first.last ≡ 0 → (end ≡ settled.Settled) ⊎ ((end ≡ settled.Fault) × Rose keeper.faults keeper'.faults)
+
+-- no memory was left on the way: the first of the asks were made, the settle behind them was begun where all of them were, and nothing was written
+pub record LeavesMadeInPart (command : Command) (asks : List Ask) (sink sink' : SinkView) (keeper keeper' : KeeperView) : Type 0 where
+  pub made : Made
+  pub rest : List Ask
+  pub settling : History
+  pub is : asks ≡ asks_in made ++ rest
+  pub are : (settling ≡ []) ⊎ ((rest ≡ []) × ((turns : List Turned) × (end : Settle) × (settling ≡ settled_entries turns end)))
+  pub carries : Carries command (entries_in made ++ settling) keeper keeper'
+  pub unwritten : sink' ≡ sink
+
+-- so it was with a task that makes a cluster, by the asks of its two numbers
+abbrev pub OfAsks : Task → (List Ask → Type 0) → Type 0
+OfAsks (Generate workload) P = P (asks_of workload.number workload.count)
+OfAsks _ P = ⊥
+
+abbrev pub OfMaking : Option Command → (Command → List Ask → Type 0) → Type 0
+OfMaking making P = IsSomeAnd making (λ command. OfAsks command.task (P command))
+
 -- the words ask for a run, and there is a script with this property. Where the source tells its bytes, it is these.
 abbrev pub OfRun : Option Command → SourceView → (Command → List ℕ → Type 0) → Type 0
 OfRun words source P = IsSomeAnd words (λ run. OfScript source.left (P run))
 
--- the words ask for a run that reached the end of its script, or for a report that was printed, or for links that were served
-abbrev pub IsCarriedOut : Option Command → Option Command → Option Command → Status → SourceView → SinkView → SinkView → KeeperView → KeeperView → DoorView → DoorView → Type 0
-IsCarriedOut run reading serving status source sink sink' keeper keeper' door door' =
+-- the words ask for a run that reached the end of its script, or for a report that was printed, or for links that were served, or for a cluster that was made
+abbrev pub IsCarriedOut : Option Command → Option Command → Option Command → Option Command → Status → SourceView → SinkView → SinkView → KeeperView → KeeperView → DoorView → DoorView → Type 0
+IsCarriedOut run reading serving making status source sink sink' keeper keeper' door door' =
     OfRun run source (λ command script. LeavesWhole command script sink sink' keeper keeper') ⊎ IsSomeAnd reading (λ command. PrintsWhole command status sink sink' keeper keeper')
-    ⊎ IsSomeAnd serving (λ command. LeavesLinks command IsOk door door' keeper keeper')
+    ⊎ IsSomeAnd serving (λ command. LeavesLinks command IsOk door door' keeper keeper') ⊎ OfMaking making (λ command asks. LeavesMade command asks [] sink sink' keeper keeper')
 
--- the words ask for a run or for a report, of which the first part was written
-abbrev pub IsCutShort : Option Command → Option Command → SourceView → SinkView → SinkView → KeeperView → KeeperView → Type 0
-IsCutShort run reading source sink sink' keeper keeper' =
+-- the words ask for a run, for a report, or for a cluster that is made, of which the first part was written
+abbrev pub IsCutShort : Option Command → Option Command → Option Command → SourceView → SinkView → SinkView → KeeperView → KeeperView → Type 0
+IsCutShort run reading making source sink sink' keeper keeper' =
     OfRun run source (λ command script. LeavesFront command script sink sink' keeper keeper') ⊎ IsSomeAnd reading (λ command. PrintsFront command sink sink' keeper keeper')
+    ⊎ OfMaking making (λ command asks. (lacking : List ℕ) × LeavesMade command asks lacking sink sink' keeper keeper')
 
 -- what began and wasn't carried out, memory apart
 abbrev pub is_cut_short : Status → Bool

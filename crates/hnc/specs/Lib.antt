@@ -1,3 +1,4 @@
+pub mod Generating
 pub mod Headline
 pub mod Printed
 pub mod Reports

@@ -1,7 +1,9 @@
-//! `hnc`: the control service of hierarchical namespaces, as a program over scripts of requests and links of HTTP, with reports on what they leave.
+//! `hnc`: the control service of hierarchical namespaces, as a program over scripts of requests and links of HTTP, with reports on what they leave, and clusters made for trials.
 #![tactic(auto)]
 
+mod bounding;
 mod events;
+mod generating;
 mod printing;
 mod serving;
 #[cfg(test)]
@@ -39,7 +41,8 @@ usage: hnc run [--db PATH] [--excluded-namespace NAMES] [--allow-skip] [--events
        hnc tree [--db PATH] [--excluded-namespace NAMES]
        hnc describe NAMESPACE [--db PATH] [--excluded-namespace NAMES]
        hnc quota [--db PATH]
-       hnc audit [--db PATH] [--excluded-namespace NAMES]";
+       hnc audit [--db PATH] [--excluded-namespace NAMES]
+       hnc gen NUMBER COUNT";
 
 /// What a keeper without rows says of itself.
 const NO_ROWS: Meta = Meta {

@@ -17,6 +17,7 @@ use std::thread::Threads;
 mod ample;
 mod damage;
 mod events;
+mod generating;
 mod reports;
 mod serving;
 mod sharing;

@@ -3,11 +3,12 @@ ghost use Rattle.std.specs.Prelude.{ℕ, ◌≡◌, ◌≢◌, ◌≤◌, ◌<�
 ghost use Rattle.std.specs.Io.KnownBytes.{IsAtEnd};
 ghost use Rattle.hx_ports.specs.Causes.{Rose};
 ghost use Rattle.hx_core.specs.Starting.{IsUndamaged, Tells};
-ghost use Rattle.hnc.specs.Headline.{LeavesFront, LeavesRead, OfRun, IsCarriedOut, IsCutShort, IsLeftByDoor, IsUnbegun, is_complete, is_cut_short, has_not_begun, code_of_status};
+ghost use Rattle.hnc.specs.Headline.{LeavesFront, LeavesMadeInPart, LeavesRead, OfMaking, OfRun, IsCarriedOut, IsCutShort, IsLeftByDoor, IsUnbegun, is_complete, is_cut_short, has_not_begun, code_of_status};
 ghost use Rattle.hnc.specs.Reports.{PrintsWhole};
-ghost use Rattle.hx_words.specs.Words.{command_of, reading_of, run_of, serving_of};
+ghost use Rattle.hx_words.specs.Words.{command_of, making_of, reading_of, run_of, serving_of};
 ghost use Rattle.hx_script.specs.Running.{IsCalm, most_bytes};
 
+use crate::generating::generate;
 use crate::printing::print;
 use crate::serving::serve_at;
 use hx_core::{Cluster, Damage, StartFault, Unstarted};
@@ -25,7 +26,7 @@ use std::thread::Threads;
 /// How a command ended. The discriminant is the exit status of the program.
 #[derive(Clone, Copy, Debug, PartialEq, Eq)]
 pub enum Status {
-    /// The command was carried out: the script was read to its end, and each line answered; the links were served; or the report was printed.
+    /// The command was carried out: the script was read to its end, and each line answered; the links were served; the report was printed; or the cluster was made and settled, and its counts printed.
     Done = 0,
     /// The words aren't taken.
     Usage = 1,
@@ -76,7 +77,7 @@ pub struct DamagedRow {
     pub key: Option<List<u8>>,
 }
 
-/// Does all that the program does, over a keeper of the stored rows, which takes its place at the path that the words give, or in memory: reads the script of `run` and answers its lines, answers the messages of the links that the door of `serve` gives, or prints a report on the rows.
+/// Does all that the program does, over a keeper of the stored rows, which takes its place at the path that the words give, or in memory: reads the script of `run` and answers its lines, answers the messages of the links that the door of `serve` gives, prints a report on the rows, or makes the cluster of `gen`, settles it and prints its counts.
 ///
 /// Links are answered by several sessions, with workers beside them, each in a thread of its own. `notices` is told of links that end otherwise than closed.
 ///
@@ -107,10 +108,10 @@ where
     requires { (K.shown keeper).place ≡ None }
 
     // Answers, stored objects and the events that watchers were told of are a run of the machine. A report is one on the rows, which stay.
-    ensures done { result.status ≡ Status.Done → IsCarriedOut (run_of (map string_bytes words.now)) (reading_of (map string_bytes words.now)) (serving_of (map string_bytes words.now)) Status.Done (S.shown source.old) (W.shown sink.old) (W.shown sink.new) (K.shown keeper) (K.shown result.keeper) (D.shown door) (D.shown result.door) }
-    ensures cut { is_cut_short result.status ≡ true → IsCutShort (run_of (map string_bytes words.now)) (reading_of (map string_bytes words.now)) (S.shown source.old) (W.shown sink.old) (W.shown sink.new) (K.shown keeper) (K.shown result.keeper) }
+    ensures done { result.status ≡ Status.Done → IsCarriedOut (run_of (map string_bytes words.now)) (reading_of (map string_bytes words.now)) (serving_of (map string_bytes words.now)) (making_of (map string_bytes words.now)) Status.Done (S.shown source.old) (W.shown sink.old) (W.shown sink.new) (K.shown keeper) (K.shown result.keeper) (D.shown door) (D.shown result.door) }
+    ensures cut { is_cut_short result.status ≡ true → IsCutShort (run_of (map string_bytes words.now)) (reading_of (map string_bytes words.now)) (making_of (map string_bytes words.now)) (S.shown source.old) (W.shown sink.old) (W.shown sink.new) (K.shown keeper) (K.shown result.keeper) }
     ensures unbegun { has_not_begun result.status ≡ true → IsUnbegun (command_of (map string_bytes words.now)) source.old source.new sink.old sink.new (K.shown keeper) (K.shown result.keeper) }
-    ensures memory { result.status ≡ Status.NoMemory → IsUnbegun (command_of (map string_bytes words.now)) source.old source.new sink.old sink.new (K.shown keeper) (K.shown result.keeper) ⊎ OfRun (run_of (map string_bytes words.now)) (S.shown source.old) (λ command script. LeavesFront command script (W.shown sink.old) (W.shown sink.new) (K.shown keeper) (K.shown result.keeper)) }
+    ensures memory { result.status ≡ Status.NoMemory → IsUnbegun (command_of (map string_bytes words.now)) source.old source.new sink.old sink.new (K.shown keeper) (K.shown result.keeper) ⊎ OfRun (run_of (map string_bytes words.now)) (S.shown source.old) (λ command script. LeavesFront command script (W.shown sink.old) (W.shown sink.new) (K.shown keeper) (K.shown result.keeper)) ⊎ OfMaking (making_of (map string_bytes words.now)) (λ command asks. LeavesMadeInPart command asks (W.shown sink.old) (W.shown sink.new) (K.shown keeper) (K.shown result.keeper)) }
     ensures unread { result.status ≡ Status.ReadFault → IsSomeAnd (run_of (map string_bytes words.now)) (λ command. LeavesRead command (S.shown source.old) (S.shown source.new) (W.shown sink.old) (W.shown sink.new) (K.shown keeper) (K.shown result.keeper)) }
     ensures left { result.status ≡ Status.DoorFault → IsLeftByDoor (command_of (map string_bytes words.now)) (serving_of (map string_bytes words.now)) source.old source.new sink.old sink.new (K.shown keeper) (K.shown result.keeper) (D.shown door) (D.shown result.door) }
     ensures unsettled { result.status ≡ Status.Unsettled → IsSomeAnd (reading_of (map string_bytes words.now)) (λ command. PrintsWhole command Status.Unsettled (W.shown sink.old) (W.shown sink.new) (K.shown keeper) (K.shown result.keeper)) }
@@ -175,6 +176,10 @@ where
             Task::Serve(serving) => serve_at(threads, alloc, door, notices, cluster, serving),
             Task::Print(report) => {
                 let status = print(alloc, &cluster, report, sink);
+                end_with(status, cluster.close(), door)
+            }
+            Task::Generate(workload) => {
+                let status = generate(alloc, &mut cluster, *workload, sink);
                 end_with(status, cluster.close(), door)
             }
         },
