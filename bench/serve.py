@@ -4,7 +4,8 @@
 Usage: bench/serve.py [PROGRAM [SECONDS]]
 PROGRAM is the built program, crates/hnc/out/hnc where none is given. It needs wrk and nginx. Prints a line each:
 the GET of an object of 300 bytes over one keep-alive link beside nginx's file of the same bytes, by wrk, in turns of SECONDS (3) each: requests per second and
-processor time a request, as ratios of the program's to nginx's, each the median of five, with its range; the calls of the system a request, by strace where it
+processor time a request, as ratios of the program's to nginx's, each the median of five, with its range; the same over 4 and 16 links at a time, each with
+a session of its own, beside nginx with four workers; the calls of the system a request, by strace where it
 is there; the blocks of memory that a GET makes over a link and in a script, and a link, by valgrind where it is there; and the processor time of a POST of
 1 KiB in memory over a link, and of the same POST in a script, in turns, the medians of five. Each answer's status is looked at.
 """
@@ -26,12 +27,14 @@ TICK = os.sysconf("SC_CLK_TCK")
 POSTS = 20_000
 GETS = 1_000
 LINKS = 100
+# So many links at a time, and how many workers nginx has then.
+BESIDE = ((1, 1), (4, 4), (16, 4))
 NAMESPACE = '{"apiVersion":"v1","kind":"Namespace","metadata":{"name":"n"}}'
 CONFIG_MAPS = "/api/v1/namespaces/n/configmaps"
 
 NGINX = """
 {user}
-worker_processes 1;
+worker_processes {workers};
 daemon off;
 pid {folder}/nginx.pid;
 error_log {folder}/error.log;
@@ -51,9 +54,9 @@ def processor_time(pid):
     return sum(sum(map(int, open(f"/proc/{its}/stat").read().rpartition(")")[2].split()[11:13])) for its in [pid, *children]) / TICK
 
 
-def serve(*before):
+def serve(*before, sessions=4):
     """A server on a free port. Its child and the port."""
-    child = subprocess.Popen([*before, PROGRAM, "serve", "--listen", "127.0.0.1:0"], stdin=subprocess.DEVNULL, stderr=subprocess.PIPE)
+    child = subprocess.Popen([*before, PROGRAM, "serve", "--listen", "127.0.0.1:0", "--sessions", str(sessions)], stdin=subprocess.DEVNULL, stderr=subprocess.PIPE)
     while not (ready := re.fullmatch(rb"hnc: serving on 127\.0\.0\.1:(\d+)\n", child.stderr.readline())):
         if child.poll() is not None:
             raise SystemExit("no server begins")
@@ -69,9 +72,9 @@ def ask(link, method, target, body=None, wanted=200):
     return text
 
 
-def with_object(*before):
+def with_object(*before, sessions=4):
     """A server that has one ConfigMap, as `serve` gives it, with a link to it, and the text of the object."""
-    child, port = serve(*before)
+    child, port = serve(*before, sessions=sessions)
     link = http.client.HTTPConnection("127.0.0.1", port)
     ask(link, "POST", "/api/v1/namespaces", NAMESPACE, 201)
     ask(link, "POST", CONFIG_MAPS, config_map("c", 262), 201)
@@ -84,10 +87,10 @@ def config_map(name, size):
     return body("x" * (size - len(body(""))))
 
 
-def wrk(url, seconds, pid):
-    """Requests per second, and microseconds of processor time each."""
+def wrk(url, seconds, pid, links):
+    """Requests per second over so many links, and microseconds of the server's processor time each."""
     before = processor_time(pid)
-    out = subprocess.run(["wrk", "-t1", "-c1", f"-d{seconds}s", url], capture_output=True, text=True, check=True).stdout
+    out = subprocess.run(["wrk", "-t1", f"-c{links}", f"-d{seconds}s", url], capture_output=True, text=True, check=True).stdout
     if "Non-2xx" in out or "Socket errors" in out:
         raise SystemExit(out)
     count = int(re.search(r"(\d+) requests in", out)[1])
@@ -100,32 +103,41 @@ def ratio(mine, its):
     return f"{statistics.median(ratios):.2f} ({ratios[0]:.2f} to {ratios[-1]:.2f})"
 
 
-def gets(folder, seconds):
-    child, port, link, text = with_object()
-    link.close()
-    target = f"{CONFIG_MAPS}/c"
+def nginx_of(folder, target, text, workers):
+    """nginx with a file of the text. Its child and its port."""
     path = f"{folder}{target}"
-    os.makedirs(os.path.dirname(path))
-    open(path, "wb").write(text)
+    os.makedirs(os.path.dirname(path), exist_ok=True)
+    with open(path, "wb") as file:
+        file.write(text)
     with socket.socket() as free:
         free.bind(("127.0.0.1", 0))
-        nginx_port = free.getsockname()[1]
+        port = free.getsockname()[1]
     with open(f"{folder}/nginx.conf", "w") as conf:
-        conf.write(NGINX.format(folder=folder, port=nginx_port, user="user root;" * (os.getuid() == 0)))
+        conf.write(NGINX.format(folder=folder, port=port, workers=workers, user="user root;" * (os.getuid() == 0)))
     nginx = subprocess.Popen(["nginx", "-p", folder, "-c", f"{folder}/nginx.conf"], stderr=subprocess.DEVNULL)
     time.sleep(0.5)
-    link = http.client.HTTPConnection("127.0.0.1", nginx_port)
+    link = http.client.HTTPConnection("127.0.0.1", port)
     if ask(link, "GET", target) != text:
         raise SystemExit("nginx gives other bytes")
     link.close()
-    rounds = [(wrk(f"http://127.0.0.1:{port}{target}", seconds, child.pid), wrk(f"http://127.0.0.1:{nginx_port}{target}", seconds, nginx.pid)) for _ in range(5)]
+    return nginx, port
+
+
+def gets(folder, seconds, links, workers):
+    """The GET of an object over so many links, each of which has a session, beside nginx with so many workers."""
+    child, port, link, text = with_object(sessions=max(links, 4))
+    link.close()
+    target = f"{CONFIG_MAPS}/c"
+    nginx, nginx_port = nginx_of(folder, target, text, workers)
+    rounds = [(wrk(f"http://127.0.0.1:{port}{target}", seconds, child.pid, links), wrk(f"http://127.0.0.1:{nginx_port}{target}", seconds, nginx.pid, links)) for _ in range(5)]
     nginx.terminate()
     nginx.wait()
     mine, its = zip(*rounds)
     (rates, times), (its_rates, its_times) = zip(*mine), zip(*its)
-    print(f"GET of {len(text)} bytes over one link : nginx's file: requests a second {ratio(rates, its_rates)}, {statistics.median(rates):,.0f} : {statistics.median(its_rates):,.0f}")
+    print(f"GET of {len(text)} bytes, {links} links : nginx's file, {workers} workers: requests a second {ratio(rates, its_rates)}, {statistics.median(rates):,.0f} : {statistics.median(its_rates):,.0f}")
     print(f"the same: processor time a request {ratio(times, its_times)}, {statistics.median(times):.1f} us : {statistics.median(its_times):.1f} us", flush=True)
-    calls(child, port, target)
+    if links == 1:
+        calls(child, port, target)
     child.terminate()
     child.wait()
 
@@ -236,7 +248,8 @@ def posts():
 
 def main():
     with tempfile.TemporaryDirectory() as folder:
-        gets(folder, int(sys.argv[2]) if len(sys.argv) > 2 else 3)
+        for links, workers in BESIDE:
+            gets(folder, int(sys.argv[2]) if len(sys.argv) > 2 else 3, links, workers)
     blocks()
     posts()
 
