@@ -4,6 +4,7 @@ use Rattle.std.specs.Prelude.{IfSome, IsSome, IsSomeAnd}
 use Rattle.std.specs.declared.option.Option.{Option}
 use Rattle.hx_ports.specs.Keeping.{Kept}
 use Rattle.hx_ports.specs.Causes.{Rose, KeeperCause}
+use Rattle.hx_ports.specs.Pieces.{OfBytes, most_stream_bytes}
 use Rattle.hx_ports.specs.Views.{KeeperView, SinkView, SourceView}
 use Rattle.hx_watch.specs.Watching.{HaveFollowed, Members}
 use Rattle.hx_model.specs.Happening.{events_in}
@@ -27,7 +28,7 @@ use Rattle.hx_script.specs.declared.script.RunEnd.{RunEnd}
 use Rattle.hx_script.specs.declared.script.RunEnd.TheVariants.{Done as Ended, NoMemory as Wanting}
 use Rattle.hx_script.specs.Lines.{Line, script_lines, unended}
 use Rattle.hx_script.specs.Exchanges.{entries_of}
-use Rattle.hx_script.specs.Running.{Ran, Does, Cuts, OfScript, ReadsFront, most_bytes}
+use Rattle.hx_script.specs.Running.{Ran, Does, Cuts, ReadsFront}
 use Rattle.hx_model.proofs.Overrunning.{holds_throughout}
 use Rattle.hx_model.proofs.Tearing.{holds_after_fault}
 use Rattle.hx_model.proofs.Beginning.{excess_begins_only_there, no_excess_by_fault}
@@ -156,13 +157,13 @@ leaves words script rest lacking sink sink' keeper keeper' a b starts is ran = r
 }
 
 -- what the words ask for
-of_run : (words : Option Command) (run : Command) (source : SourceView) (P : Command → List ℕ → Type 0) → words ≡ Some run → OfScript source.left (P run) → OfRun words source P
+of_run : (words : Option Command) (run : Command) (source : SourceView) (P : Command → List ℕ → Type 0) → words ≡ Some run → OfBytes source.left (P run) → OfRun words source P
 of_run words run source P is p =
-    let Q : Option Command → Type 0 = λ o. IsSomeAnd o (λ asked. OfScript source.left (P asked)) in
+    let Q : Option Command → Type 0 = λ o. IsSomeAnd o (λ asked. OfBytes source.left (P asked)) in
     subst Q (sym is) p
 
 pub of_run-whole : (words : Option Command) (run : Command) (source : SourceView) (sink sink' : SinkView) (keeper keeper' : KeeperView) (a b : ClusterView) → words ≡ Some run → Starts run keeper a → keeper' ≡ b.keeper
-    → OfScript source.left (λ script. (length script ≤ most_bytes) × Does (script_lines script) a b sink.written sink'.written) → OfRun words source (λ run script. LeavesWhole run script sink sink' keeper keeper')
+    → OfBytes source.left (λ script. (length script ≤ most_stream_bytes) × Does (script_lines script) a b sink.written sink'.written) → OfRun words source (λ run script. LeavesWhole run script sink sink' keeper keeper')
 of_run-whole words run source sink sink' keeper keeper' a b is starts ends (script, told, (few, does)) =
     of_run words run source (λ run script. LeavesWhole run script sink sink' keeper keeper') is
     (script, told, record { few = few; leaves = leaves run script [] [] sink sink' keeper keeper' a b starts ends does })
@@ -173,15 +174,15 @@ front run script sink sink' keeper keeper' a b starts ends cuts =
     record { rest = cuts.rest; lacking = cuts.lacking; leaves = leaves run script cuts.rest cuts.lacking sink sink' keeper keeper' a b starts ends cuts.ran }
 
 pub of_run-front : (words : Option Command) (run : Command) (source : SourceView) (sink sink' : SinkView) (keeper keeper' : KeeperView) (a b : ClusterView) → words ≡ Some run → Starts run keeper a → keeper' ≡ b.keeper
-    → OfScript source.left (λ script. Cuts (script_lines script) a b sink.written sink'.written) → OfRun words source (λ run script. LeavesFront run script sink sink' keeper keeper')
+    → OfBytes source.left (λ script. Cuts (script_lines script) a b sink.written sink'.written) → OfRun words source (λ run script. LeavesFront run script sink sink' keeper keeper')
 of_run-front words run source sink sink' keeper keeper' a b is starts ends (script, told, cuts) =
     of_run words run source (λ run script. LeavesFront run script sink sink' keeper keeper') is
     (script, told, front run script sink sink' keeper keeper' a b starts ends cuts)
 
 pub of_run-long : (words : Option Command) (run : Command) (source : SourceView) (sink sink' : SinkView) (keeper keeper' : KeeperView) (a b : ClusterView) → words ≡ Some run → Starts run keeper a → keeper' ≡ b.keeper
-    → OfScript source.left (λ script. (most_bytes < length script) × Cuts (script_lines script) a b sink.written sink'.written) → OfRun words source (λ run script. (most_bytes < length script) × LeavesFront run script sink sink' keeper keeper')
+    → OfBytes source.left (λ script. (most_stream_bytes < length script) × Cuts (script_lines script) a b sink.written sink'.written) → OfRun words source (λ run script. (most_stream_bytes < length script) × LeavesFront run script sink sink' keeper keeper')
 of_run-long words run source sink sink' keeper keeper' a b is starts ends (script, told, (long, cuts)) =
-    of_run words run source (λ run script. (most_bytes < length script) × LeavesFront run script sink sink' keeper keeper') is
+    of_run words run source (λ run script. (most_stream_bytes < length script) × LeavesFront run script sink sink' keeper keeper') is
     (script, told, (long, front run script sink sink' keeper keeper' a b starts ends cuts))
 
 pub of_run-read : (words : Option Command) (run : Command) (source source' : SourceView) (sink sink' : SinkView) (keeper keeper' : KeeperView) (a b : ClusterView) → words ≡ Some run → Starts run keeper a → keeper' ≡ b.keeper

@@ -13,6 +13,7 @@ use Rattle.std.specs.Prelude.{OnErr}
 use Rattle.std.specs.declared.result.Result.{Result}
 use Rattle.std.proofs.lemmas.List.{append-nil, length-map, map-append}
 use Rattle.hx_object.specs.declared.memory.NoMemory.{NoMemory as Wanting}
+use Rattle.hx_ports.specs.Pieces.{WritesFront}
 use Rattle.hx_ports.specs.Views.{SinkView}
 use Rattle.hx_model.specs.Machine.{World, replay}
 use Rattle.hx_model.specs.Requests.{request_entry}
@@ -30,7 +31,6 @@ use Rattle.hx_core.specs.declared.turns.Settle.TheVariants as settled
 use Rattle.hx_core.specs.declared.turns.Turned.{Turned}
 use Rattle.hx_gen.specs.Asked.{IsNext}
 use Rattle.hx_queue.specs.Workers.{WorkersView}
-use Rattle.hx_script.specs.Running.{WritesFront}
 use Rattle.hnc.proofs.Enough.{never_spent, still_at}
 use Rattle.hnc.specs.Generating.{AskedOne, HasAnswer, HasAsked, HasAskedAll, HasEnded, HasGenerated, HasGeneratedFront, HasSettled, IsEndBy, IsMadeInPart, IsMadeTo, IsNextAsked, Made, SettlesSome, asks_in, entries_in, most_turns, settled_entries, told_of}
 

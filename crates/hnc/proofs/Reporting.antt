@@ -5,12 +5,12 @@
 use Rattle.std.proofs.Common.{◌≡◌, ℕ, List, [], Option, None, sym, subst}
 use Rattle.std.proofs.lemmas.List.{append-nil}
 use Rattle.std.specs.Io.KnownBytes.{Appends}
+use Rattle.hx_ports.specs.Pieces.{WritesFront}
 use Rattle.hx_ports.specs.Views.{SinkView}
 use Rattle.hx_words.specs.declared.command.Report.{Report}
 use Rattle.hx_model.specs.State.{State, Objects}
 use Rattle.hx_audit.specs.Auditing.{HasRows, IsFirst}
 use Rattle.hx_model.specs.declared.key.Key.{Key}
-use Rattle.hx_script.specs.Running.{WritesFront}
 use Rattle.hnc.specs.Reports.{IsAudited, IsReportOn, Says, SaysFront, audit_line}
 use Rattle.hnc.specs.declared.top.Status.{Status}
 use Rattle.hnc.specs.declared.top.Status.TheVariants.{Done}

@@ -22,6 +22,7 @@ use Rattle.std.specs.declared.result.Result.{Result}
 use Rattle.std.specs.List.{AllByRecursion}
 use Rattle.std.specs.Io.KnownBytes.{Appends, Consumes}
 use Rattle.hx_ports.specs.Causes.{Rose}
+use Rattle.hx_ports.specs.Pieces.{OfBytes, most_stream_bytes}
 use Rattle.hx_ports.specs.Views.{KeeperView, SinkView, SourceView}
 use Rattle.hx_watch.specs.Watching.{HaveFollowed}
 use Rattle.hx_words.specs.declared.command.Command.{Command}
@@ -53,7 +54,7 @@ use Rattle.hx_serve.specs.Visits.{Visit, IsVisit, HaveVisited, EndsServing, visi
 use Rattle.hx_shared.specs.Calls.{Log, IsOrderly, entries as called_entries}
 use Rattle.hx_team.specs.Team.{IsServedOut, EndsServing as EndsSharing}
 use Rattle.hx_script.specs.Lines.{Line, script_lines, unended}
-use Rattle.hx_script.specs.Running.{LacksLast, OfScript, most_bytes}
+use Rattle.hx_script.specs.Running.{LacksLast}
 use Rattle.hx_script.specs.Exchanges.{Exchange, IsExchange, lines_of, entries_of, answer_lines}
 
 -- no key waits or is held, as the last entry says: `check: quiet`, or `settle: settled`
@@ -113,7 +114,7 @@ pub record Leaves (run : Command) (script : List ℕ) (rest : List Line) (lackin
 
 -- the run reached the end of the script: each line has its whole answer
 pub record LeavesWhole (run : Command) (script : List ℕ) (sink sink' : SinkView) (keeper keeper' : KeeperView) : Type 0 where
-  pub few : length script ≤ most_bytes
+  pub few : length script ≤ most_stream_bytes
   pub leaves : Leaves run script [] [] sink sink' keeper keeper'
 
 -- the run was cut short: some last lines have no answer, and the last answer may lack its end
@@ -192,7 +193,7 @@ OfMaking making P = IsSomeAnd making (λ command. OfAsks command.task (P command
 
 -- the words ask for a run, and there is a script with this property. Where the source tells its bytes, it is these.
 abbrev pub OfRun : Option Command → SourceView → (Command → List ℕ → Type 0) → Type 0
-OfRun words source P = IsSomeAnd words (λ run. OfScript source.left (P run))
+OfRun words source P = IsSomeAnd words (λ run. OfBytes source.left (P run))
 
 -- the words ask for a run that reached the end of its script, or for a report that was printed, or for links that were served, or for a cluster that was made
 abbrev pub IsCarriedOut : Option Command → Option Command → Option Command → Option Command → Status → SourceView → SinkView → SinkView → KeeperView → KeeperView → DoorView → DoorView → Type 0

@@ -8,8 +8,7 @@ ghost use Rattle.hnc.specs.Printed.{printed_line, told_text};
 
 use hx_model::{Event, What};
 use hx_object::NoMemory;
-use hx_ports::Sink;
-use hx_script::write_all;
+use hx_ports::{Sink, write_all};
 use hx_watch::{Refused, Watcher};
 use std::alloc::Global;
 

@@ -1,12 +1,12 @@
 // The top call.
-ghost use Rattle.std.specs.Prelude.{ℕ, ◌≡◌, ◌≢◌, ◌≤◌, ◌<◌, ◌⊎◌, true, false, [], None, Some, IfSome, IsOk, IsErr, IsSomeAnd, map, length, string_bytes};
+ghost use Rattle.std.specs.Prelude.{ℕ, ◌≡◌, ◌≢◌, ◌<◌, ◌⊎◌, true, false, None, Some, IfSome, IsSomeAnd, map, length, string_bytes};
 ghost use Rattle.std.specs.Io.KnownBytes.{IsAtEnd};
 ghost use Rattle.hx_ports.specs.Causes.{Rose};
+ghost use Rattle.hx_ports.specs.Pieces.{IsCalm, most_stream_bytes};
 ghost use Rattle.hx_core.specs.Starting.{IsUndamaged, Tells};
 ghost use Rattle.hnc.specs.Headline.{LeavesFront, LeavesMadeInPart, LeavesRead, OfMaking, OfRun, IsCarriedOut, IsCutShort, IsLeftByDoor, IsUnbegun, is_complete, is_cut_short, has_not_begun, code_of_status};
 ghost use Rattle.hnc.specs.Reports.{PrintsWhole};
 ghost use Rattle.hx_words.specs.Words.{command_of, making_of, reading_of, run_of, serving_of};
-ghost use Rattle.hx_script.specs.Running.{IsCalm, most_bytes};
 
 use crate::generating::generate;
 use crate::printing::print;
@@ -126,7 +126,7 @@ where
     ensures door_fault { result.status ≡ Status.DoorFault → Rose (D.shown door).faults (D.shown result.door).faults }
     ensures damaged { result.status ≡ Status.Damaged → IsSomeAnd result.damaged (λ damaged. IfSome (K.shown keeper).kept (λ held. Tells held damaged.row damaged.damage damaged.key)) }
     ensures whole { result.status ≢ Status.Damaged → result.damaged ≡ None }
-    ensures too_long { result.status ≡ Status.TooLong → OfRun (run_of (map string_bytes words.now)) (S.shown source.old) (λ command script. (most_bytes < length script) × LeavesFront command script (W.shown sink.old) (W.shown sink.new) (K.shown keeper) (K.shown result.keeper)) }
+    ensures too_long { result.status ≡ Status.TooLong → OfRun (run_of (map string_bytes words.now)) (S.shown source.old) (λ command script. (most_stream_bytes < length script) × LeavesFront command script (W.shown sink.old) (W.shown sink.new) (K.shown keeper) (K.shown result.keeper)) }
     ensures unasked { result.status ≡ Status.Usage → result.keeper ≡ keeper }
     ensures read_calm { result.status ≢ Status.ReadFault → (S.shown source.new).faults ≡ (S.shown source.old).faults }
     ensures write_calm { result.status ≢ Status.WriteFault → IsCalm (W.shown sink.old) (W.shown sink.new) }

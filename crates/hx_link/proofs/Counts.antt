@@ -5,8 +5,9 @@ use Rattle.std.specs.Io.KnownBytes.{Consumes, Keeps}
 use Rattle.hx_http.specs.Messages.{More, next_of}
 use Rattle.hx_http.specs.Streams.{Question, Stream, behind, stream_of}
 use Rattle.hx_http.proofs.Streams.{stream_waits}
+use Rattle.hx_ports.specs.Pieces.{most_stream_bytes}
 use Rattle.hx_link.specs.Exchanges.{Exchange}
-use Rattle.hx_link.specs.Running.{Doing, Feeds, Does, HasRead, ReadsOn, most_bytes}
+use Rattle.hx_link.specs.Running.{Doing, Feeds, Does, HasRead, ReadsOn}
 use Rattle.hx_link.specs.Reading.{ReadsFront}
 use Rattle.hx_link.proofs.Pieces.{Feeds-none, Reads-fed}
 
@@ -20,7 +21,7 @@ consumes_none None = tt
 consumes_none (Some x) = refl
 
 -- nothing was read
-pub count-none : (s : Option (List ℕ)) → HasRead s s (λ count. count ≤ most_bytes)
+pub count-none : (s : Option (List ℕ)) → HasRead s s (λ count. count ≤ most_stream_bytes)
 count-none s = ([], consumes_none s, omega arith)
 
 module _ {V : Type 0} (does : Doing Question V) (none : (s : V) → does s [] s) (more : (a b c : V) (first then : List (Exchange Question)) → does a first b → does b then c → does a (first ++ then) c) where
@@ -31,11 +32,11 @@ module _ {V : Type 0} (does : Doing Question V) (none : (s : V) → does s [] s)
       (all.bytes, all.read, subst P (sym all.many) holds)
 
   -- no more were
-  pub Reads-count-none : (s l l' : Option (List ℕ)) (waiting : List ℕ) (total : ℕ) (a b : V) (x y : Option (List ℕ)) → ReadsOn does s l total waiting a b x y → Consumes l l' [] → total ≤ most_bytes → HasRead s l' (λ count. count ≤ most_bytes)
-  Reads-count-none s l l' waiting total a b x y on read few = Reads-count s l l' [] waiting total 0 a b x y (λ count. count ≤ most_bytes) on (omega arith) read (omega (arith, few))
+  pub Reads-count-none : (s l l' : Option (List ℕ)) (waiting : List ℕ) (total : ℕ) (a b : V) (x y : Option (List ℕ)) → ReadsOn does s l total waiting a b x y → Consumes l l' [] → total ≤ most_stream_bytes → HasRead s l' (λ count. count ≤ most_stream_bytes)
+  Reads-count-none s l l' waiting total a b x y on read few = Reads-count s l l' [] waiting total 0 a b x y (λ count. count ≤ most_stream_bytes) on (omega arith) read (omega (arith, few))
 
   -- the read failed
-  pub Reads-count-fault : (s l l' : Option (List ℕ)) (waiting : List ℕ) (total : ℕ) (a b : V) (x y : Option (List ℕ)) → ReadsOn does s l total waiting a b x y → Keeps l l' → total ≤ most_bytes → HasRead s l' (λ count. count ≤ most_bytes)
+  pub Reads-count-fault : (s l l' : Option (List ℕ)) (waiting : List ℕ) (total : ℕ) (a b : V) (x y : Option (List ℕ)) → ReadsOn does s l total waiting a b x y → Keeps l l' → total ≤ most_stream_bytes → HasRead s l' (λ count. count ≤ most_stream_bytes)
   Reads-count-fault s l l' waiting total a b x y on kept few = Reads-count-none s l l' waiting total a b x y on (keeps_none l l' kept) few
 
   -- and each message that was whole was answered

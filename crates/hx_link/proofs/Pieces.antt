@@ -8,8 +8,9 @@ use Rattle.hx_http.specs.Messages.{Message, Next, More, Whole, Refused, next_of}
 use Rattle.hx_http.specs.Streams.{Question, Asked, Rejected, Stream, behind, stream_of}
 use Rattle.hx_http.specs.declared.fault.HeadFault.{HeadFault}
 use Rattle.hx_http.proofs.Streams.{stream_asked, stream_last, stream_refused, stream_waits}
+use Rattle.hx_ports.specs.Pieces.{OfBytes}
 use Rattle.hx_link.specs.Exchanges.{Exchange}
-use Rattle.hx_link.specs.Running.{Doing, Does, Cuts, Feeds, Ends, CutsPiece, OfBytes, ReadsOn, IsClosed, IsCutShort}
+use Rattle.hx_link.specs.Running.{Doing, Does, Cuts, Feeds, Ends, CutsPiece, ReadsOn, IsClosed, IsCutShort}
 use Rattle.hx_link.specs.Inside.{EndsBy}
 use Rattle.hx_link.specs.declared.link.LinkEnd.{LinkEnd}
 use Rattle.hx_link.specs.declared.link.LinkEnd.TheVariants.{Closed, CutShort}

@@ -1,44 +1,15 @@
 -- Exchanges put together.
-use Rattle.std.proofs.Common.{◌≡◌, ℕ, List, [], ◌∷◌, ◌++◌, None, Some, Ok, Err, refl, sym, ap, ◌∙◌, inl, inr, append_assoc, append-nil}
+use Rattle.std.proofs.Common.{◌≡◌, ℕ, List, [], ◌∷◌, ◌++◌, refl, sym, ap, ◌∙◌, inl, inr, append_assoc, append-nil}
 use Rattle.std.specs.Prelude.{OnOk, OnErr}
 use Rattle.std.specs.declared.option.Option.{Option}
 use Rattle.std.specs.declared.result.Result.{Result}
-use Rattle.std.specs.Io.KnownBytes.{Appends, Keeps}
+use Rattle.std.specs.Io.KnownBytes.{Appends}
 use Rattle.std.proofs.lemmas.List.{map-append}
 use Rattle.std.proofs.lemmas.Result.{on_ok_weaker, on_err_weaker}
-use Rattle.hx_ports.specs.Causes.{IsStall}
-use Rattle.hx_ports.specs.Views.{SinkView}
+use Rattle.hx_ports.specs.Pieces.{WritesFront}
+use Rattle.hx_ports.proofs.Writing.{Appends-nil, Appends-trans}
 use Rattle.hx_link.specs.Exchanges.{Exchange, questions_of, texts_of, LacksLast}
-use Rattle.hx_link.specs.Running.{Doing, Ran, Does, Cuts, WritesFront, IsCalm}
-
-pub Appends-nil : (a : Option (List ℕ)) → Appends a a []
-Appends-nil None = tt
-Appends-nil (Some x) = sym (append-nil x)
-
-pub Appends-trans : (a b c : Option (List ℕ)) (bs cs : List ℕ) → Appends a b bs → Appends b c cs → Appends a c (bs ++ cs)
-Appends-trans None b c bs cs p q = tt
-Appends-trans (Some x) None c bs cs p q = absurd p
-Appends-trans (Some x) (Some y) None bs cs p q = absurd q
-Appends-trans (Some x) (Some y) (Some z) bs cs p q = q ∙ ap (λ l. l ++ cs) p ∙ append_assoc x bs cs
-
--- a write that takes something doesn't stall
-pub not_stall : {E : Type 0} (n : ℕ) (bytes : List ℕ) → (n ≡ 0 → ⊥) → IsStall {E = E} (Ok n) bytes → ⊥
-not_stall n bytes some (none, given) = some cc
-
--- calls that counted nothing
-pub calm_on : (a b c : SinkView) → IsCalm a b → IsCalm b c → IsCalm a c
-calm_on a b c p q = record { faults = q.faults ∙ p.faults; stalls = q.stalls ∙ p.stalls }
-
-pub Appends-kept : (a b c : Option (List ℕ)) (bs : List ℕ) → Appends a b bs → Keeps b c → Appends a c bs
-Appends-kept None b c bs p q = tt
-Appends-kept (Some x) None c bs p q = absurd p
-Appends-kept (Some x) (Some y) None bs p q = absurd q
-Appends-kept (Some x) (Some y) (Some z) bs p q = q ∙ p
-
-pub Keeps-from_none : (b c : Option (List ℕ)) → Appends b c [] → Keeps b c
-Keeps-from_none None c p = tt
-Keeps-from_none (Some x) None p = absurd p
-Keeps-from_none (Some x) (Some y) p = p ∙ append-nil x
+use Rattle.hx_link.specs.Running.{Doing, Ran, Does, Cuts}
 
 module _ {Q V : Type 0} (does : Doing Q V) where
   texts-append : (ts us : List (Exchange Q)) → texts_of (ts ++ us) ≡ texts_of ts ++ texts_of us
@@ -103,7 +74,3 @@ module _ {Q V : Type 0} (does : Doing Q V) where
 
   pub on_err-one : {T E : Type 0} (q : Q) (text : List ℕ) (a b : V) (x y : Option (List ℕ)) (r : Result T E) → does a (record { question = q; text = text } ∷ []) b → OnErr r (WritesFront text x y) → OnErr r (Cuts does (q ∷ []) a b x y)
   on_err-one q text a b x y r made front = on_err_weaker r (Cuts-one q text a b x y made) front
-
-pub on_err_all : {T E P : Type 0} (r : Result T E) → P → OnErr r P
-on_err_all (Ok x) p = tt
-on_err_all (Err e) p = p

@@ -2,20 +2,14 @@
 --     Doing                                  which exchanges lead from one state of a service to another
 --     Ran does questions rest lacking ..     all questions but the rest were answered, and what was written lacks an end of the last text
 --     Does, Cuts                   nothing is left, and nothing is lacking;  something may be
---     WritesFront                  a front of bytes was written
---     IsCalm, WriteCause           no write failed or stalled;  when a write may fail
 --     Feeds, Ends, CutsPiece       bytes were answered up to what waits;  up to the end of the link;  they were being answered
---     OfBytes told P               there are bytes with P: those that the source tells, where it tells
 --     HasRead told left P          so many bytes were read
 --     IsClosed, IsCutShort         how a stream ends
 --     ReadsOn                      what was read was answered, but for what waits
-use Rattle.std.specs.Prelude.{◌≡◌, ◌≢◌, ◌≤◌, ◌^◌, ◌⊎◌, ℕ, true, false, List, [], ◌++◌, IfSome, length, OnOk, OnErr}
+use Rattle.std.specs.Prelude.{◌≡◌, ◌≢◌, ◌⊎◌, ℕ, true, false, List, [], ◌++◌, length}
 use Rattle.std.specs.declared.option.Option.{Option}
-use Rattle.std.specs.declared.result.Result.{Result}
 use Rattle.std.specs.Io.KnownBytes.{Appends, Consumes}
 use Rattle.hx_http.specs.Streams.{Question, Stream, behind, stream_of}
-use Rattle.hx_ports.specs.Causes.{Rose}
-use Rattle.hx_ports.specs.Views.{SinkView}
 use Rattle.hx_link.specs.Exchanges.{Exchange, questions_of, texts_of, LacksLast}
 
 -- exchanges lead from one state of a service to another
@@ -42,27 +36,6 @@ pub record Cuts {Q V : Type 0} (does : Doing Q V) (questions : List Q) (old new 
   pub lacking : List ℕ
   pub ran : Ran does questions rest lacking old new before after
 
--- ---- writes
-
--- a front of the bytes was written
-pub record WritesFront (bytes : List ℕ) (before after : Option (List ℕ)) : Type 0 where
-  pub front : List ℕ
-  pub lacking : List ℕ
-  pub whole : bytes ≡ front ++ lacking
-  pub wrote : Appends before after front
-
--- no write failed or stalled
-pub record IsCalm (old new : SinkView) : Type 0 where
-  pub faults : new.faults ≡ old.faults
-  pub stalls : new.stalls ≡ old.stalls
-
--- the sink's counts never fall; one of them rose where the call failed, and both stayed where it didn't
-pub record WriteCause {T E : Type 0} (old new : SinkView) (result : Result T E) : Type 0 where
-  pub later : old.faults ≤ new.faults
-  pub longer : old.stalls ≤ new.stalls
-  pub failed : OnErr result (Rose old.faults new.faults ⊎ Rose old.stalls new.stalls)
-  pub still : OnOk result (IsCalm old new)
-
 -- ---- a stream in pieces
 
 -- the bytes were used up to what waits: whatever follows, they ask these questions first, and these were answered
@@ -84,10 +57,6 @@ CutsPiece does bytes old new before after = (rest : List ℕ) → Cuts does (str
 
 -- ---- a link
 
--- there are bytes with this property. Where the source tells its bytes, it is these
-abbrev pub OfBytes : Option (List ℕ) → (List ℕ → Type 0) → Type 0
-OfBytes told P = (bytes : List ℕ) × IfSome told (λ all. bytes ≡ all) × P bytes
-
 -- the source gave so many bytes
 abbrev pub HasRead : Option (List ℕ) → Option (List ℕ) → (ℕ → Type 0) → Type 0
 HasRead told left P = (bytes : List ℕ) × Consumes told left bytes × P (length bytes)
@@ -99,10 +68,6 @@ IsClosed stream = (stream.ends ≡ true) ⊎ (stream.unused ≡ [])
 -- bytes of a request that isn't whole are left
 abbrev pub IsCutShort : Stream → Type 0
 IsCutShort stream = (stream.ends ≡ false) × (stream.unused ≢ [])
-
--- the most bytes of a link
-abbrev pub most_bytes : ℕ
-most_bytes = 2 ^ 40
 
 -- so many bytes were read, and what they ask was answered, but for what waits
 pub record ReadsOn {V : Type 0} (does : Doing Question V) (told left : Option (List ℕ)) (total : ℕ) (waiting : List ℕ) (old new : V) (before after : Option (List ℕ)) : Type 0 where

@@ -2,17 +2,7 @@
 ghost use Rattle.std.specs.Prelude.{◌≡◌, ◌≤◌, ◌++◌, OnOk, drop, length};
 
 use hx_object::NoMemory;
-
-/// The most bytes of room that a buffer keeps for the next message.
-const MOST_ROOM: usize = 65_536;
-
-/// Empties the text of a reply, and gives its room back where a long one made it large.
-pub fn empty(text: &mut String) {
-    text.clear();
-    if text.capacity() > MOST_ROOM {
-        text.shrink_to_fit();
-    }
-}
+use hx_ports::MOST_ROOM;
 
 /// Keeps a piece behind what waits.
 pub fn keep(waiting: &mut Vec<u8>, piece: &[u8]) -> Result<(), NoMemory>

@@ -3,14 +3,14 @@ ghost use Rattle.std.specs.Prelude.{◌≡◌, ◌≤◌, List, ℕ, [], ◌∷�
 ghost use Rattle.hx_http.specs.Messages.{next_of, More};
 ghost use Rattle.hx_http.specs.Searches.{IsSearched, message_seen};
 ghost use Rattle.hx_http.specs.Streams.{Asked, Rejected};
+ghost use Rattle.hx_ports.specs.Pieces.{WriteCause};
 ghost use Rattle.hx_link.specs.Inside.{OnEnded, OnFed, OnTold};
-ghost use Rattle.hx_link.specs.Running.{Cuts, CutsPiece, Does, Ends, Feeds, WriteCause};
+ghost use Rattle.hx_link.specs.Running.{Cuts, CutsPiece, Does, Ends, Feeds};
 
-use crate::buffers::{discard, empty};
+use crate::buffers::discard;
 use crate::service::Service;
-use crate::writing::{Unwritten, write_all};
 use hx_http::{HeadFault, Message, Next, Search, next_request};
-use hx_ports::Sink;
+use hx_ports::{Sink, Unwritten, empty, write_all};
 
 /// Answers one message. Head and body of the reply are written at once.
 fn answer<W: Sink, V: Service>(

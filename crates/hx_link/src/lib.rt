@@ -7,8 +7,6 @@ mod buffers;
 mod feeding;
 mod link;
 mod service;
-mod writing;
 
-pub use buffers::empty;
 pub use link::{LinkEnd, serve_link};
 pub use service::Service;

@@ -1,20 +1,17 @@
 // One link, from its first byte to its last.
-ghost use Rattle.std.specs.Prelude.{◌≡◌, ◌≢◌, ◌≤◌, ◌<◌, ◌⊎◌, IfOk, length};
-ghost use Rattle.std.specs.Io.{ReadsAtMost};
-ghost use Rattle.std.specs.Io.KnownBytes.{ReadConsumes};
+ghost use Rattle.std.specs.Prelude.{◌≡◌, ◌≢◌, ◌≤◌, ◌<◌, ◌⊎◌};
 ghost use Rattle.hx_http.specs.Streams.{stream_of};
-ghost use Rattle.hx_ports.specs.Causes.{HasCause, Rose};
+ghost use Rattle.hx_ports.specs.Causes.{Rose};
+ghost use Rattle.hx_ports.specs.Pieces.{IsCalm, OfBytes, most_stream_bytes};
 ghost use Rattle.hx_link.specs.Inside.{EndsBy};
 ghost use Rattle.hx_link.specs.Reading.{ReadsFront};
-ghost use Rattle.hx_link.specs.Running.{Cuts, Does, HasRead, IsCalm, IsClosed, IsCutShort, OfBytes, most_bytes};
+ghost use Rattle.hx_link.specs.Running.{Cuts, Does, HasRead, IsClosed, IsCutShort};
 
 use crate::buffers::keep;
 use crate::feeding::feed_waiting;
 use crate::service::Service;
-use crate::writing::Unwritten;
 use hx_http::Search;
-use hx_object::NoMemory;
-use hx_ports::{ReadFault, Sink, Source};
+use hx_ports::{MOST_STREAM_BYTES, Sink, Source, Unwritten, piece_of, read_piece};
 use std::alloc::Global;
 
 /// How a link ended.
@@ -32,28 +29,8 @@ pub enum LinkEnd {
     NoMemory,
 }
 
-/// The most bytes of a link.
-const MOST_BYTES: u64 = 1 << 40;
-
 /// How many bytes are read at a time.
 const PIECE_BYTES: usize = 16_384;
-
-/// So many zeros.
-fn zeros(alloc: Global, count: usize) -> Result<Vec<u8>, NoMemory>
-    ensures { IfOk result (λ zeros. length zeros.items ≡ count) }
-{
-    Ok(vec![in alloc; 0; count]?)
-}
-
-/// Reads the next bytes into the front of a piece.
-fn read_piece<S: Source>(source: &mut S, piece: &mut Vec<u8>) -> Result<usize, ReadFault>
-    ensures same { length piece.new.items ≡ length piece.old.items }
-    ensures bound { ReadsAtMost result piece.new.items }
-    ensures bytes { ReadConsumes (S.shown source.old).left (S.shown source.new).left result piece.new.items }
-    ensures cause { HasCause (S.shown source.old).faults (S.shown source.new).faults result }
-{
-    source.read(piece.as_mut_slice())
-}
 
 /// The end of a link whose input ended.
 fn end_of(waiting: &Vec<u8>) -> LinkEnd
@@ -79,8 +56,8 @@ pub fn serve_link<S: Source, W: Sink, V: Service>(
     ensures cut_short { result ≡ LinkEnd.CutShort → OfBytes (S.shown source.old).left (λ bytes. IsCutShort (stream_of bytes) × Does V.does (stream_of bytes).questions service.old service.new (W.shown sink.old).written (W.shown sink.new).written) }
     ensures cut { OfBytes (S.shown source.old).left (λ bytes. Cuts V.does (stream_of bytes).questions service.old service.new (W.shown sink.old).written (W.shown sink.new).written) }
     ensures unread { result ≡ LinkEnd.ReadFault → ReadsFront V.does (S.shown source.old).left (S.shown source.new).left service.old service.new (W.shown sink.old).written (W.shown sink.new).written }
-    ensures too_long { result ≡ LinkEnd.TooLong → HasRead (S.shown source.old).left (S.shown source.new).left (λ count. most_bytes < count) }
-    ensures few { result ≢ LinkEnd.TooLong → HasRead (S.shown source.old).left (S.shown source.new).left (λ count. count ≤ most_bytes) }
+    ensures too_long { result ≡ LinkEnd.TooLong → HasRead (S.shown source.old).left (S.shown source.new).left (λ count. most_stream_bytes < count) }
+    ensures few { result ≢ LinkEnd.TooLong → HasRead (S.shown source.old).left (S.shown source.new).left (λ count. count ≤ most_stream_bytes) }
     ensures read_calm { result ≢ LinkEnd.ReadFault → (S.shown source.new).faults ≡ (S.shown source.old).faults }
     ensures write_calm { result ≢ LinkEnd.WriteFault → IsCalm (W.shown sink.old) (W.shown sink.new) }
     ensures read_fault { result ≡ LinkEnd.ReadFault → Rose (S.shown source.old).faults (S.shown source.new).faults }
@@ -88,7 +65,7 @@ pub fn serve_link<S: Source, W: Sink, V: Service>(
 {
     V::law_of_none();
     V::law_of_more();
-    let Ok(mut piece) = zeros(alloc, PIECE_BYTES) else {
+    let Ok(mut piece) = piece_of(alloc, PIECE_BYTES) else {
         return LinkEnd::NoMemory;
     };
     let mut room = String::new(alloc);
@@ -103,7 +80,7 @@ pub fn serve_link<S: Source, W: Sink, V: Service>(
         if count == 0 {
             return end_of(&waiting);
         }
-        if MOST_BYTES - total < count as u64 {
+        if MOST_STREAM_BYTES - total < count as u64 {
             return LinkEnd::TooLong;
         }
         total += count as u64;

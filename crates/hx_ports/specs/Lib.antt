@@ -3,6 +3,7 @@ pub mod Causes
 pub mod Codes
 pub mod Held
 pub mod Keeping
+pub mod Pieces
 pub mod Rows
 pub mod Shown
 pub mod Views

@@ -8,9 +8,10 @@ use Rattle.std.proofs.lemmas.List.{take-append-drop, take_more}
 use Rattle.std.proofs.Math.Seq.{drop-cons, take-add}
 use Rattle.std.proofs.lemmas.List.Elements.{All-from_recursion}
 use Rattle.std.proofs.lemmas.List.Splits.{slice_split_at, slice_split_none}
+use Rattle.hx_ports.specs.Pieces.{OfBytes, most_stream_bytes}
 use Rattle.hx_core.specs.Refinement.{ClusterView}
 use Rattle.hx_script.specs.Lines.{Line, script_lines, asking, lines_of_parts, unended}
-use Rattle.hx_script.specs.Running.{Ran, Does, Cuts, OfScript, HasNoEnd, IsWaiting, IsKept, EndsAt, most_kept, most_bytes, Feeds, CutsPiece, ReadsOn, ReadsFront}
+use Rattle.hx_script.specs.Running.{Ran, Does, Cuts, HasNoEnd, IsWaiting, IsKept, EndsAt, most_kept, Feeds, CutsPiece, ReadsOn, ReadsFront}
 use Rattle.hx_script.proofs.Kept.{asking-cons, asking-kept, script_lines-kept, HasNoEnd-append}
 use Rattle.hx_script.proofs.Running.{Ran-none, Ran-more, Does-then, Does-cuts, Cuts-none, Cuts-more}
 use Rattle.hx_script.proofs.Unended.{IsKept-start, IsKept-end, IsKept-more, IsKept-then, lines_behind}
@@ -186,7 +187,7 @@ told_none None = tt
 told_none (Some xs) = refl
 
 -- nothing was read
-pub Cuts-unread : (s : Option (List ℕ)) (c : ClusterView) (x : Option (List ℕ)) → OfScript s (λ script. Cuts (script_lines script) c c x x)
+pub Cuts-unread : (s : Option (List ℕ)) (c : ClusterView) (x : Option (List ℕ)) → OfBytes s (λ script. Cuts (script_lines script) c c x x)
 Cuts-unread s c x = (left_of s, told_none s, Cuts-none (script_lines (left_of s)) c x)
 
 Consumes-none : (s : Option (List ℕ)) → Consumes s s []
@@ -218,8 +219,8 @@ lines_read bytes waiting lines splits none =
 ReadsOn-none : (s l l' : Option (List ℕ)) (bytes : List ℕ) → Consumes s l bytes → Consumes l l' [] → Consumes s l' bytes
 ReadsOn-none s l l' bytes on read = subst (Consumes s l') (append-nil bytes) (Consumes-then s l l' bytes [] on read)
 
-pub ReadsOn-end : (s l l' : Option (List ℕ)) (waiting : List ℕ) (total : ℕ) (a b c : ClusterView) (x y z : Option (List ℕ)) → ReadsOn s l total waiting a b x y → Consumes l l' [] → IsAtEnd l' → total ≤ most_bytes → HasNoEnd waiting → Does (asking waiting) b c y z
-    → OfScript s (λ script. (length script ≤ most_bytes) × Does (script_lines script) a c x z)
+pub ReadsOn-end : (s l l' : Option (List ℕ)) (waiting : List ℕ) (total : ℕ) (a b c : ClusterView) (x y z : Option (List ℕ)) → ReadsOn s l total waiting a b x y → Consumes l l' [] → IsAtEnd l' → total ≤ most_stream_bytes → HasNoEnd waiting → Does (asking waiting) b c y z
+    → OfBytes s (λ script. (length script ≤ most_stream_bytes) × Does (script_lines script) a c x z)
 ReadsOn-end s l l' waiting total a b c x y z on read end few none last = (
   on.bytes,
   told_end s l' on.bytes (ReadsOn-none s l l' on.bytes on.read read) end,
@@ -227,7 +228,7 @@ ReadsOn-end s l l' waiting total a b c x y z on read end few none last = (
 )
 
 pub ReadsOn-cut_last : (s l l' : Option (List ℕ)) (waiting : List ℕ) (total : ℕ) (a b c : ClusterView) (x y z : Option (List ℕ)) → ReadsOn s l total waiting a b x y → Consumes l l' [] → IsAtEnd l' → HasNoEnd waiting → Cuts (asking waiting) b c y z
-    → OfScript s (λ script. Cuts (script_lines script) a c x z)
+    → OfBytes s (λ script. Cuts (script_lines script) a c x z)
 ReadsOn-cut_last s l l' waiting total a b c x y z on read end none last = (
   on.bytes,
   told_end s l' on.bytes (ReadsOn-none s l l' on.bytes on.read read) end,
@@ -236,7 +237,7 @@ ReadsOn-cut_last s l l' waiting total a b c x y z on read end none last = (
 
 -- the run was cut short in the next piece
 pub ReadsOn-cut : (s l l' : Option (List ℕ)) (piece waiting : List ℕ) (total : ℕ) (a b c : ClusterView) (x y z : Option (List ℕ)) → ReadsOn s l total waiting a b x y → Consumes l l' piece → CutsPiece waiting piece b c y z
-    → OfScript s (λ script. Cuts (script_lines script) a c x z)
+    → OfBytes s (λ script. Cuts (script_lines script) a c x z)
 ReadsOn-cut s l l' piece waiting total a b c x y z on read cuts = (
   (on.bytes ++ piece) ++ left_of l',
   told_whole s l' (on.bytes ++ piece) (Consumes-then s l l' on.bytes piece on.read read),
@@ -253,7 +254,7 @@ Keeps-consumes (Some xs) None l' bs p q = absurd p
 Keeps-consumes (Some xs) (Some ys) None bs p q = absurd q
 Keeps-consumes (Some xs) (Some ys) (Some zs) bs p q = p ∙ ap (λ l. bs ++ l) (sym q)
 
-pub ReadsOn-fault : (s l l' : Option (List ℕ)) (waiting : List ℕ) (total : ℕ) (a b : ClusterView) (x y : Option (List ℕ)) → ReadsOn s l total waiting a b x y → Keeps l l' → OfScript s (λ script. Cuts (script_lines script) a b x y)
+pub ReadsOn-fault : (s l l' : Option (List ℕ)) (waiting : List ℕ) (total : ℕ) (a b : ClusterView) (x y : Option (List ℕ)) → ReadsOn s l total waiting a b x y → Keeps l l' → OfBytes s (λ script. Cuts (script_lines script) a b x y)
 ReadsOn-fault s l l' waiting total a b x y on kept = (
   on.bytes ++ left_of l',
   told_whole s l' on.bytes (Keeps-consumes s l l' on.bytes on.read kept),
@@ -271,8 +272,8 @@ ReadsOn-front s l l' waiting total a b x y on kept =
     }
 
 -- with the next piece the script is too long
-pub ReadsOn-long : (s l l' : Option (List ℕ)) (into waiting : List ℕ) (total n : ℕ) (a b : ClusterView) (x y : Option (List ℕ)) → ReadsOn s l total waiting a b x y → n ≤ length into → Consumes l l' (take n into) → most_bytes < total + n
-    → OfScript s (λ script. (most_bytes < length script) × Cuts (script_lines script) a b x y)
+pub ReadsOn-long : (s l l' : Option (List ℕ)) (into waiting : List ℕ) (total n : ℕ) (a b : ClusterView) (x y : Option (List ℕ)) → ReadsOn s l total waiting a b x y → n ≤ length into → Consumes l l' (take n into) → most_stream_bytes < total + n
+    → OfBytes s (λ script. (most_stream_bytes < length script) × Cuts (script_lines script) a b x y)
 ReadsOn-long s l l' into waiting total n a b x y on within read long =
     let piece = take n into in (
       (on.bytes ++ piece) ++ left_of l',

@@ -1,23 +1,24 @@
 -- Runs of lines put together.
-use Rattle.std.proofs.Common.{◌≡◌, ℕ, Bool, false, cond, List, [], ◌∷◌, ◌++◌, None, Some, Ok, Err, refl, sym, ap, subst, ◌∙◌, inl, inr, append_assoc, append-nil, map}
+use Rattle.std.proofs.Common.{◌≡◌, ℕ, Bool, false, cond, List, [], ◌∷◌, ◌++◌, refl, sym, ap, subst, ◌∙◌, inl, inr, append_assoc, append-nil, map}
 use Rattle.std.specs.Prelude.{OnOk, OnErr}
 use Rattle.std.specs.declared.option.Option.{Option}
 use Rattle.std.specs.declared.result.Result.{Result}
 use Rattle.std.specs.List.{AllByRecursion}
 use Rattle.std.specs.Str.Lines.{strip_carriage_return}
-use Rattle.std.specs.Io.KnownBytes.{Appends, Keeps}
+use Rattle.std.specs.Io.KnownBytes.{Appends}
 use Rattle.std.proofs.lemmas.Grind.{flat_map-append}
 use Rattle.std.proofs.lemmas.List.{map-append}
 use Rattle.std.proofs.lemmas.Result.{on_ok_weaker, on_err_weaker}
-use Rattle.hx_ports.specs.Causes.{IsStall}
+use Rattle.hx_ports.specs.Pieces.{WritesFront}
 use Rattle.hx_ports.specs.Views.{SinkView}
+use Rattle.hx_ports.proofs.Writing.{Appends-nil, Appends-trans}
 use Rattle.hx_model.specs.Machine.{History}
 use Rattle.hx_core.specs.Refinement.{ClusterView, HasWorld, Simulates}
 use Rattle.hx_script.specs.Lines.{Line, line_of_text, asking, is_asking}
 use Rattle.hx_script.specs.Forms.{reading_of}
 use Rattle.hx_script.specs.Bounded.{AreBounded}
 use Rattle.hx_script.specs.Exchanges.{made_entries, Exchange, IsExchange, lines_of, entries_of, answer_lines, exchange_line, last_lines}
-use Rattle.hx_script.specs.Running.{Ran, Does, Cuts, LacksLast, IsEndOf, WritesFront, IsCalm, HasMade, Serves}
+use Rattle.hx_script.specs.Running.{Ran, Does, Cuts, LacksLast, IsEndOf, HasMade, Serves}
 use Rattle.hx_script.proofs.Simulating.{Simulates-none, Simulates-after}
 
 -- ---- exchanges one after the other
@@ -47,16 +48,6 @@ texts_together ts us text more lacking p q =
 LacksLast-before : (ts us : List Exchange) (lacking : List ℕ) → LacksLast us lacking → LacksLast (ts ++ us) lacking
 LacksLast-before ts us lacking (inl none) = inl none
 LacksLast-before ts us lacking (inr (before, last, ends, whole)) = inr (ts ++ before, last, ap (λ l. ts ++ l) ends ∙ sym (append_assoc ts before (last ∷ [])), whole)
-
-pub Appends-nil : (a : Option (List ℕ)) → Appends a a []
-Appends-nil None = tt
-Appends-nil (Some x) = sym (append-nil x)
-
-pub Appends-trans : (a b c : Option (List ℕ)) (bs cs : List ℕ) → Appends a b bs → Appends b c cs → Appends a c (bs ++ cs)
-Appends-trans None b c bs cs p q = tt
-Appends-trans (Some x) None c bs cs p q = absurd p
-Appends-trans (Some x) (Some y) None bs cs p q = absurd q
-Appends-trans (Some x) (Some y) (Some z) bs cs p q = q ∙ ap (λ l. l ++ cs) p ∙ append_assoc x bs cs
 
 bounded_together : (ts us : List Exchange) (a b c : ClusterView) → AreBounded ts a b → AreBounded us b c → AreBounded (ts ++ us) a c
 bounded_together [] us a b c p q = subst (λ (v : ClusterView). AreBounded us v c) p q
@@ -159,28 +150,3 @@ asking_is part text b is asks = ap (λ l. map line_of_text (cond (is_asking l) (
 -- it asks nothing
 pub Does-quiet : (part text : List ℕ) (c : ClusterView) (x : Option (List ℕ)) → text ≡ strip_carriage_return part → is_asking text ≡ false → Does (asking part) c c x x
 Does-quiet part text c x is quiet = subst (λ ls. Does ls c c x x) (sym (asking_is part text false is quiet)) (Ran-none [] c x)
-
--- ---- what writes do
-
--- a write that takes something doesn't stall
-pub not_stall : {E : Type 0} (n : ℕ) (bytes : List ℕ) → (n ≡ 0 → ⊥) → IsStall {E = E} (Ok n) bytes → ⊥
-not_stall n bytes some (none, given) = some cc
-
--- calls that counted nothing
-pub calm_on : (a b c : SinkView) → IsCalm a b → IsCalm b c → IsCalm a c
-calm_on a b c p q = record { faults = q.faults ∙ p.faults; stalls = q.stalls ∙ p.stalls }
-
-pub Appends-kept : (a b c : Option (List ℕ)) (bs : List ℕ) → Appends a b bs → Keeps b c → Appends a c bs
-Appends-kept None b c bs p q = tt
-Appends-kept (Some x) None c bs p q = absurd p
-Appends-kept (Some x) (Some y) None bs p q = absurd q
-Appends-kept (Some x) (Some y) (Some z) bs p q = q ∙ p
-
-pub Keeps-from_none : (b c : Option (List ℕ)) → Appends b c [] → Keeps b c
-Keeps-from_none None c p = tt
-Keeps-from_none (Some x) None p = absurd p
-Keeps-from_none (Some x) (Some y) p = p ∙ append-nil x
-
-pub on_err_all : {T E P : Type 0} (r : Result T E) → P → OnErr r P
-on_err_all (Ok x) p = tt
-on_err_all (Err e) p = p

@@ -8,12 +8,13 @@ use Rattle.std.proofs.lemmas.Grind.{flat_map-append}
 use Rattle.std.proofs.lemmas.List.{take_more, take-append-drop}
 use Rattle.std.proofs.lemmas.Result.{on_ok_weaker, on_err_weaker}
 use Rattle.hx_ports.specs.Causes.{Rose}
+use Rattle.hx_ports.specs.Pieces.{IsCalm, WriteCause, WritesFront}
 use Rattle.hx_ports.specs.Views.{SinkView}
 use Rattle.hx_model.specs.declared.refusal.Refusal.{Refusal}
+use Rattle.hx_ports.proofs.Writing.{Appends-nil, Appends-trans, calm_on}
 use Rattle.hx_core.specs.Refinement.{ClusterView}
-use Rattle.hx_script.specs.Running.{IsCalm, Said, SaysText, Serves, WriteCause, WritesFront}
+use Rattle.hx_script.specs.Running.{Said, SaysText, Serves}
 use Rattle.hx_script.specs.declared.order.Order.{Order}
-use Rattle.hx_script.proofs.Running.{Appends-nil, Appends-trans, calm_on}
 
 -- ---- fronts
 

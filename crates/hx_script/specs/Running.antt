@@ -8,16 +8,14 @@
 --     MadeTurns                    so many turns of a settle were made, and their lines written
 --     IsWaiting, IsKept            what is kept of a line that hasn't ended;  behind which bytes
 --     Feeds, CutsPiece             a piece of the script was taken;  it was being taken
---     OfScript told P              there is a script with P: the one that the source tells, where it tells
 --     ReadsOn                      what was read of the script was answered, but for what waits
 --     ReadsFront                   a read failed: each line that ended before was answered
---     IsCalm, WriteCause           no write failed or stalled;  when a write may fail
-use Rattle.std.specs.Prelude.{◌≡◌, ◌≢◌, ◌≤◌, ◌<◌, ◌+◌, ◌^◌, ℕ, Bool, false, List, [], ◌∷◌, ◌++◌, ◌⊎◌, ◌==◌, IfSome, flat_map, length, take, slice_index, OnOk, OnErr}
+use Rattle.std.specs.Prelude.{◌≡◌, ◌≢◌, ◌≤◌, ◌<◌, ◌+◌, ℕ, Bool, false, List, [], ◌∷◌, ◌++◌, ◌⊎◌, ◌==◌, flat_map, length, take, slice_index, OnOk, OnErr}
 use Rattle.std.specs.declared.option.Option.{Option}
 use Rattle.std.specs.declared.result.Result.{Result}
 use Rattle.std.specs.List.{AllByRecursion}
 use Rattle.std.specs.Io.KnownBytes.{Appends, Consumes}
-use Rattle.hx_ports.specs.Causes.{Rose}
+use Rattle.hx_ports.specs.Pieces.{IsCalm, WriteCause, WritesFront}
 use Rattle.hx_ports.specs.Views.{SinkView}
 use Rattle.hx_model.specs.declared.ask.Answer.{Answer}
 use Rattle.hx_model.specs.declared.ask.Answer.TheVariants.{Refused}
@@ -67,28 +65,9 @@ pub record Cuts (lines : List Line) (old new : ClusterView) (before after : Opti
   pub lacking : List ℕ
   pub ran : Ran lines rest lacking old new before after
 
--- a front of the bytes was written
-pub record WritesFront (bytes : List ℕ) (before after : Option (List ℕ)) : Type 0 where
-  pub front : List ℕ
-  pub lacking : List ℕ
-  pub whole : bytes ≡ front ++ lacking
-  pub wrote : Appends before after front
-
 -- an answer was said by its line or, but for that of a loss, by the fixed line for want of memory
 abbrev pub IsSaid : Answer → List ℕ → Type 0
 IsSaid answer text = (text ≡ answer_line answer) ⊎ ((text ≡ no_memory_line) × (answer ≢ Refused StoreFailed))
-
--- no write failed or stalled
-pub record IsCalm (old new : SinkView) : Type 0 where
-  pub faults : new.faults ≡ old.faults
-  pub stalls : new.stalls ≡ old.stalls
-
--- the sink's counts never fall; one of them rose where the call failed, and both stayed where it didn't
-pub record WriteCause {T E : Type 0} (old new : SinkView) (result : Result T E) : Type 0 where
-  pub later : old.faults ≤ new.faults
-  pub longer : old.stalls ≤ new.stalls
-  pub failed : OnErr result (Rose old.faults new.faults ⊎ Rose old.stalls new.stalls)
-  pub still : OnOk result (IsCalm old new)
 
 -- a text was written, or a front of it
 pub record SaysText {T E : Type 0} (text : List ℕ) (old new : SinkView) (result : Result T E) : Type 0 where
@@ -146,10 +125,6 @@ pub record EndsAt (bytes : List ℕ) (end : ℕ) : Type 0 where
   pub is : slice_index bytes end ≡ 10
   pub before : HasNoEnd (take end bytes)
 
--- the most bytes of a script
-abbrev pub most_bytes : ℕ
-most_bytes = 2 ^ 40
-
 -- the most bytes that are kept of a line: enough to tell that it is too long, with or without a carriage return
 abbrev pub most_kept : ℕ
 most_kept = most_line_bytes + 2
@@ -176,10 +151,6 @@ pub record Feeds (waiting piece waiting' : List ℕ) (old new : ClusterView) (be
 -- whatever follows the piece, the run was cut short in it
 abbrev pub CutsPiece : List ℕ → List ℕ → ClusterView → ClusterView → Option (List ℕ) → Option (List ℕ) → Type 0
 CutsPiece waiting piece old new before after = (rest : List ℕ) → Cuts (script_lines (waiting ++ (piece ++ rest))) old new before after
-
--- There is a script with this property. Where the source tells its bytes, it is these.
-abbrev pub OfScript : Option (List ℕ) → (List ℕ → Type 0) → Type 0
-OfScript told P = (script : List ℕ) × IfSome told (λ bytes. script ≡ bytes) × P script
 
 -- so many bytes were read, and what they ask was answered, but for what waits
 pub record ReadsOn (told left : Option (List ℕ)) (total : ℕ) (waiting : List ℕ) (old new : ClusterView) (before after : Option (List ℕ)) : Type 0 where

@@ -12,8 +12,6 @@ mod serving;
 mod turns;
 mod words;
 mod worker;
-mod writing;
 
 pub use script::{RunEnd, run_script};
 pub use turns::{push_key, push_settled};
-pub use writing::{Unwritten, write_all};

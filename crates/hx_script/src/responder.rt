@@ -2,22 +2,22 @@
 ghost use Rattle.std.specs.Prelude.{◌≡◌, ◌≢◌, [], ◌∷◌, Ok, OnOk, OnErr, Result};
 ghost use Rattle.std.specs.Str.Lines.{strip_carriage_return};
 ghost use Rattle.hx_model.specs.Serving.{IsServedAsk, IsLegalAnswer};
+ghost use Rattle.hx_ports.specs.Pieces.{WriteCause};
 ghost use Rattle.hx_core.specs.Refinement.{ClusterView};
 ghost use Rattle.hx_script.specs.Lines.{line_of_text, asking, is_asking};
 ghost use Rattle.hx_script.specs.Inside.{IsIdle, IsServedOrder, IsUnread};
-ghost use Rattle.hx_script.specs.Running.{Does, Cuts, WriteCause, IsSaid, SaysAnswer, Serves};
+ghost use Rattle.hx_script.specs.Running.{Does, Cuts, IsSaid, SaysAnswer, Serves};
 
 use crate::answer_line::{fixed_line, no_memory, push_line};
 use crate::line::{Unread, read_line};
 use crate::order::Order;
 use crate::serving::{check, drop_hand, finish, settle, take, take_key};
 use crate::turns::say_lost_take;
-use crate::writing::{Unwritten, empty, write_all};
 use hx_api::RequestReader;
 use hx_core::Cluster;
 use hx_model::{Answer, Ask, Refusal};
 use hx_object::NoMemory;
-use hx_ports::{Keeper, Sink};
+use hx_ports::{Keeper, Sink, Unwritten, empty, write_all};
 use std::alloc::Global;
 
 /// Answers lines. What reading and writing them takes is kept from one line to the next.

@@ -1,17 +1,16 @@
 // The run of a script.
-ghost use Rattle.std.specs.Prelude.{◌≡◌, ◌≢◌, ◌≤◌, ◌<◌, ◌^◌, [], ◌∷◌, ◌++◌, ◌⊎◌, OnOk, OnErr, IsErrOf, IfOk, IfSome, IfNone, length, take, option_copied};
-ghost use Rattle.std.specs.Io.{ReadsAtMost};
-ghost use Rattle.std.specs.Io.KnownBytes.{IsAtEnd, ReadConsumes};
-ghost use Rattle.hx_ports.specs.Causes.{HasCause, Rose};
+ghost use Rattle.std.specs.Prelude.{◌≡◌, ◌≢◌, ◌≤◌, ◌<◌, [], ◌++◌, ◌⊎◌, OnOk, OnErr, IsErrOf, IfSome, IfNone, length, take};
+ghost use Rattle.std.specs.Io.KnownBytes.{IsAtEnd};
+ghost use Rattle.hx_ports.specs.Causes.{Rose};
+ghost use Rattle.hx_ports.specs.Pieces.{OfBytes, most_stream_bytes, IsCalm};
 ghost use Rattle.hx_script.specs.Inside.{IsIdle};
 ghost use Rattle.hx_script.specs.Lines.{asking, script_lines};
-ghost use Rattle.hx_script.specs.Running.{Does, Cuts, OfScript, HasNoEnd, IsWaiting, EndsAt, most_kept, most_bytes, Feeds, CutsPiece, IsCalm, IsKept, ReadsFront};
+ghost use Rattle.hx_script.specs.Running.{Does, Cuts, HasNoEnd, IsWaiting, EndsAt, most_kept, Feeds, CutsPiece, IsKept, ReadsFront};
 
 use crate::responder::Responder;
-use crate::writing::Unwritten;
 use hx_core::Cluster;
 use hx_object::NoMemory;
-use hx_ports::{Keeper, ReadFault, Sink, Source};
+use hx_ports::{Keeper, MOST_STREAM_BYTES, Sink, Source, Unwritten, piece_of, read_piece};
 use memchr::memchr;
 use std::alloc::Global;
 
@@ -147,28 +146,8 @@ fn feed<W: Sink, K: Keeper>(
     Ok(())
 }
 
-/// The most bytes of a script.
-const MOST_BYTES: u64 = 1 << 40;
-
 /// How many bytes are read at a time.
 const PIECE_BYTES: usize = 65_536;
-
-/// So many zeros.
-fn zeros(alloc: Global, count: usize) -> Result<Vec<u8>, NoMemory>
-    ensures { IfOk result (λ zeros. length zeros.items ≡ count) }
-{
-    Ok(vec![in alloc; 0; count]?)
-}
-
-/// Reads the next bytes into the front of a piece.
-fn read_piece<S: Source>(source: &mut S, piece: &mut Vec<u8>) -> Result<usize, ReadFault>
-    ensures same { length piece.new.items ≡ length piece.old.items }
-    ensures bound { ReadsAtMost result piece.new.items }
-    ensures bytes { ReadConsumes (S.shown source.old).left (S.shown source.new).left result piece.new.items }
-    ensures cause { HasCause (S.shown source.old).faults (S.shown source.new).faults result }
-{
-    source.read(piece.as_mut_slice())
-}
 
 /// Reads a script to its end, and answers its lines in order.
 pub fn run_script<S: Source, W: Sink, K: Keeper>(
@@ -178,9 +157,9 @@ pub fn run_script<S: Source, W: Sink, K: Keeper>(
     cluster: &mut Cluster<K>,
 ) -> RunEnd
     requires { cluster.old.workers.hands ≡ [] }
-    ensures done { result ≡ RunEnd.Done → OfScript (S.shown source.old).left (λ script. (length script ≤ most_bytes) × Does (script_lines script) cluster.old cluster.new (W.shown sink.old).written (W.shown sink.new).written) }
-    ensures cut { result ≢ RunEnd.Done → OfScript (S.shown source.old).left (λ script. Cuts (script_lines script) cluster.old cluster.new (W.shown sink.old).written (W.shown sink.new).written) }
-    ensures too_long { result ≡ RunEnd.TooLong → OfScript (S.shown source.old).left (λ script. (most_bytes < length script) × Cuts (script_lines script) cluster.old cluster.new (W.shown sink.old).written (W.shown sink.new).written) }
+    ensures done { result ≡ RunEnd.Done → OfBytes (S.shown source.old).left (λ script. (length script ≤ most_stream_bytes) × Does (script_lines script) cluster.old cluster.new (W.shown sink.old).written (W.shown sink.new).written) }
+    ensures cut { result ≢ RunEnd.Done → OfBytes (S.shown source.old).left (λ script. Cuts (script_lines script) cluster.old cluster.new (W.shown sink.old).written (W.shown sink.new).written) }
+    ensures too_long { result ≡ RunEnd.TooLong → OfBytes (S.shown source.old).left (λ script. (most_stream_bytes < length script) × Cuts (script_lines script) cluster.old cluster.new (W.shown sink.old).written (W.shown sink.new).written) }
     ensures unread { result ≡ RunEnd.ReadFault → ReadsFront (S.shown source.old).left (S.shown source.new).left cluster.old cluster.new (W.shown sink.old).written (W.shown sink.new).written }
     ensures end { result ≡ RunEnd.Done → IsAtEnd (S.shown source.new).left }
     ensures read_calm { result ≢ RunEnd.ReadFault → (S.shown source.new).faults ≡ (S.shown source.old).faults }
@@ -188,7 +167,7 @@ pub fn run_script<S: Source, W: Sink, K: Keeper>(
     ensures read_fault { result ≡ RunEnd.ReadFault → Rose (S.shown source.old).faults (S.shown source.new).faults }
     ensures write_fault { result ≡ RunEnd.WriteFault → Rose (W.shown sink.old).faults (W.shown sink.new).faults ⊎ Rose (W.shown sink.old).stalls (W.shown sink.new).stalls }
 {
-    let Ok(mut piece) = zeros(alloc, PIECE_BYTES) else {
+    let Ok(mut piece) = piece_of(alloc, PIECE_BYTES) else {
         return RunEnd::NoMemory;
     };
     let mut responder = Responder::new(alloc);
@@ -202,7 +181,7 @@ pub fn run_script<S: Source, W: Sink, K: Keeper>(
         if count == 0 {
             break;
         }
-        if MOST_BYTES - total < count as u64 {
+        if MOST_STREAM_BYTES - total < count as u64 {
             return RunEnd::TooLong;
         }
         total += count as u64;

@@ -7,10 +7,9 @@ ghost use Rattle.hx_script.specs.declared.order.Order.{Order};
 use crate::turns::{
     say_check, say_drop, say_finish, say_settled, say_take, say_take_key, say_turned,
 };
-use crate::writing::Unwritten;
 use hx_core::{Cluster, Turn, end_of};
 use hx_model::Key;
-use hx_ports::{Keeper, Sink};
+use hx_ports::{Keeper, Sink, Unwritten};
 
 /// A worker takes a key that waits.
 pub fn take<W: Sink, K: Keeper>(

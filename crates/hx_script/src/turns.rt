@@ -1,5 +1,5 @@
 // The lines of workers' turns. They need no memory: where none is left, the pieces of a line are written one by one.
-ghost use Rattle.std.specs.Prelude.{◌≡◌, ◌++◌, List, ℕ, OnOk, codes, false, option_map, string_bytes};
+ghost use Rattle.std.specs.Prelude.{◌≡◌, ◌++◌, OnOk, codes, false, option_map, string_bytes};
 ghost use Rattle.hx_object.specs.Kinds.{plural_of};
 ghost use Rattle.hx_model.specs.Machine.{Took, Finished, Dropped, Checked, LostTake};
 ghost use Rattle.hx_model.specs.declared.key.Key.{Key as NamedBy};
@@ -9,11 +9,10 @@ ghost use Rattle.hx_script.specs.Inside.{pieced_line, texts_of};
 ghost use Rattle.hx_script.specs.Running.{SaysText};
 ghost use Rattle.hx_script.specs.Turns.{check_words, end_words, joined, key_words, settled_line, settled_words, turn_line, turned_lines, worker_line};
 
-use crate::writing::{Unwritten, empty, write_all};
 use hx_core::{Settle, Take, Turned};
 use hx_model::{Finish, Key};
 use hx_object::{Kind, NoMemory, Text};
-use hx_ports::Sink;
+use hx_ports::{Sink, Unwritten, empty, write_all};
 use hx_reconcile::SharedBrief;
 use itoa::Buffer;
 

@@ -2,8 +2,7 @@
 ghost use Rattle.std.specs.Prelude.{◌≡◌, ◌≤◌, List, ℕ, Some, IfOk, IfErr, IfSome, option_copied, option_map};
 ghost use Rattle.hx_model.specs.declared.key.Key.{Key as NamedBy};
 ghost use Rattle.hx_script.specs.Inside.{IsServedOrder, key_by};
-ghost use Rattle.hx_script.specs.Words.{rest_of};
-ghost use Rattle.hx_script.specs.Workers.{copied_kind, copy_in, copy_named, key_after, key_named, name_after, namespace_key, namespace_named, place_key, place_named, settle_order, take_order, turn_order, worker_named, worker_order};
+ghost use Rattle.hx_script.specs.Workers.{copied_kind, copy_named, key_after, key_named, name_after, namespace_key, namespace_named, place_key, place_named, settle_order, take_order, turn_order, worker_named, worker_order};
 
 use crate::order::Order;
 use crate::words::{cut, number_in};

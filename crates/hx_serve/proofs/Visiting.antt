@@ -9,11 +9,12 @@ use Rattle.std.specs.Prelude.{◌≢◌, ◌⊎◌}
 use Rattle.std.specs.List.{AllByRecursion}
 use Rattle.std.proofs.lemmas.Grind.{flat_map-append}
 use Rattle.hx_ports.specs.Causes.{HasCause, Rose}
+use Rattle.hx_ports.specs.Pieces.{IsCalm, OfBytes, most_stream_bytes}
 use Rattle.hx_ports.specs.Views.{SinkView, SourceView}
 use Rattle.hx_http.specs.Streams.{Question, stream_of}
 use Rattle.hx_link.specs.Exchanges.{Exchange as Plain, LacksLast, questions_of, texts_of}
 use Rattle.hx_link.specs.Reading.{ReadsFront}
-use Rattle.hx_link.specs.Running.{Cuts, Does, HasRead, IsCalm, IsClosed, IsCutShort, OfBytes, Ran, most_bytes}
+use Rattle.hx_link.specs.Running.{Cuts, Does, HasRead, IsClosed, IsCutShort, Ran}
 use Rattle.hx_link.specs.declared.link.LinkEnd.{LinkEnd}
 use Rattle.hx_link.specs.declared.link.LinkEnd.TheVariants as end
 use Rattle.hx_door.specs.Doors.{Closes, DoorView, Hands, TakesBack}
@@ -34,7 +35,7 @@ pub record Linked (how : LinkEnd) (old new : ClusterView) (before after : LinkVi
   pub cut_short : how ≡ end.CutShort → OfBytes before.source.left (λ bytes. IsCutShort (stream_of bytes) × Does HasAnswered (stream_of bytes).questions old new before.sink.written after.sink.written)
   pub cut : OfBytes before.source.left (λ bytes. Cuts HasAnswered (stream_of bytes).questions old new before.sink.written after.sink.written)
   pub unread : how ≡ end.ReadFault → ReadsFront HasAnswered before.source.left after.source.left old new before.sink.written after.sink.written
-  pub too_long : how ≡ end.TooLong → HasRead before.source.left after.source.left (λ count. most_bytes < count)
+  pub too_long : how ≡ end.TooLong → HasRead before.source.left after.source.left (λ count. most_stream_bytes < count)
   pub read_calm : how ≢ end.ReadFault → after.source.faults ≡ before.source.faults
   pub write_calm : how ≢ end.WriteFault → IsCalm before.sink after.sink
   pub read_fault : how ≡ end.ReadFault → Rose before.source.faults after.source.faults

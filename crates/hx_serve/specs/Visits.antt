@@ -17,10 +17,11 @@ use Rattle.std.specs.declared.result.Result.{Result}
 use Rattle.std.specs.List.{AllByRecursion}
 use Rattle.std.specs.Io.KnownBytes.{Appends, Consumes}
 use Rattle.hx_ports.specs.Causes.{Rose}
+use Rattle.hx_ports.specs.Pieces.{IsCalm, OfBytes, most_stream_bytes}
 use Rattle.hx_ports.specs.Views.{SinkView, SourceView}
 use Rattle.hx_http.specs.Streams.{Question, behind, stream_of}
 use Rattle.hx_link.specs.Exchanges.{LacksLast, questions_of, texts_of}
-use Rattle.hx_link.specs.Running.{HasRead, IsCalm, IsClosed, IsCutShort, OfBytes, most_bytes}
+use Rattle.hx_link.specs.Running.{HasRead, IsClosed, IsCutShort}
 use Rattle.hx_link.specs.declared.link.LinkEnd.{LinkEnd}
 use Rattle.hx_link.specs.declared.link.LinkEnd.TheVariants as end
 use Rattle.hx_door.specs.Doors.{DoorView, Hands, Closes, TakesBack}
@@ -80,7 +81,7 @@ IsEnd end.ReadFault before after exchanges = AnswersRead exchanges before.source
 IsEnd end.WriteFault before after exchanges =
     OfBytes before.source.left (λ bytes. AnswersFirst exchanges (stream_of bytes).questions before.sink.written after.sink.written) × (Rose before.sink.faults after.sink.faults ⊎ Rose before.sink.stalls after.sink.stalls)
 IsEnd end.TooLong before after exchanges =
-    OfBytes before.source.left (λ bytes. AnswersFirst exchanges (stream_of bytes).questions before.sink.written after.sink.written) × HasRead before.source.left after.source.left (λ count. most_bytes < count)
+    OfBytes before.source.left (λ bytes. AnswersFirst exchanges (stream_of bytes).questions before.sink.written after.sink.written) × HasRead before.source.left after.source.left (λ count. most_stream_bytes < count)
 IsEnd end.NoMemory before after exchanges = OfBytes before.source.left (λ bytes. AnswersFirst exchanges (stream_of bytes).questions before.sink.written after.sink.written)
 
 -- what was answered, by how the link ended; what was settled behind it; and that no read or write failed where the end isn't that

@@ -1,5 +1,5 @@
 // Links that are served one after the other.
-ghost use Rattle.std.specs.Prelude.{IfOk, unwrap_or};
+ghost use Rattle.std.specs.Prelude.{unwrap_or};
 ghost use Rattle.hx_ports.specs.Causes.{HasCause};
 ghost use Rattle.hx_serve.specs.Inside.{IsServed};
 ghost use Rattle.hx_serve.specs.Visits.{Serves};

@@ -6,9 +6,9 @@ ghost use Rattle.hx_serve.specs.Inside.{IsSaid};
 
 use hx_api::{push_body, status_of};
 use hx_http::{no_memory_reply, store_failed_reply, write_reply};
-use hx_link::empty;
 use hx_model::{Answer, Refusal};
 use hx_object::NoMemory;
+use hx_ports::empty;
 
 /// The reply that says an answer: it is laid into `room`, or is a fixed text where no memory is left. Its body is made first, since its length stands before it.
 pub fn reply_to<'a>(room: &'a mut String, body: &mut String, answer: &Answer, last: bool) -> &'a str

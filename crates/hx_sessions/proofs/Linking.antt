@@ -5,10 +5,11 @@ use Rattle.std.proofs.Common.{◌≡◌, ◌<◌, ℕ, List, [], ◌∷◌, ◌+
 use Rattle.std.specs.Prelude.{◌≢◌, ◌⊎◌}
 use Rattle.std.specs.List.{AllByRecursion}
 use Rattle.hx_ports.specs.Causes.{Rose}
+use Rattle.hx_ports.specs.Pieces.{IsCalm, OfBytes, most_stream_bytes}
 use Rattle.hx_http.specs.Streams.{Question, stream_of}
 use Rattle.hx_link.specs.Exchanges.{Exchange as Plain, LacksLast, questions_of, texts_of}
 use Rattle.hx_link.specs.Reading.{ReadsFront}
-use Rattle.hx_link.specs.Running.{Cuts, Does, Doing, HasRead, IsCalm, IsClosed, IsCutShort, OfBytes, Ran, most_bytes}
+use Rattle.hx_link.specs.Running.{Cuts, Does, Doing, HasRead, IsClosed, IsCutShort, Ran}
 use Rattle.hx_link.specs.declared.link.LinkEnd.{LinkEnd}
 use Rattle.hx_link.specs.declared.link.LinkEnd.TheVariants as end
 use Rattle.hx_serve.specs.Exchanges.{IsExchange}
@@ -27,7 +28,7 @@ module _ {V : Type 0} (at : V → SeatView) (does : Doing Question V) (asks : (a
     pub cut_short : how ≡ end.CutShort → OfBytes before.source.left (λ bytes. IsCutShort (stream_of bytes) × Does does (stream_of bytes).questions old new before.sink.written after.sink.written)
     pub cut : OfBytes before.source.left (λ bytes. Cuts does (stream_of bytes).questions old new before.sink.written after.sink.written)
     pub unread : how ≡ end.ReadFault → ReadsFront does before.source.left after.source.left old new before.sink.written after.sink.written
-    pub too_long : how ≡ end.TooLong → HasRead before.source.left after.source.left (λ count. most_bytes < count)
+    pub too_long : how ≡ end.TooLong → HasRead before.source.left after.source.left (λ count. most_stream_bytes < count)
     pub read_calm : how ≢ end.ReadFault → after.source.faults ≡ before.source.faults
     pub write_calm : how ≢ end.WriteFault → IsCalm before.sink after.sink
     pub read_fault : how ≡ end.ReadFault → Rose before.source.faults after.source.faults

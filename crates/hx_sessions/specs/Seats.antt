@@ -16,8 +16,8 @@ use Rattle.hx_model.specs.Machine.{Entry, Refused as Turned, LostRequest, NoMemo
 use Rattle.hx_model.specs.Requests.{request_entry}
 use Rattle.hx_model.specs.declared.ask.Answer.{Answer}
 use Rattle.hx_model.specs.declared.ask.Ask.{Ask}
+use Rattle.hx_ports.specs.Pieces.{IsCalm}
 use Rattle.hx_link.specs.Exchanges.{Exchange as Plain}
-use Rattle.hx_link.specs.Running.{IsCalm}
 use Rattle.hx_link.specs.declared.link.LinkEnd.{LinkEnd}
 use Rattle.hx_link.specs.declared.link.LinkEnd.TheVariants as end
 use Rattle.hx_script.specs.Exchanges.{One}

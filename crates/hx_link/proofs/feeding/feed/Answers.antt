@@ -2,8 +2,8 @@ use Rattle.std.proofs.Common.{ap, length, subst, refl, sym, arith, length-drop}
 use Rattle.std.proofs.lemmas.List.{take_rest, drop-drop}
 use Rattle.hx_http.specs.Messages.{Whole, Refused}
 use Rattle.hx_http.specs.Searches.{IsSearched, message_seen}
+use Rattle.hx_ports.proofs.Writing.{calm_on, on_err_all}
 use Rattle.hx_link.specs.Running.{Feeds}
-use Rattle.hx_link.proofs.Running.{calm_on, on_err_all}
 use Rattle.hx_link.proofs.Pieces.{Feeds-none, Feeds-asked, Ends-last, Ends-refused, Cuts-asked, Cuts-refused, found-here}
 use Rattle.hx_link.proofs.feeding.feed.Goals as goal
 

@@ -1,6 +1,7 @@
 use Rattle.std.proofs.Common.{length, drop, ◌-◌, ◌≤◌}
 use Rattle.hx_http.specs.Searches.{IsSearched}
-use Rattle.hx_link.specs.Running.{IsCalm, Feeds}
+use Rattle.hx_ports.specs.Pieces.{IsCalm}
+use Rattle.hx_link.specs.Running.{Feeds}
 use Rattle.hx_link.proofs.feeding.feed.Given as goal
 
 abbrev pub invariant-messages : goal.invariant-messages

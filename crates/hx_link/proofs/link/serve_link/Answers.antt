@@ -1,7 +1,8 @@
 use Rattle.std.proofs.Common.{◌≡◌, ◌<◌, ◌≤◌, ◌+◌, ◌∙◌, ◌++◌, refl, sym, ap, subst, take, List, ℕ, arith}
 use Rattle.hx_http.specs.Searches.{IsSearched}
-use Rattle.hx_link.specs.Running.{most_bytes, Feeds, Ends, CutsPiece}
-use Rattle.hx_link.proofs.Running.{calm_on}
+use Rattle.hx_ports.proofs.Writing.{calm_on}
+use Rattle.hx_ports.specs.Pieces.{most_stream_bytes}
+use Rattle.hx_link.specs.Running.{Feeds, Ends, CutsPiece}
 use Rattle.hx_link.proofs.Pieces.{Reads-start, Reads-unread, Reads-fed, Reads-ended, Reads-end, Reads-cut, Reads-stop, Reads-fault, cut_of, closed_end, short_end, cut_end}
 use Rattle.hx_link.proofs.Counts.{count-none, Reads-count, Reads-count-none, Reads-count-fault, Reads-front}
 use Rattle.hx_link.proofs.link.serve_link.Goals as goal
@@ -46,8 +47,8 @@ returns-then-total-count-clause-cut g c = Reads-stop g.V.Service.does c.law_of_n
 
 pub returns-then-total-count-clause-too_long : goal.returns-then-total-count-clause-too_long
 returns-then-total-count-clause-too_long g c =
-    let long : most_bytes < c.reading.total + c.in-Ok-read_piece.count = omega arith in
-    λ _. Reads-count g.V.Service.does c.law_of_none.ensures c.law_of_more.ensures (g.S.Source.shown c.args.source.now).left (g.S.Source.shown c.reading.source).left (g.S.Source.shown c.read_piece.new.source).left c.read_piece.new.piece.items c.reading.waiting.items c.reading.total c.in-Ok-read_piece.count _ _ _ _ (λ count. most_bytes < count) c.reading.invariant.reads c.in-Ok-read_piece.ensures.bound.0 c.in-Ok-read_piece.ensures.bytes.0 long
+    let long : most_stream_bytes < c.reading.total + c.in-Ok-read_piece.count = omega arith in
+    λ _. Reads-count g.V.Service.does c.law_of_none.ensures c.law_of_more.ensures (g.S.Source.shown c.args.source.now).left (g.S.Source.shown c.reading.source).left (g.S.Source.shown c.read_piece.new.source).left c.read_piece.new.piece.items c.reading.waiting.items c.reading.total c.in-Ok-read_piece.count _ _ _ _ (λ count. most_stream_bytes < count) c.reading.invariant.reads c.in-Ok-read_piece.ensures.bound.0 c.in-Ok-read_piece.ensures.bytes.0 long
 
 pub returns-in_default-clause-few : goal.returns-in_default-clause-few
 returns-in_default-clause-few g c = λ _. count-none (g.S.Source.shown c.args.source.now).left
@@ -65,18 +66,18 @@ returns-then-count-eq0-clause-few g c =
 
 pub returns-in-Ok-false-clause-few : goal.returns-in-Ok-false-clause-few
 returns-in-Ok-false-clause-few g c =
-    let few : c.reading.total + c.in-Ok-read_piece.count ≤ most_bytes = omega arith in
-    λ _. Reads-count g.V.Service.does c.law_of_none.ensures c.law_of_more.ensures (g.S.Source.shown c.args.source.now).left (g.S.Source.shown c.reading.source).left (g.S.Source.shown c.read_piece.new.source).left c.read_piece.new.piece.items c.reading.waiting.items c.reading.total c.in-Ok-read_piece.count _ _ _ _ (λ count. count ≤ most_bytes) c.reading.invariant.reads c.in-Ok-read_piece.ensures.bound.0 c.in-Ok-read_piece.ensures.bytes.0 few
+    let few : c.reading.total + c.in-Ok-read_piece.count ≤ most_stream_bytes = omega arith in
+    λ _. Reads-count g.V.Service.does c.law_of_none.ensures c.law_of_more.ensures (g.S.Source.shown c.args.source.now).left (g.S.Source.shown c.reading.source).left (g.S.Source.shown c.read_piece.new.source).left c.read_piece.new.piece.items c.reading.waiting.items c.reading.total c.in-Ok-read_piece.count _ _ _ _ (λ count. count ≤ most_stream_bytes) c.reading.invariant.reads c.in-Ok-read_piece.ensures.bound.0 c.in-Ok-read_piece.ensures.bytes.0 few
 
 pub returns-in-Err-feed_waiting-clause-few : goal.returns-in-Err-feed_waiting-clause-few
 returns-in-Err-feed_waiting-clause-few g c =
-    let few : c.reading.total + c.in-Ok-read_piece.count ≤ most_bytes = omega arith in
-    λ _. Reads-count g.V.Service.does c.law_of_none.ensures c.law_of_more.ensures (g.S.Source.shown c.args.source.now).left (g.S.Source.shown c.reading.source).left (g.S.Source.shown c.read_piece.new.source).left c.read_piece.new.piece.items c.reading.waiting.items c.reading.total c.in-Ok-read_piece.count _ _ _ _ (λ count. count ≤ most_bytes) c.reading.invariant.reads c.in-Ok-read_piece.ensures.bound.0 c.in-Ok-read_piece.ensures.bytes.0 few
+    let few : c.reading.total + c.in-Ok-read_piece.count ≤ most_stream_bytes = omega arith in
+    λ _. Reads-count g.V.Service.does c.law_of_none.ensures c.law_of_more.ensures (g.S.Source.shown c.args.source.now).left (g.S.Source.shown c.reading.source).left (g.S.Source.shown c.read_piece.new.source).left c.read_piece.new.piece.items c.reading.waiting.items c.reading.total c.in-Ok-read_piece.count _ _ _ _ (λ count. count ≤ most_stream_bytes) c.reading.invariant.reads c.in-Ok-read_piece.ensures.bound.0 c.in-Ok-read_piece.ensures.bytes.0 few
 
 pub returns-in-Err-keep-clause-few : goal.returns-in-Err-keep-clause-few
 returns-in-Err-keep-clause-few g c =
-    let few : c.reading.total + c.in-Ok-read_piece.count ≤ most_bytes = omega arith in
-    λ _. Reads-count g.V.Service.does c.law_of_none.ensures c.law_of_more.ensures (g.S.Source.shown c.args.source.now).left (g.S.Source.shown c.reading.source).left (g.S.Source.shown c.read_piece.new.source).left c.read_piece.new.piece.items c.reading.waiting.items c.reading.total c.in-Ok-read_piece.count _ _ _ _ (λ count. count ≤ most_bytes) c.reading.invariant.reads c.in-Ok-read_piece.ensures.bound.0 c.in-Ok-read_piece.ensures.bytes.0 few
+    let few : c.reading.total + c.in-Ok-read_piece.count ≤ most_stream_bytes = omega arith in
+    λ _. Reads-count g.V.Service.does c.law_of_none.ensures c.law_of_more.ensures (g.S.Source.shown c.args.source.now).left (g.S.Source.shown c.reading.source).left (g.S.Source.shown c.read_piece.new.source).left c.read_piece.new.piece.items c.reading.waiting.items c.reading.total c.in-Ok-read_piece.count _ _ _ _ (λ count. count ≤ most_stream_bytes) c.reading.invariant.reads c.in-Ok-read_piece.ensures.bound.0 c.in-Ok-read_piece.ensures.bytes.0 few
 
 pub reading-preserved : goal.reading-preserved
 reading-preserved g c =

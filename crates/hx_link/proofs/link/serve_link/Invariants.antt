@@ -1,7 +1,8 @@
 use Rattle.std.proofs.Common.{◌≡◌, ◌≤◌, ◌<◌, ◌-◌, ◌^◌, List, ℕ, ◌++◌, length}
 use Rattle.hx_http.specs.Messages.{next_of, More}
 use Rattle.hx_http.specs.Searches.{IsSearched}
-use Rattle.hx_link.specs.Running.{IsCalm, ReadsOn}
+use Rattle.hx_ports.specs.Pieces.{IsCalm}
+use Rattle.hx_link.specs.Running.{ReadsOn}
 use Rattle.hx_link.proofs.link.serve_link.Given as goal
 
 abbrev pub invariant-reading : goal.invariant-reading

@@ -1,6 +1,7 @@
 use Rattle.std.proofs.Common.{◌≡◌, ◌∙◌, length, rules}
 use Rattle.std.proofs.lemmas.List.{nil_from_length}
-use Rattle.hx_script.proofs.Running.{Cuts-none, on_err_all}
+use Rattle.hx_ports.proofs.Writing.{on_err_all}
+use Rattle.hx_script.proofs.Running.{Cuts-none}
 use Rattle.hx_script.proofs.Pieces.{Does-alone, Does-kept, Cuts-alone, Cuts-kept}
 use Rattle.hx_script.proofs.script.end_line.Goals as goal
 

@@ -1,7 +1,7 @@
 use Rattle.std.proofs.Common.{arith, refl, length-drop, take, ap, ◌∙◌, ◌++◌}
 use Rattle.std.proofs.lemmas.List.{take_rest}
+use Rattle.hx_ports.proofs.Writing.{calm_on, on_err_all}
 use Rattle.hx_script.specs.Running.{most_kept}
-use Rattle.hx_script.proofs.Running.{calm_on, on_err_all}
 use Rattle.hx_script.proofs.Kept.{IsWaiting-keep}
 use Rattle.hx_script.proofs.Pieces.{add_back, Feeds-none, Feeds-line, Feeds-rest, IsKept-line, IsKept-rest, Cuts-line, Cuts-rest}
 use Rattle.hx_script.proofs.Unended.{IsKept-start}

@@ -1,6 +1,7 @@
 use Rattle.std.proofs.Common.{take, length, ◌≤◌, ◌-◌, ◌++◌}
+use Rattle.hx_ports.specs.Pieces.{IsCalm}
 use Rattle.hx_script.specs.Inside.{IsIdle}
-use Rattle.hx_script.specs.Running.{IsCalm, IsKept, IsWaiting, Feeds}
+use Rattle.hx_script.specs.Running.{IsKept, IsWaiting, Feeds}
 use Rattle.hx_script.proofs.script.feed.Given as goal
 
 abbrev pub invariant-loop-end : goal.invariant-loop-end

@@ -1,7 +1,7 @@
 use Rattle.std.proofs.Common.{◌<◌, ◌+◌, ◌∙◌, refl, ap, arith}
 use Rattle.hx_model.specs.Hands.{hand_of}
-use Rattle.hx_script.specs.Running.{most_bytes}
-use Rattle.hx_script.proofs.Running.{calm_on}
+use Rattle.hx_ports.proofs.Writing.{calm_on}
+use Rattle.hx_ports.specs.Pieces.{most_stream_bytes}
 use Rattle.hx_script.proofs.Pieces.{Cuts-unread, ReadsOn-start, ReadsOn-feed, ReadsOn-end, ReadsOn-cut, ReadsOn-cut_last, ReadsOn-fault, ReadsOn-front, ReadsOn-long}
 use Rattle.hx_script.proofs.script.run_script.Goals as goal
 
@@ -43,13 +43,13 @@ returns-in-Err-clause-unread g c = λ _. ReadsOn-front (g.S.Source.shown c.args.
 
 pub returns-then-total-count-clause-cut : goal.returns-then-total-count-clause-cut
 returns-then-total-count-clause-cut g c =
-    let long : most_bytes < c.reading.total + c.in-Ok-read_piece.count = omega arith in
+    let long : most_stream_bytes < c.reading.total + c.in-Ok-read_piece.count = omega arith in
     let more = ReadsOn-long (g.S.Source.shown c.args.source.now).left (g.S.Source.shown c.reading.source).left (g.S.Source.shown c.read_piece.new.source).left c.read_piece.new.piece.items c.reading.waiting.items c.reading.total c.in-Ok-read_piece.count _ _ _ _ c.reading.invariant.reads c.in-Ok-read_piece.ensures.bound.0 c.in-Ok-read_piece.ensures.bytes.0 long in
     λ _. (more.0, more.1, more.2.1)
 
 pub returns-then-total-count-clause-too_long : goal.returns-then-total-count-clause-too_long
 returns-then-total-count-clause-too_long g c =
-    let long : most_bytes < c.reading.total + c.in-Ok-read_piece.count = omega arith in
+    let long : most_stream_bytes < c.reading.total + c.in-Ok-read_piece.count = omega arith in
     λ _. ReadsOn-long (g.S.Source.shown c.args.source.now).left (g.S.Source.shown c.reading.source).left (g.S.Source.shown c.read_piece.new.source).left c.read_piece.new.piece.items c.reading.waiting.items c.reading.total c.in-Ok-read_piece.count _ _ _ _ c.reading.invariant.reads c.in-Ok-read_piece.ensures.bound.0 c.in-Ok-read_piece.ensures.bytes.0 long
 
 pub returns-in-Err-feed-clause-cut : goal.returns-in-Err-feed-clause-cut

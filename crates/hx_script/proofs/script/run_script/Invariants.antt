@@ -1,6 +1,7 @@
 use Rattle.std.proofs.Common.{◌≡◌, ◌≤◌, ◌<◌, ◌-◌, ◌^◌, length}
+use Rattle.hx_ports.specs.Pieces.{IsCalm}
 use Rattle.hx_script.specs.Inside.{IsIdle}
-use Rattle.hx_script.specs.Running.{IsCalm, IsWaiting, ReadsOn}
+use Rattle.hx_script.specs.Running.{IsWaiting, ReadsOn}
 use Rattle.hx_script.proofs.script.run_script.Given as goal
 
 abbrev pub invariant-reading : goal.invariant-reading

@@ -1,8 +1,8 @@
 use Rattle.std.proofs.Common.{sym, drop, length-drop, arith}
 use Rattle.std.proofs.Math.Seq.{take-add}
 use Rattle.std.proofs.lemmas.List.{take_rest, take-append-drop}
-use Rattle.hx_script.proofs.Running.{calm_on, not_stall, Appends-trans, Appends-kept, Keeps-from_none}
-use Rattle.hx_script.proofs.writing.write_all.Goals as goal
+use Rattle.hx_ports.proofs.Writing.{calm_on, not_stall, Appends-trans, Appends-kept, Keeps-from_none}
+use Rattle.hx_ports.proofs.pieces.write_all.Goals as goal
 
 pub loop-at-preserved : goal.loop-at-preserved
 loop-at-preserved g c =
