@@ -3,6 +3,7 @@
 
 mod bounding;
 mod events;
+mod exits;
 mod generating;
 mod printing;
 mod serving;
@@ -14,15 +15,16 @@ ghost use Rattle.std.specs.Prelude.{◌≡◌, false, [], None, map, IfOk, IsSom
 ghost use Rattle.hx_words.specs.Words.{command_of, is_reading, reading_of};
 
 use crate::events::EventPrinter;
-use crate::top::{DamagedRow, Ended, Status, top};
-use hx_door::{TcpDoor, TcpFault};
+use crate::exits::{Outcome, exit_with, exit_without_keys, exit_without_words};
+use crate::top::{Ended, Status, top};
+use hx_door::TcpDoor;
 use hx_link::LinkEnd;
-use hx_object::{List, NoMemory};
-use hx_ports::{Followed, Keeper, Meta, StdSink, StdSource, StreamFault, SureKeeper};
+use hx_object::NoMemory;
+use hx_ports::{Followed, Keeper, Meta, StdSink, StdSource, SureKeeper};
 use hx_serve::Notices;
 use hx_sqlite::{SqlFault, SqlKeeper};
 use hx_watch::Hub;
-use hx_words::{Command, WordsFault, first_untaken, read_words};
+use hx_words::{Command, WordsFault, read_words};
 use std::alloc::Global;
 use std::hash::RandomState;
 use std::process::ExitCode;
@@ -32,17 +34,6 @@ use std::{env, io};
 
 /// What events are printed on.
 type Printer = EventPrinter<StdSink<io::Stderr>>;
-
-/// How the commands are used.
-const USAGE: &str = "\
-usage: hnc run [--db PATH] [--excluded-namespace NAMES] [--allow-skip] [--events] <SCRIPT
-       hnc serve --listen ADDRESS:PORT [--sessions NUMBER] [--workers NUMBER] [--links NUMBER]
-                 [--db PATH] [--excluded-namespace NAMES] [--allow-skip] [--events]
-       hnc tree [--db PATH] [--excluded-namespace NAMES]
-       hnc describe NAMESPACE [--db PATH] [--excluded-namespace NAMES]
-       hnc quota [--db PATH]
-       hnc audit [--db PATH] [--excluded-namespace NAMES]
-       hnc gen NUMBER COUNT";
 
 /// What a keeper without rows says of itself.
 const NO_ROWS: Meta = Meta {
@@ -64,20 +55,6 @@ fn main(rt: HostRuntime) -> ExitCode {
         ),
         Err(error) => exit_without_keys(&rt, words.as_slice(), error.kind()),
     }
-}
-
-/// How a run over the real ports ended, and why a port failed if it did.
-#[derive(Drop)]
-struct Outcome {
-    status: Status,
-    damaged: Option<DamagedRow>,
-    database_fault: Option<SqlFault>,
-    close_fault: Option<SqlFault>,
-    read_fault: Option<StreamFault>,
-    write_fault: Option<StreamFault>,
-    /// Whether some events weren't printed that were to be.
-    lacks_events: bool,
-    door: TcpDoor,
 }
 
 /// Says on standard error how links ended that weren't closed.
@@ -315,120 +292,4 @@ fn words_of(rt: &(impl env::Env + AllocGlobal)) -> io::Result<Vec<String>> {
         words.push(word)?;
     }
     Ok(words)
-}
-
-/// Says on standard error how a run ended, unless it is `Done`, and where the database wasn't closed or events are lacking, and ends with the status's number.
-fn exit_with(rt: &HostRuntime, words: &[String], outcome: &Outcome) -> ExitCode {
-    say_lacks(rt, outcome.lacks_events);
-    let _ = match outcome.close_fault {
-        Some(fault) => eprintln!(rt;
-            "hnc: the log could not be brought into the database file: {fault}: keep the two together"
-        ),
-        None => Ok(()),
-    };
-    match outcome.status {
-        Status::Usage => exit_with_usage(rt, first_untaken(words)),
-        Status::ReadFault => exit_with_fault(rt, Status::ReadFault, outcome.read_fault),
-        Status::WriteFault => exit_with_fault(rt, Status::WriteFault, outcome.write_fault),
-        Status::KeeperFault => exit_with_keeper_fault(rt, outcome.database_fault),
-        Status::Damaged => exit_with_damage(rt, outcome.damaged.as_ref()),
-        Status::DoorFault => exit_with_door_fault(rt, outcome.door.last_fault()),
-        status => exit_with_status(rt, status),
-    }
-}
-
-/// Says that not all events were printed.
-fn say_lacks(rt: &HostRuntime, lacks_events: bool) {
-    if lacks_events {
-        let _ = eprintln!(rt;
-            "hnc: events were told no more: standard error failed, or no memory was left"
-        );
-    }
-}
-
-/// Names a status other than `Done`.
-fn exit_with_status(rt: &HostRuntime, status: Status) -> ExitCode {
-    if status != Status::Done {
-        let _ = eprintln!(rt; "hnc: {status:?}");
-    }
-    ExitCode::from(status.code())
-}
-
-/// Says why the database failed before the first line.
-fn exit_with_keeper_fault(rt: &HostRuntime, fault: Option<SqlFault>) -> ExitCode {
-    let status = Status::KeeperFault;
-    let _ = match fault {
-        Some(fault) => eprintln!(rt; "hnc: {status:?}: the database failed: {fault}"),
-        None => eprintln!(rt; "hnc: {status:?}"),
-    };
-    ExitCode::from(status.code())
-}
-
-/// Says why the door failed.
-fn exit_with_door_fault(rt: &HostRuntime, fault: Option<&TcpFault>) -> ExitCode {
-    let status = Status::DoorFault;
-    let _ = match fault {
-        Some(fault) => eprintln!(rt; "hnc: {status:?}: {fault}"),
-        None => eprintln!(rt; "hnc: {status:?}"),
-    };
-    ExitCode::from(status.code())
-}
-
-/// Says which stored row is damaged first, its key, and what is damaged of it.
-fn exit_with_damage(rt: &HostRuntime, damaged: Option<&DamagedRow>) -> ExitCode {
-    let status = Status::Damaged;
-    let _ = match damaged {
-        Some(DamagedRow { row, damage, key }) if *row > 0 => match text_of(key.as_ref()) {
-            Some(key) => eprintln!(rt;
-                "hnc: {status:?}: row {row} in the order of keys, {key:?}: {damage}"
-            ),
-            None => eprintln!(rt; "hnc: {status:?}: row {row} in the order of keys: {damage}"),
-        },
-        Some(DamagedRow { damage, .. }) => eprintln!(rt; "hnc: {status:?}: {damage}"),
-        None => eprintln!(rt; "hnc: {status:?}"),
-    };
-    ExitCode::from(status.code())
-}
-
-/// A key as a text, where it is one.
-fn text_of(key: Option<&List<u8>>) -> Option<&str> {
-    str::from_utf8(key?.as_slice()).ok()
-}
-
-/// Where the words aren't had: a word that isn't UTF-8 isn't taken, and all else is want of memory.
-fn exit_without_words(rt: &HostRuntime, kind: io::ErrorKind) -> ExitCode {
-    if kind != io::ErrorKind::InvalidData {
-        return exit_with_status(rt, Status::NoMemory);
-    }
-    let _ = eprintln!(rt; "hnc: {:?}: a word is not UTF-8", Status::Usage);
-    let _ = eprintln!(rt; "{USAGE}");
-    ExitCode::from(Status::Usage.code())
-}
-
-/// Where the system gives no random bytes: words that aren't taken go before, and all else is a read that failed.
-fn exit_without_keys(rt: &HostRuntime, words: &[String], kind: io::ErrorKind) -> ExitCode {
-    if matches!(read_words(rt.alloc(), words), Err(WordsFault::Usage)) {
-        return exit_with_usage(rt, first_untaken(words));
-    }
-    let status = Status::ReadFault;
-    let _ = eprintln!(rt; "hnc: {status:?}: {kind:?} at the system's random bytes");
-    ExitCode::from(status.code())
-}
-
-/// Says which word isn't taken, and how the command is used.
-fn exit_with_usage(rt: &HostRuntime, untaken: Option<&str>) -> ExitCode {
-    let status = Status::Usage;
-    let _ = match untaken {
-        Some(word) => eprintln!(rt; "hnc: {status:?}: {word:?} is not taken"),
-        None => eprintln!(rt; "hnc: {status:?}: a word is missing"),
-    };
-    let _ = eprintln!(rt; "{USAGE}");
-    ExitCode::from(status.code())
-}
-
-/// Says why a read or a write failed. A write that took nothing has no other reason.
-fn exit_with_fault(rt: &HostRuntime, status: Status, fault: Option<StreamFault>) -> ExitCode {
-    let fault = fault.unwrap_or(StreamFault::Failed(io::ErrorKind::WriteZero));
-    let _ = eprintln!(rt; "hnc: {status:?}: {fault}");
-    ExitCode::from(status.code())
 }

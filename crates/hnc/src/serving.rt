@@ -1,5 +1,5 @@
 // Links that are served over a cluster that was started.
-ghost use Rattle.std.specs.Prelude.{◌≡◌, ◌≢◌, ◌⊎◌, [], None, Some, IsErr, IsOk, true};
+ghost use Rattle.std.specs.Prelude.{◌≡◌, ◌≢◌, ◌⊎◌, [], None, Some, IsErr, IsOk, min, true};
 ghost use Rattle.hx_core.specs.Refinement.{ClusterView as cluster_of};
 ghost use Rattle.hx_ports.specs.Causes.{Rose};
 ghost use Rattle.hx_turn.specs.Passes.{IsOutside, all_rights};
@@ -61,13 +61,22 @@ fn is_alone(serving: &Serving) -> bool
 
 /// How many serve, as the words say.
 fn plan_of(serving: &Serving) -> ServePlan
-    ensures { result.links ≡ serving.now.links }
+    ensures sessions { result.sessions ≡ min serving.now.sessions 65535 }
+    ensures workers { result.workers ≡ min serving.now.workers 65535 }
+    ensures links { result.links ≡ serving.now.links }
 {
     ServePlan {
-        sessions: u16::try_from(serving.sessions).unwrap_or(u16::MAX),
-        workers: u16::try_from(serving.workers).unwrap_or(u16::MAX),
+        sessions: as_u16(serving.sessions),
+        workers: as_u16(serving.workers),
         links: serving.links,
     }
+}
+
+/// A number of threads. Words ask for few.
+fn as_u16(number: u32) -> u16
+    ensures { result ≡ min number 65535 }
+{
+    u16::try_from(number).unwrap_or(u16::MAX)
 }
 
 /// Serves the links of a door that listens: by several sessions with workers beside them or, where no memory is left for what they share, one after the other.

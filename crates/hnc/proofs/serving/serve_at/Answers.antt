@@ -22,12 +22,12 @@ returns-then-is_alone-clause-door_calm g c = λ other. c.serve_alone.ensures.doo
 
 pub returns-clause-served : goal.returns-clause-served
 returns-clause-served g c = λ e.
-    beside_as IsOk c.args.serving.now _ c.args.cluster (g.D.Door.shown c.args.door) (g.D.Door.shown c.listen.new.self) (g.D.Door.shown c.serve_links.result.door) _ (sym c.is_alone.ensures ∙ c.if-is_alone.false) c.plan_of.ensures
+    beside_as IsOk c.args.serving.now _ c.args.cluster (g.D.Door.shown c.args.door) (g.D.Door.shown c.listen.new.self) (g.D.Door.shown c.serve_links.result.door) _ (sym c.is_alone.ensures ∙ c.if-is_alone.false) c.plan_of.ensures.links
     (listening (g.D.Door.shown c.args.door) (g.D.Door.shown c.listen.new.self) c.in_default.ensures.same c.in_default.ensures.cause.still) (c.serve_links.ensures.served e)
 
 pub returns-clause-left : goal.returns-clause-left
 returns-clause-left g c = λ e.
-    inr (beside_as IsErr c.args.serving.now _ c.args.cluster (g.D.Door.shown c.args.door) (g.D.Door.shown c.listen.new.self) (g.D.Door.shown c.serve_links.result.door) _ (sym c.is_alone.ensures ∙ c.if-is_alone.false) c.plan_of.ensures
+    inr (beside_as IsErr c.args.serving.now _ c.args.cluster (g.D.Door.shown c.args.door) (g.D.Door.shown c.listen.new.self) (g.D.Door.shown c.serve_links.result.door) _ (sym c.is_alone.ensures ∙ c.if-is_alone.false) c.plan_of.ensures.links
     (listening (g.D.Door.shown c.args.door) (g.D.Door.shown c.listen.new.self) c.in_default.ensures.same c.in_default.ensures.cause.still) (c.serve_links.ensures.left e))
 
 pub returns-clause-door_fault : goal.returns-clause-door_fault
