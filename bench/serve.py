@@ -7,7 +7,7 @@ the GET of an object of 300 bytes over one keep-alive link beside nginx's file o
 processor time a request, as ratios of the program's to nginx's, each the median of five, with its range; the same over 4 and 16 links at a time, each with
 a session of its own, beside nginx with four workers; the calls of the system a request, by strace where it
 is there; the blocks of memory that a GET makes over a link and in a script, and a link, by valgrind where it is there; and the processor time of a POST of
-1 KiB in memory over a link, and of the same POST in a script, in turns, the medians of five. Each answer's status is looked at.
+1 KiB in memory over a link, with that of the workers beside it, and of the same POST in a script, in turns, the medians of five. Each answer's status is looked at.
 """
 import http.client
 import json
@@ -27,6 +27,8 @@ TICK = os.sysconf("SC_CLK_TCK")
 POSTS = 20_000
 GETS = 1_000
 LINKS = 100
+# Sessions and workers: one session that has the cluster to itself, and those that share it.
+ALONE, SHARED = (1, 0), (4, 2)
 # So many links at a time, and how many workers nginx has then.
 BESIDE = ((1, 1), (4, 4), (16, 4))
 NAMESPACE = '{"apiVersion":"v1","kind":"Namespace","metadata":{"name":"n"}}'
@@ -54,9 +56,10 @@ def processor_time(pid):
     return sum(sum(map(int, open(f"/proc/{its}/stat").read().rpartition(")")[2].split()[11:13])) for its in [pid, *children]) / TICK
 
 
-def serve(*before, sessions=4):
+def serve(*before, sessions=4, workers=2):
     """A server on a free port. Its child and the port."""
-    child = subprocess.Popen([*before, PROGRAM, "serve", "--listen", "127.0.0.1:0", "--sessions", str(sessions)], stdin=subprocess.DEVNULL, stderr=subprocess.PIPE)
+    words = ["--listen", "127.0.0.1:0", "--sessions", str(sessions), "--workers", str(workers)]
+    child = subprocess.Popen([*before, PROGRAM, "serve", *words], stdin=subprocess.DEVNULL, stderr=subprocess.PIPE)
     while not (ready := re.fullmatch(rb"hnc: serving on 127\.0\.0\.1:(\d+)\n", child.stderr.readline())):
         if child.poll() is not None:
             raise SystemExit("no server begins")
@@ -72,9 +75,9 @@ def ask(link, method, target, body=None, wanted=200):
     return text
 
 
-def with_object(*before, sessions=4):
+def with_object(*before, sessions=4, workers=2):
     """A server that has one ConfigMap, as `serve` gives it, with a link to it, and the text of the object."""
-    child, port = serve(*before, sessions=sessions)
+    child, port = serve(*before, sessions=sessions, workers=workers)
     link = http.client.HTTPConnection("127.0.0.1", port)
     ask(link, "POST", "/api/v1/namespaces", NAMESPACE, 201)
     ask(link, "POST", CONFIG_MAPS, config_map("c", 262), 201)
@@ -90,7 +93,7 @@ def config_map(name, size):
 def wrk(url, seconds, pid, links):
     """Requests per second over so many links, and microseconds of the server's processor time each."""
     before = processor_time(pid)
-    out = subprocess.run(["wrk", "-t1", f"-c{links}", f"-d{seconds}s", url], capture_output=True, text=True, check=True).stdout
+    out = subprocess.run(["wrk", f"-t{min(links, 2)}", f"-c{links}", f"-d{seconds}s", url], capture_output=True, text=True, check=True).stdout
     if "Non-2xx" in out or "Socket errors" in out:
         raise SystemExit(out)
     count = int(re.search(r"(\d+) requests in", out)[1])
@@ -165,9 +168,9 @@ def heap(err):
     return [int(number.replace(",", "")) for number in made.groups()]
 
 
-def heap_of_links(links, gets):
+def heap_of_links(links, gets, sessions=4, workers=2):
     """What a server asks for that answers so many links, of so many GETs each."""
-    child, port, link, _ = with_object("valgrind", "--leak-check=no")
+    child, port, link, _ = with_object("valgrind", "--leak-check=no", sessions=sessions, workers=workers)
     link.close()
     for _ in range(links):
         link = http.client.HTTPConnection("127.0.0.1", port)
@@ -194,13 +197,15 @@ def blocks():
     of_link, of_script = (
         (many[0] - few[0]) / GETS for few, many in ((heap_of_links(1, GETS), heap_of_links(1, 2 * GETS)), (heap_of_script(GETS), heap_of_script(2 * GETS)))
     )
-    few, many = heap_of_links(LINKS, 10), heap_of_links(2 * LINKS, 10)
-    print(f"blocks of memory of a GET: {of_link:.2f} over a link, {of_script:.2f} in a script; of a link of ten GETs: {(many[1] - few[1]) / LINKS:,.0f} bytes in {(many[0] - few[0]) / LINKS:.1f} blocks", flush=True)
+    print(f"blocks of memory of a GET: {of_link:.2f} over a link, {of_script:.2f} in a script", flush=True)
+    for sessions, workers in (ALONE, SHARED):
+        few, many = (heap_of_links(links, 10, sessions, workers) for links in (LINKS, 2 * LINKS))
+        print(f"a link of ten GETs to {sessions} + {workers}: {(many[1] - few[1]) / LINKS:,.0f} bytes in {(many[0] - few[0]) / LINKS:.1f} blocks", flush=True)
 
 
-def post_over_link(bodies):
-    """Microseconds of processor time of a POST over a link, head and body in one piece."""
-    child, port, first, _ = with_object()
+def post_over_link(bodies, sessions, workers):
+    """Microseconds of processor time of a POST over a link, head and body in one piece, with that of workers."""
+    child, port, first, _ = with_object(sessions=sessions, workers=workers)
     first.close()
     messages = [f"POST {CONFIG_MAPS} HTTP/1.1\r\nHost: h\r\nContent-Length: {len(body)}\r\n\r\n{body}".encode() for body in bodies]
     with socket.create_connection(("127.0.0.1", port)) as link:
@@ -240,10 +245,11 @@ def post_in_script(bodies):
 
 def posts():
     bodies = [config_map(f"c{number}", 1_024) for number in range(POSTS)]
-    rounds = [(post_over_link(bodies), post_in_script(bodies)) for _ in range(5)]
-    more = statistics.median(mine - its for mine, its in rounds)
-    mine, its = (statistics.median(times) for times in zip(*rounds))
-    print(f"POST of 1 KiB in memory over a link : in a script: processor time {more:+.1f} us, {mine:.1f} us : {its:.1f} us", flush=True)
+    for sessions, workers in (ALONE, SHARED):
+        rounds = [(post_over_link(bodies, sessions, workers), post_in_script(bodies)) for _ in range(5)]
+        more = statistics.median(mine - its for mine, its in rounds)
+        mine, its = (statistics.median(times) for times in zip(*rounds))
+        print(f"POST of 1 KiB in memory over a link to {sessions} + {workers} : in a script: processor time {more:+.1f} us, {mine:.1f} us : {its:.1f} us", flush=True)
 
 
 def main():
