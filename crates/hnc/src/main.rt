@@ -11,7 +11,7 @@ mod serving;
 mod tests;
 mod top;
 
-ghost use Rattle.std.specs.Prelude.{◌≡◌, false, [], None, map, IfOk, IsSomeAnd, string_bytes};
+ghost use Rattle.std.specs.Prelude.{◌≡◌, true, false, [], None, map, IfOk, IsSome, IsSomeAnd, string_bytes};
 ghost use Rattle.hx_words.specs.Words.{command_of, is_reading, reading_of};
 
 use crate::events::EventPrinter;
@@ -151,6 +151,7 @@ fn hub_of(rt: &HostRuntime, prints_events: bool) -> Result<Hub<Printer>, NoMemor
 /// The way of what the words ask for. Words that aren't taken open nothing.
 fn way_of_words(alloc: Global, words: &[String]) -> Result<Way, NoMemory>
     ensures memory { IfOk result (λ way. way.access ≡ Access.Memory → IsSomeAnd (command_of (map string_bytes words.now)) (λ command. command.db ≡ [])) }
+    ensures read { IfOk result (λ way. way.access ≡ Access.Read → IsSome (reading_of (map string_bytes words.now))) }
     ensures written { IfOk result (λ way. way.access ≡ Access.Written → reading_of (map string_bytes words.now) ≡ None) }
 {
     match read_words(alloc, words) {
@@ -168,6 +169,7 @@ fn way_of_words(alloc: Global, words: &[String]) -> Result<Way, NoMemory>
 
 fn access_of(command: &Command) -> Access
     ensures memory { result ≡ Access.Memory → command.now.db ≡ [] }
+    ensures read { result ≡ Access.Read → is_reading command.now.task ≡ true }
     ensures written { result ≡ Access.Written → is_reading command.now.task ≡ false }
 {
     if command.db.as_str().is_empty() {
