@@ -6,7 +6,7 @@ ghost use Rattle.hx_model.specs.Answers.{family_of};
 ghost use Rattle.hx_model.specs.Cases.{any_of};
 ghost use Rattle.hx_model.specs.Limits.{is_anchor};
 ghost use Rattle.hx_model.specs.State.{object_at, namespace_id};
-ghost use Rattle.hx_model.specs.Subnamespaces.{is_owned_by, is_anchored, has_followers, has_children, cascades, allows_cascade};
+ghost use Rattle.hx_model.specs.Subnamespaces.{is_anchored, has_followers, has_children, cascades, allows_cascade};
 ghost use Rattle.hx_model.specs.Tree.{forest_of};
 ghost use Rattle.hx_admit.specs.Families.{IsFamilyFor, allows_cascade_in};
 

@@ -1,8 +1,6 @@
 // What quotas refuse.
 ghost use Rattle.std.specs.Prelude.{◌≡◌, ◌+◌, ◌&&◌, ◌||◌, nat_lt, flat_map, IfOk, option_copied};
-ghost use Rattle.std.specs.List.{list_any};
 ghost use Rattle.hx_model.specs.Cases.{any_of};
-ghost use Rattle.hx_model.specs.First.{first_of};
 ghost use Rattle.hx_model.specs.Quotas.{quotas_in, quotas_for, used, rise_of, same_need, keeps_need, asks_anew, is_left_open, is_lacking_in, is_lacking, over_by, over_limit, over_quota, first_over, refused_by, refused_by_quotas};
 ghost use Rattle.hx_admit.specs.Spending.{raises, may_refuse};
 

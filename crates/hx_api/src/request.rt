@@ -1,5 +1,5 @@
 // Requests as asks.
-ghost use Rattle.std.specs.Prelude.{◌≡◌, ◌⊎◌, Ok, Err, None, Some, true, IfOk, IfErr, OnOk, codes, option_map};
+ghost use Rattle.std.specs.Prelude.{◌≡◌, ◌⊎◌, Ok, Err, None, Some, IfOk, IfErr, OnOk, option_map};
 ghost use Rattle.hx_model.specs.Serving.{IsServedAsk};
 ghost use Rattle.hx_api.specs.Asks.{ask_of, events_after, fields_for, namespace, is_feed, is_list, query_refusal, resource_for, ask_at, selector_for, selector_in};
 ghost use Rattle.hx_api.specs.Inside.{FitsScope, as_sent};

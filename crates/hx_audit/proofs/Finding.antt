@@ -1,9 +1,8 @@
 -- Each key that wants a write is found.
 --     place_found      a place of copies that wants one
 --     wanting_found    any key that does
-use Rattle.std.proofs.Common.{◌≡◌, ◌⊎◌, inl, inr, ℕ, Bool, true, false, cond, not, ◌&&◌, ◌||◌, Option, Some, None, List, [], ◌∷◌, ◌++◌, flat_map, refl, sym, ap, ◌∙◌, subst, true≢false}
+use Rattle.std.proofs.Common.{◌≡◌, ◌⊎◌, inl, inr, ℕ, Bool, true, false, cond, not, ◌&&◌, Option, Some, None, List, [], ◌∷◌, ◌++◌, flat_map, refl, sym, ap, ◌∙◌, subst, true≢false}
 use Rattle.std.specs.Prelude.{is_some, is_none, find, option_and_then, if◌then◌else◌}
-use Rattle.std.specs.List.{list_any}
 use Rattle.std.specs.Str.{bytes_eq}
 use Rattle.std.proofs.lemmas.Bool.{and_parts, and_from, or_left, or_right}
 use Rattle.hx_audit.specs.Candidates.{active_kinds, anchor_keys, copy_keys, is_active, is_ignored, is_lacking, kind_keys, lacking_keys, listed_in, open_keys, place_facts, place_keys, quota_keys, sent_keys, state_of, taken_keys, wanted, wanting, wanting_of}
@@ -15,19 +14,18 @@ use Rattle.hx_model.proofs.Objects.{found_id}
 use Rattle.hx_model.proofs.Passing.{any_filter, passing_name, passing_kind}
 use Rattle.hx_model.specs.Cases.{is_leaving}
 use Rattle.hx_model.specs.First.{so}
-use Rattle.hx_model.specs.Forest.{Forest, node_of, chain_of, children_of, is_in, is_live, tail_of}
+use Rattle.hx_model.specs.Forest.{Forest, node_of, chain_of, children_of, is_in, is_live}
 use Rattle.hx_model.specs.Keys.{is_among}
 use Rattle.hx_model.specs.Limits.{is_copy}
 use Rattle.hx_model.specs.Machine.{wants}
 use Rattle.hx_model.specs.Moves.{copied_kinds, is_eligible, mode_at}
-use Rattle.hx_model.specs.Propagation.{as_list, goes_to, id_in, is_propagated, is_source, source_at, sources_along, stays_home, top_of}
-use Rattle.hx_model.specs.Exceptions.{is_allowed}
+use Rattle.hx_model.specs.Propagation.{as_list, goes_to, id_in, is_source, source_at, sources_along, top_of}
 use Rattle.hx_model.specs.Reports.{conditions_of, report_write}
 use Rattle.hx_model.specs.State.{State, Objects, object_at, namespace_id}
 use Rattle.hx_model.specs.Subnamespaces.{anchor_id}
-use Rattle.hx_model.specs.Tree.{forest_of, hierarchy_id}
+use Rattle.hx_model.specs.Tree.{hierarchy_id}
 use Rattle.hx_model.specs.TreeLabels.{is_open}
-use Rattle.hx_model.specs.Wanted.{anchor_status, anchor_write, child_write, copied, copied_in, copy_write, least_id, quota_id, sums_of, tree_write, used_write, wanted_write, without_copy}
+use Rattle.hx_model.specs.Wanted.{anchor_status, anchor_write, child_write, copied, copied_in, copy_write, quota_id, sums_of, tree_write, used_write, without_copy}
 use Rattle.hx_model.specs.declared.key.Key.{Key}
 use Rattle.hx_model.specs.declared.key.Key.TheVariants as key
 use Rattle.hx_model.specs.declared.key.Write.TheVariants.{Cut}

@@ -2,7 +2,7 @@
 --     planned_here   what is planned by the facts of a state is what is wanted in it
 --     place_same     what is planned for a place of copies is what is wanted there
 --     all_wanting    all that are kept want a write
-use Rattle.std.proofs.Common.{◌≡◌, ℕ, Bool, true, false, Option, Some, None, List, [], ◌∷◌, ◌++◌, flat_map, refl, sym, ap, ◌∙◌}
+use Rattle.std.proofs.Common.{◌≡◌, ℕ, Bool, true, false, Option, Some, None, List, [], flat_map, refl, sym, ap, ◌∙◌}
 use Rattle.std.specs.Prelude.{is_some, if◌then◌else◌}
 use Rattle.std.specs.List.{AllByRecursion}
 use Rattle.hx_audit.specs.Candidates.{active_kinds, anchor_keys, copy_keys, is_lacking, kind_keys, lacking_keys, listed_in, open_keys, place_facts, place_keys, quota_keys, senders, sent_keys, state_of, taken_keys, wanted, wanting, wanting_of}

@@ -2,7 +2,7 @@
 ghost use Rattle.std.specs.Prelude.{◌≡◌, ◌++◌, true, IfOk, None, OnOk, filter};
 ghost use Rattle.hx_model.specs.Answers.{is_listed};
 ghost use Rattle.hx_model.specs.State.{ascends};
-ghost use Rattle.hx_core.specs.Listing.{all_kinds, of_kinds};
+ghost use Rattle.hx_core.specs.Listing.{of_kinds};
 
 use hx_object::{Kind, NoMemory, Shared};
 use hx_store::Store;

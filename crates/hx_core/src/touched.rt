@@ -1,15 +1,13 @@
 // The keys that writes mark: one by one, and those of an object as a whole.
-ghost use Rattle.std.specs.Prelude.{◌≡◌, ◌≤◌, ◌++◌, ◌||◌, true, None, OnOk, IfOk, IfSome, IfNone, filter, length, not, option_copied};
+ghost use Rattle.std.specs.Prelude.{◌≡◌, ◌≤◌, ◌++◌, true, None, IfOk, IfSome, IfNone, filter, length, not, option_copied};
 ghost use Rattle.hx_model.specs.Forest.{Forest as forest};
-ghost use Rattle.hx_model.specs.Keys.{is_among, same_key};
+ghost use Rattle.hx_model.specs.Keys.{same_key};
 ghost use Rattle.hx_model.specs.State.{State, state_after};
 ghost use Rattle.hx_model.specs.Tree.{forest_of};
 ghost use Rattle.hx_model.specs.Valid.{IsValid};
 ghost use Rattle.hx_model.specs.Writes.{MayWriteAll};
-ghost use Rattle.hx_model.specs.declared.key.Key.{Key as key_of};
 ghost use Rattle.hx_marks.specs.Law.{all_marks, open_below};
 ghost use Rattle.hx_line.specs.Line.{IsRanked};
-ghost use Rattle.hx_queue.specs.Spread.{place_keys};
 ghost use Rattle.hx_queue.specs.Workers.{IsMarkedBy};
 ghost use Rattle.hx_core.specs.Committing.{marks_but};
 ghost use Rattle.hx_core.specs.Reaching.{HasRoot, IsScopeOf, IsReady, IsSpreadable, MayMark, whole_keys};

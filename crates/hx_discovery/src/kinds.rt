@@ -1,5 +1,5 @@
 // What is said of kinds.
-ghost use Rattle.std.specs.Prelude.{◌≡◌, ◌++◌, false, not, string_bytes, OnOk};
+ghost use Rattle.std.specs.Prelude.{◌≡◌, ◌++◌, false, string_bytes, OnOk};
 ghost use Rattle.hx_object.specs.Kinds.{is_in_cluster};
 ghost use Rattle.hx_discovery.specs.Groups.{short_names};
 ghost use Rattle.hx_discovery.specs.Documents.{kind_head, listed, names_text, plural_head, resource_end, resource_text, scope_head, scope_text, short_head, truth};

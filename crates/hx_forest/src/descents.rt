@@ -1,5 +1,5 @@
 // ParentRefs down, by the children of each name.
-ghost use Rattle.std.specs.Prelude.{◌≡◌, ◌+◌, ◌-◌, ◌≤◌, ◌++◌, true, false, not, filter, IfOk, IfSome, OnOk, option_copied};
+ghost use Rattle.std.specs.Prelude.{◌≡◌, ◌+◌, ◌-◌, ◌++◌, true, false, not, filter, IfOk, IfSome, OnOk, option_copied};
 ghost use Rattle.std.specs.Str.{bytes_eq};
 ghost use Rattle.hx_model.specs.Forest.{is_there, in_chain, subtree_of, reaches_deeper, with_parent};
 ghost use Rattle.hx_model.specs.Walks.{length_from};

@@ -1,5 +1,5 @@
 // Why namespaces are halted.
-ghost use Rattle.std.specs.Prelude.{◌≡◌, ℕ, List, true, ◌+◌, ◌≤◌, false, Some, [], ◌∷◌, not, ◌&&◌, is_some, length, option_copied, IfSome};
+ghost use Rattle.std.specs.Prelude.{◌≡◌, ℕ, List, true, ◌+◌, ◌≤◌, false, Some, [], ◌∷◌, not, ◌&&◌, is_some, length, option_copied};
 ghost use Rattle.std.specs.Map.{keys_of};
 ghost use Rattle.hx_model.specs.Cases.{is_leaving};
 ghost use Rattle.hx_model.specs.First.{so, first};

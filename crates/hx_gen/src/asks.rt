@@ -1,5 +1,5 @@
 // The requests for a place.
-ghost use Rattle.std.specs.Prelude.{◌≡◌, IfOk, []};
+ghost use Rattle.std.specs.Prelude.{◌≡◌, IfOk};
 ghost use Rattle.hx_model.specs.Serving.{IsServedAsk};
 ghost use Rattle.hx_gen.specs.Asked.{creating, hierarchy_ask, namespace_ask, namespace_name, no_members, pod_ask, role_ask, role_name};
 

@@ -1,6 +1,6 @@
 // What a head decides of its message.
-ghost use Rattle.std.specs.Prelude.{◌≡◌, ◌≢◌, ◌≤◌, List, ℕ, true, None, Some, IfSome, IfNone, IfOk, length, map, take, All, codes, IsUtf8};
-ghost use Rattle.std.specs.List.{list_all, list_any};
+ghost use Rattle.std.specs.Prelude.{◌≡◌, ◌≢◌, ◌≤◌, List, ℕ, true, None, Some, IfSome, IfNone, IfOk, length, map, All, IsUtf8};
+ghost use Rattle.std.specs.List.{list_all};
 ghost use Rattle.std.specs.Char.{is_ascii_digit};
 ghost use Rattle.std.specs.Str.Parse.{digits_value};
 ghost use Rattle.httparse.specs.Spans.{IsRequestWithin, IsWithin, IsHeaderWithin, span_bytes, header_bytes};

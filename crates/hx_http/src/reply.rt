@@ -1,5 +1,5 @@
 // The text of a reply.
-ghost use Rattle.std.specs.Prelude.{◌≡◌, ◌++◌, [], OnOk, length, string_bytes, unwrap_or};
+ghost use Rattle.std.specs.Prelude.{◌≡◌, ◌++◌, [], OnOk, string_bytes, unwrap_or};
 ghost use Rattle.http.specs.StatusCode.{IsStatusCode, reason_phrase};
 ghost use Rattle.hx_http.specs.Replies.{closing, end_text, head_text, length_lines, reply_text, status_line, type_text, version_text};
 

@@ -10,7 +10,6 @@ ghost use Rattle.hx_model.specs.declared.key.Key.TheVariants as key;
 use hx_model::Key;
 use hx_object::{Kind, Text};
 use indexmap::Equivalent;
-use std::alloc::AllocError;
 use std::hash::{Hash, Hasher};
 
 /// The key of a copy, by borrowed parts. It is looked up by them, so that no text is copied.

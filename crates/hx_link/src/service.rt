@@ -1,5 +1,5 @@
 // What answers messages.
-ghost use Rattle.std.specs.Prelude.{ℕ, List, [], ◌∷◌, ◌++◌};
+ghost use Rattle.std.specs.Prelude.{List, [], ◌∷◌, ◌++◌};
 ghost use Rattle.hx_http.specs.Replies.{fault_text};
 ghost use Rattle.hx_http.specs.Searches.{message_seen};
 ghost use Rattle.hx_http.specs.Streams.{Question, Asked, Rejected};

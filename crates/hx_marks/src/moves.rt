@@ -1,5 +1,5 @@
 // Namespaces get other parents.
-ghost use Rattle.std.specs.Prelude.{◌≡◌, ◌++◌, true, false, not, None, IfOk, OnOk, flat_map, option_copied};
+ghost use Rattle.std.specs.Prelude.{◌≡◌, ◌++◌, true, false, None, IfOk, OnOk, flat_map, option_copied};
 ghost use Rattle.hx_model.specs.Forest.{is_in};
 ghost use Rattle.hx_model.specs.Moves.{chain_from, is_open_above};
 ghost use Rattle.hx_model.specs.TreeLabels.{is_open};

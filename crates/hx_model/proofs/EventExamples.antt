@@ -1,11 +1,9 @@
 -- Events of small runs: what is told of them, and since which versions.
-use Rattle.std.proofs.Common.{◌≡◌, ℕ, true, false, List, [], ◌∷◌, Some, None, codes, refl}
+use Rattle.std.proofs.Common.{◌≡◌, ℕ, false, List, [], ◌∷◌, None, codes, refl}
 use Rattle.std.specs.Fmt.{digits}
 use Rattle.hx_object.specs.declared.kind.Kind.TheVariants.{ConfigMap}
-use Rattle.hx_object.specs.declared.object.Need.{Need}
 use Rattle.hx_object.specs.declared.object.Object.{Object}
 use Rattle.hx_object.specs.declared.object.Payload.TheVariants.{Namespace as NamespaceOf, Plain, Anchor}
-use Rattle.hx_model.specs.declared.ask.Answer.{Answer}
 use Rattle.hx_model.specs.declared.ask.Answer.TheVariants.{Events as Happened, Refused as Refusing}
 use Rattle.hx_model.specs.declared.ask.Ask.TheVariants.{Events as EventsSince}
 use Rattle.hx_model.specs.declared.config.RunConfig.{RunConfig}
@@ -15,7 +13,7 @@ use Rattle.hx_model.specs.declared.event.What.TheVariants.{Added, Changed, Remov
 use Rattle.hx_model.specs.declared.key.Write.TheVariants.{Put, Cut}
 use Rattle.hx_model.specs.declared.refusal.Refusal.TheVariants.{BadQuery, Expired}
 use Rattle.hx_model.specs.Answers.{answer_to, ended}
-use Rattle.hx_model.specs.State.{State, events_of, namespace_id, opening_state, restarted, state_after, with_version}
+use Rattle.hx_model.specs.State.{State, events_of, namespace_id, opening_state, restarted, state_after}
 use Rattle.hx_model.specs.Subnamespaces.{anchor_id}
 use Rattle.hx_model.specs.Limits.{counts}
 use Rattle.hx_model.specs.Replies.{message_of, gone_message}

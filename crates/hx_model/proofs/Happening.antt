@@ -1,7 +1,7 @@
 -- What the events of a commit keep.
 --     recent_after     the window after the writes of a commit
-use Rattle.std.proofs.Common.{◌≡◌, ◌≤◌, ℕ, ◌+◌, ◌-◌, Bool, true, not, List, [], ◌∷◌, ◌++◌, length, take, drop, filter, flat_map, Option, Some, None, refl, sym, ap, subst, ◌∙◌, arith}
-use Rattle.std.specs.Prelude.{is_some, option_map}
+use Rattle.std.proofs.Common.{◌≡◌, ◌≤◌, ℕ, ◌+◌, ◌-◌, Bool, true, not, List, [], ◌∷◌, ◌++◌, length, filter, flat_map, Option, refl, sym, subst, arith}
+use Rattle.std.specs.Prelude.{option_map}
 use Rattle.std.specs.List.{AllByRecursion}
 use Rattle.std.specs.Option.{option_to_list}
 use Rattle.hx_object.specs.Faults.{IsLegal}
@@ -10,7 +10,7 @@ use Rattle.hx_model.specs.declared.event.Event.{Event}
 use Rattle.hx_model.specs.declared.event.What.TheVariants.{Removed}
 use Rattle.hx_model.specs.declared.key.Write.{Write}
 use Rattle.hx_model.specs.declared.key.Write.TheVariants.{Put, Cut}
-use Rattle.hx_model.specs.State.{State, object_at, with_version, event_by, events_of, is_put}
+use Rattle.hx_model.specs.State.{State, with_version, event_by, events_of, is_put}
 use Rattle.hx_model.specs.Valid.{IsValid, IsRecent, IsStored}
 use Rattle.hx_model.specs.Windows.{WindowView, Ascend, last_version, newest, most_events, with_events}
 use Rattle.hx_model.specs.Writes.{MayWrite}

@@ -1,17 +1,16 @@
 -- The order of the events of a commit.
 --     requests_tell_in_order     of a request
 --     turns_tell_once            of a worker's turn
-use Rattle.std.proofs.Common.{◌≡◌, ◌≤◌, ◌+◌, ℕ, Bool, true, false, not, cond, ◌&&◌, List, [], ◌∷◌, ◌++◌, length, map, filter, flat_map, Option, Some, None, refl, sym, ap, subst, ◌∙◌, arith, true≢false, append-nil}
+use Rattle.std.proofs.Common.{◌≡◌, ◌≤◌, ◌+◌, ℕ, Bool, true, false, not, ◌&&◌, List, [], ◌∷◌, ◌++◌, length, map, filter, flat_map, Option, Some, None, refl, sym, ap, subst, ◌∙◌, arith, true≢false, append-nil}
 use Rattle.std.specs.Prelude.{option_map, if◌then◌else◌}
 use Rattle.std.specs.List.{AllByRecursion}
 use Rattle.std.specs.Option.{option_to_list}
-use Rattle.std.specs.Ordering.{is_lt, ordering_then, nat_cmp}
+use Rattle.std.specs.Ordering.{is_lt}
 use Rattle.std.proofs.lemmas.Bool.{and_parts, and_from}
 use Rattle.std.proofs.lemmas.Grind.{flat_map-append}
 use Rattle.std.proofs.lemmas.List.{map-append}
 use Rattle.hx_object.specs.Kinds.{number_of, is_namespace, is_anchor}
 use Rattle.hx_object.specs.Order.{id_cmp}
-use Rattle.hx_object.specs.Texts.{bytes_cmp}
 use Rattle.hx_object.specs.declared.kind.Kind.{Kind}
 use Rattle.hx_object.specs.declared.kind.Kind.TheVariants as kind
 use Rattle.hx_object.specs.declared.object.Id.{Id}
@@ -25,7 +24,7 @@ use Rattle.hx_model.specs.declared.key.Write.TheVariants.{Put, Cut}
 use Rattle.hx_model.specs.declared.refusal.Refusal.{Refusal}
 use Rattle.hx_model.specs.Answers.{refusal_of, writes_of, replacing, replaced_by, same_object, ended, ending, begins_to_leave, deleting, owns_named, is_ended}
 use Rattle.hx_model.specs.Happening.{RequestsTellInOrder, TurnsTellOnce, objects_told}
-use Rattle.hx_model.specs.Machine.{writes_if, writes_made}
+use Rattle.hx_model.specs.Machine.{writes_if}
 use Rattle.hx_model.specs.State.{State, Objects, ascends, is_below_all, object_at, with_version, event_by, events_of, is_put}
 use Rattle.hx_model.specs.Tree.{namespaces_in}
 use Rattle.hx_model.proofs.Lists.{all_more, all_filtered}

@@ -1,9 +1,9 @@
 -- What a window keeps of events that ascend, and what it loses.
-use Rattle.std.proofs.Common.{◌≡◌, ℕ, ◌+◌, ◌-◌, ◌<◌, ◌≤◌, cond, nat_lt, List, [], ◌∷◌, ◌++◌, length, take, drop, refl, sym, ap, subst, ◌∙◌, arith, append_assoc, length-append, length-drop, le-ltb, lt-ltb, take-add, drop-drop}
+use Rattle.std.proofs.Common.{◌≡◌, ℕ, ◌+◌, ◌-◌, ◌<◌, ◌≤◌, cond, List, [], ◌∷◌, ◌++◌, length, take, drop, refl, sym, ap, subst, ◌∙◌, arith, append_assoc, length-append, length-drop, le-ltb, lt-ltb, take-add, drop-drop}
 use Rattle.std.proofs.lemmas.List.{take-append-drop, take-append-le, drop-append-le}
 use Rattle.std.proofs.lemmas.List.Elements.{filter-append}
 use Rattle.hx_model.specs.declared.event.Event.{Event}
-use Rattle.hx_model.specs.Windows.{WindowView, Ascend, last_version, newest, is_over, events_since, ComeInParts, KeepNewest, RaiseFloor, LoseNothing}
+use Rattle.hx_model.specs.Windows.{WindowView, Ascend, last_version, is_over, events_since, ComeInParts, KeepNewest, RaiseFloor, LoseNothing}
 
 pub last-append : (v : ℕ) (es fs : List Event) → last_version v (es ++ fs) ≡ last_version (last_version v es) fs
 last-append v [] fs = refl

@@ -3,8 +3,7 @@
 --     objects_told             the objects that events tell
 --     RequestsTellInOrder      a request's events stand in order of identities, one for each object
 --     TurnsTellOnce            a worker's turn has one event at most
-use Rattle.std.specs.Prelude.{◌≡◌, ◌≤◌, ℕ, true, List, [], ◌∷◌, ◌++◌, length, map, Option}
-use Rattle.hx_object.specs.declared.object.Object.{Object}
+use Rattle.std.specs.Prelude.{◌≡◌, ◌≤◌, true, List, [], ◌∷◌, ◌++◌, length, map, Option}
 use Rattle.hx_model.specs.declared.ask.Ask.{Ask}
 use Rattle.hx_model.specs.declared.event.Event.{Event}
 use Rattle.hx_model.specs.declared.key.Finish.{Finish}

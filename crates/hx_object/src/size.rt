@@ -1,10 +1,8 @@
 // The sizes of objects, which are counted no further than to one byte more than an object may have.
 ghost use Rattle.std.specs.Prelude.{◌≡◌, ◌+◌, nat_lt, length};
-ghost use Rattle.json.specs.Print.{quoted, escape, escape_byte, escape_letter};
+ghost use Rattle.json.specs.Print.{quoted, escape_byte, escape_letter};
 ghost use Rattle.hx_object.specs.Sizes.{greatest_size, pair_size, counted, config_size, hierarchy_size, quota_size, specified_size, size_of};
 ghost use Rattle.hx_object.specs.CappedSizes.{capped, capped_sum, entry_size, limit_size};
-ghost use Rattle.hx_object.specs.Json.{entry_data};
-ghost use Rattle.serde_json.specs.Written.{compact_text};
 ghost use Rattle.serde_json.specs.Data.{object};
 
 use crate::Text;

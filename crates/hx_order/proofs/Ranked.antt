@@ -1,9 +1,8 @@
 -- The order of turns.
 --     turns_in_order     it is total, and only equal keys tie
 --     none_before        the first of some keys: none of them is on a lower level
-use Rattle.std.proofs.Common.{◌≡◌, ◌<◌, ◌==◌, ℕ, true, false, ◌&&◌, nat_lt, inl, inr, List, refl, sym, ap, ◌∙◌, true≢false}
-use Rattle.std.specs.declared.cmp.Ordering.{Ordering}
-use Rattle.std.specs.declared.cmp.Ordering.TheVariants.{Less, Equal, Greater}
+use Rattle.std.proofs.Common.{◌≡◌, ◌<◌, ◌==◌, ℕ, true, false, nat_lt, inl, inr, List, sym, ap, ◌∙◌, true≢false}
+use Rattle.std.specs.declared.cmp.Ordering.TheVariants.{Less, Equal}
 use Rattle.std.specs.Ordering.{nat_cmp, ordering_then, is_lt}
 use Rattle.std.specs.Cmp.{on_total, then_total, nat_cmp_total, nat_cmp_is}
 use Rattle.std.proofs.lemmas.Bool.{or_cases, and_parts, ltb-true, eqb-true, cases_Bool}

@@ -1,8 +1,8 @@
 // A file that is only read. What is written to it lies in memory.
-ghost use Rattle.std.specs.Prelude.{◌≡◌, ◌+◌, ◌^◌, ◌<◌, ◌≤◌, false, true, refl, length, is_ok, All, IfOk, IsTrue};
+ghost use Rattle.std.specs.Prelude.{◌≡◌, ◌+◌, ◌<◌, false, refl, length, is_ok, IfOk, IsTrue};
 ghost use Rattle.sqlite_disk.specs.Disk.{CountsFault};
 ghost use Rattle.sqlite_disk.specs.Refusal.{finds_no_room};
-ghost use Rattle.sqlite_wal.specs.Reads.{IsClean, OnlyReads};
+ghost use Rattle.sqlite_wal.specs.Reads.{IsClean};
 
 use crate::change::Change;
 use crate::changing::{is_kept_below, len_behind, note_cut, note_written, read_changed};

@@ -9,7 +9,7 @@ ghost use Rattle.hx_ports.specs.Rows.{entry_of, entries_of, is_told, lies_behind
 use crate::held_row::HeldRow;
 use crate::keeper::{Meta, Row};
 use crate::row_map::{RowMap, copy_rows, held_row_behind, lay_row, sort_rows};
-use hx_object::{List, NoMemory};
+use hx_object::NoMemory;
 use std::alloc::Global;
 
 /// Whether a keeper of these rows tells them.

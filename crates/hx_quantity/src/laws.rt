@@ -1,6 +1,5 @@
 // What is printed is read again.
 ghost use Rattle.std.specs.Prelude.{◌≡◌, ◌≢◌, ◌≤◌, ◌<◌, ◌^◌, ◌⊎◌, ◌%◌, ℕ, Ok, Err, Some};
-ghost use Rattle.hx_object.specs.declared.quantity.QuantityFault.{QuantityFault};
 ghost use Rattle.hx_object.specs.declared.quantity.QuantityFault.TheVariants.{TooLong};
 ghost use Rattle.hx_object.specs.Quantities.{quantity_of, quantity_text};
 ghost use Rattle.hx_quantity.specs.Printed.{printed_amount};

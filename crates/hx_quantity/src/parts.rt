@@ -1,5 +1,5 @@
 // The parts of a text.
-ghost use Rattle.std.specs.Prelude.{◌≡◌, ◌≤◌, ℕ, true, length, not, position, take, drop};
+ghost use Rattle.std.specs.Prelude.{◌≡◌, ◌≤◌, true, length, not, position, take, drop};
 ghost use Rattle.std.specs.List.{list_all};
 ghost use Rattle.hx_object.specs.Names.{is_digit};
 ghost use Rattle.hx_quantity.specs.Inside.{written};

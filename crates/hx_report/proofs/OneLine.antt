@@ -4,14 +4,14 @@
 --     ends          a walk up by who stands above whom ends, since it takes no name twice
 --     one_line      so each namespace has one line
 use Rattle.std.specs.Prelude.{is_some, is_none, slice_get, if◌then◌else◌}
-use Rattle.std.proofs.Common.{◌≡◌, ℕ, zero, suc, ◌+◌, ◌≤◌, ◌⊎◌, Bool, true, false, cond, not, ◌&&◌, ◌||◌, Option, Some, None, List, [], ◌∷◌, ◌++◌, filter, length, map, refl, sym, ap, ◌∙◌, subst, inl, inr, arith, append_assoc, append-nil, true≢false, length-append, zero-add}
+use Rattle.std.proofs.Common.{◌≡◌, ℕ, zero, suc, ◌+◌, ◌≤◌, Bool, true, false, cond, not, ◌&&◌, ◌||◌, Option, Some, None, List, [], ◌∷◌, ◌++◌, filter, length, map, refl, sym, ap, ◌∙◌, subst, inl, inr, arith, true≢false, length-append, zero-add}
 use Rattle.std.specs.List.{flat_map, IsDistinct}
 use Rattle.std.specs.Map.{lookup}
 use Rattle.std.specs.Option.{option_map_or}
 use Rattle.std.specs.Str.{bytes_eq}
-use Rattle.std.proofs.lemmas.Bool.{and_parts, false_from_ne_true, cases_Bool}
-use Rattle.hx_model.specs.Forest.{Forest, names_of, is_in, is_there, parent_of, goes_on, chain_of, in_chain, comes_back}
-use Rattle.hx_model.proofs.Climbing.{Climbs, at_top, stopped, onward, chain-Climbs, is_same, is_in_push, AreThere, AreThere-push, none_there, few, Above, itself, through, above_chain, chain_trans}
+use Rattle.std.proofs.lemmas.Bool.{and_parts, false_from_ne_true}
+use Rattle.hx_model.specs.Forest.{Forest, names_of, is_in, is_there, parent_of, chain_of, in_chain, comes_back}
+use Rattle.hx_model.proofs.Climbing.{Climbs, at_top, stopped, onward, chain-Climbs, is_same, is_in_push, AreThere, AreThere-push, none_there, few, itself, through, above_chain, chain_trans}
 use Rattle.hx_report.specs.Inside.{above_of, is_that}
 use Rattle.hx_report.specs.Outline.{below, tops, is_top, stands_below, line_at, lines_under, lines_of}
 use Rattle.hx_report.specs.Outlined.{lines_with}

@@ -1,6 +1,5 @@
 // What is told of quotas.
 ghost use Rattle.std.specs.Prelude.{◌≡◌, ◌++◌, ◌∷◌, [], IfOk, OnOk, string_bytes};
-ghost use Rattle.std.specs.List.{flat_map};
 ghost use Rattle.hx_object.specs.Quantities.{quantity_text};
 ghost use Rattle.hx_survey.specs.Surveyed.{tree_of};
 ghost use Rattle.hx_report.specs.Sums.{limit_line, quota_lines, quota_text, used_by_name};

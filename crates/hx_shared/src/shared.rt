@@ -1,5 +1,5 @@
 // The cluster and its seats.
-ghost use Rattle.std.specs.Prelude.{◌≡◌, ◌≢◌, ◌<◌, [], true, Some, IfOk, IfErr, IsSome, option_map};
+ghost use Rattle.std.specs.Prelude.{◌≡◌, ◌≢◌, ◌<◌, [], true, IfOk, IfErr, IsSome, option_map};
 ghost use Rattle.hx_model.specs.Serving.{IsServedAsk, IsLegalAnswer};
 ghost use Rattle.hx_reconcile.specs.declared.brief.Brief.{Brief as brief_of};
 ghost use Rattle.hx_turn.specs.Passes.{IsOutside, after_split, all_rights, first_pass, split_off};

@@ -17,7 +17,7 @@ use crate::names::NameChange;
 use hx_forest::Change as TreeChange;
 use hx_model::{Node, is_terminating, parent_by, subnamespace_parent};
 use hx_object::well_known::HIERARCHY;
-use hx_object::{Id, Kind, NoMemory, Object, Shared, Text};
+use hx_object::{Id, Kind, NoMemory, Object, Text};
 use hx_store::Change;
 
 /// What writes change beside the objects.

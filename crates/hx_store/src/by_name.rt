@@ -2,7 +2,6 @@
 ghost use Rattle.std.specs.Prelude.{◌≡◌, ◌++◌, ℕ, false, [], Some, OnOk, MatchResult, length, slice_get, option_copied};
 ghost use Rattle.std.specs.Option.{option_map_or};
 ghost use Rattle.hx_store.specs.ObjectTable.{IsObjectTable, EditsObjectTable, made, swept, unchanged, entries_of, of_place, HasNoOther};
-ghost use Rattle.hx_store.specs.Sources.{indexed_in};
 ghost use Rattle.hx_store.specs.ByName.{turned, turned_places, entry_place, entries_at, indexed_at, indexed_among};
 
 use crate::kind_table::KindTable;

@@ -2,7 +2,7 @@
 ghost use Rattle.std.specs.Prelude.{◌≡◌, ◌++◌, ◌-◌, ◌<◌, ℕ, List, [], true, Option, Some, IfSome, OnOk, MatchResult, is_some, length, option_copied, slice_get};
 ghost use Rattle.hx_object.specs.Kinds.{number_of};
 ghost use Rattle.hx_model.specs.State.{least_in};
-ghost use Rattle.hx_store.specs.ObjectTable.{IsKindTable, IsObjectTable, IsSound, objects_at, place_at, found, EditsObjectTable, made, filled, swept, unchanged, objects_listed};
+ghost use Rattle.hx_store.specs.ObjectTable.{IsObjectTable, IsSound, objects_at, place_at, found, EditsObjectTable, made, filled, swept, unchanged, objects_listed};
 ghost use Rattle.hx_store.specs.Sources.{indexed_in};
 
 use crate::change::is_indexed;

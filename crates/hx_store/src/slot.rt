@@ -1,5 +1,5 @@
 // What lies on a table of names.
-ghost use Rattle.std.specs.Prelude.{◌≡◌, IfOk, IfSome, Some, None, option_copied, refl};
+ghost use Rattle.std.specs.Prelude.{◌≡◌, IfOk, Some, None, option_copied, refl};
 ghost use Rattle.std.specs.Cmp as laws_of;
 ghost use Rattle.std.specs.Cmp.{on_equiv, on_per, on_po, on_total};
 ghost use Rattle.std.specs.Cmp.Lexicographic.{bytes_decides, nat_list_eq_equiv, nat_list_cmp_total, texts_ties, texts_po};

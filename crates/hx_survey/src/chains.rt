@@ -1,7 +1,5 @@
 // Lists of names by walks, and by the nodes.
-ghost use Rattle.std.specs.Prelude.{◌≡◌, ◌==◌, Some, true, false, not, [], map, filter, length, IfOk, option_copied, slice_index_or, slice_set};
-ghost use Rattle.std.specs.Option.{option_map_or};
-ghost use Rattle.std.specs.Str.{bytes_eq};
+ghost use Rattle.std.specs.Prelude.{◌≡◌, ◌==◌, Some, true, false, not, [], map, filter, length, IfOk, slice_index_or, slice_set};
 ghost use Rattle.hx_model.specs.Forest.{chain_of, children_of, climb, subtree_of};
 ghost use Rattle.hx_survey.specs.Inside.{Ascends, marks, name_at, names_parent, place_of, ups_of, walk_at};
 

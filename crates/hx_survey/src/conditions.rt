@@ -1,5 +1,5 @@
 // What is told of a namespace beside its children.
-ghost use Rattle.std.specs.Prelude.{◌≡◌, ◌++◌, false, IfOk, OnOk, option_copied, option_map};
+ghost use Rattle.std.specs.Prelude.{◌≡◌, ◌++◌, false, IfOk, OnOk, option_map};
 ghost use Rattle.std.specs.Option.{option_map_or};
 ghost use Rattle.hx_model.specs.Propagation.{as_list};
 ghost use Rattle.hx_model.specs.Reports.{condition_of, conditions_in, misses_anchor};

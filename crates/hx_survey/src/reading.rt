@@ -1,9 +1,8 @@
 // The nodes of the tree, read off the objects.
-ghost use Rattle.std.specs.Prelude.{◌≡◌, true, map, filter, IfOk, option_copied};
-ghost use Rattle.hx_object.specs.declared.object.Object.{Object as Stored};
+ghost use Rattle.std.specs.Prelude.{◌≡◌, true, IfOk, option_copied};
 ghost use Rattle.hx_model.specs.Forest.{is_in};
-ghost use Rattle.hx_model.specs.State.{ascends, object_at};
-ghost use Rattle.hx_model.specs.Tree.{forest_in, hierarchy_id, namespaces_in, node_in, parent_in};
+ghost use Rattle.hx_model.specs.State.{ascends};
+ghost use Rattle.hx_model.specs.Tree.{forest_in, namespaces_in, node_in, parent_in};
 
 use crate::search::{Sought, find, run_of};
 use hx_model::{Node, is_terminating, parent_by};

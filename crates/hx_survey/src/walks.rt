@@ -1,5 +1,5 @@
 // Walks up by indices.
-ghost use Rattle.std.specs.Prelude.{◌≡◌, ◌==◌, ℕ, length, is_some};
+ghost use Rattle.std.specs.Prelude.{◌≡◌, ◌==◌, length, is_some};
 ghost use Rattle.hx_survey.specs.Inside.{up_at, halt_at, walk_at};
 
 use hx_model::Halt;

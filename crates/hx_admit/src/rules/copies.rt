@@ -16,7 +16,7 @@ use hx_model::{Denial, Rule, is_copy, mode_in};
 use hx_object::well_known::{
     INHERITED_FROM, NONE_EXCEPTION, SELECT_EXCEPTION, TREE_SELECT_EXCEPTION,
 };
-use hx_object::{Mode, NoMemory, Object, Text};
+use hx_object::{Mode, NoMemory, Object};
 use hx_reconcile::exception;
 use hx_select::{SelectFault, Selector, TreeFault, TreeSelect};
 use std::alloc::Global;

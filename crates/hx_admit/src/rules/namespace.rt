@@ -9,9 +9,8 @@ ghost use Rattle.hx_admit.specs.Ruling.{case_of};
 
 use super::check_rule;
 use crate::case::Case;
-use hx_forest::Forest;
 use hx_model::{Denial, Rule, is_same_name, is_terminating};
-use hx_object::{Object, Text};
+use hx_object::Object;
 use hx_state::annotated_parent;
 
 pub fn check_rules(case: &Case) -> Result<(), Denial>

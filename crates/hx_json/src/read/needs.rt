@@ -1,7 +1,7 @@
 // What quotas and propagation need to know of Secrets, Pods and claims.
 ghost use Rattle.std.specs.Prelude.{◌≡◌, ◌++◌, IfOk, OnOk, option_map};
 ghost use Rattle.serde_json.specs.Find.{get};
-ghost use Rattle.hx_object.specs.Needs.{amount_at, asked_in, asks_in, container_of, containers_in, containers_of, is_finished_in, is_token, need_of, request_in, storage_asked};
+ghost use Rattle.hx_object.specs.Needs.{amount_at, asked_in, container_of, containers_in, containers_of, is_finished_in, is_token, need_of, request_in, storage_asked};
 ghost use Rattle.hx_json.specs.Inside.{need_said};
 ghost use Rattle.hx_json.specs.Reading.{items_in, kept_members};
 ghost use Rattle.hx_json.specs.Trees.{said, said_items};

@@ -1,12 +1,12 @@
 // The parts of the object that a body says.
-ghost use Rattle.std.specs.Prelude.{◌≡◌, ◌≤◌, [], true, None, Some, codes, option_copied, option_map, IfOk};
+ghost use Rattle.std.specs.Prelude.{◌≡◌, ◌≤◌, [], true, None, Some, option_copied, option_map, IfOk};
 ghost use Rattle.json.specs.Value.{value_view, members_view};
 ghost use Rattle.serde_json.specs.Data.{depth};
 ghost use Rattle.serde_json.specs.Read.{max_depth};
 ghost use Rattle.hx_object.specs.declared.kind.Kind.TheVariants as Kind;
 ghost use Rattle.hx_object.specs.Canonical.{IsCanonical};
 ghost use Rattle.hx_model.specs.Serving.{has_type, is_text_or_none};
-ghost use Rattle.hx_json.specs.Reading.{counted_member, entries_of, entry_of, expected_of, id_of, in_spec, kept_members, metadata_in, pair_of, pairs_in, pairs_of, payload_of, plain_of, target_at, text_in, text_or, unless_empty_text, unless_null};
+ghost use Rattle.hx_json.specs.Reading.{counted_member, entries_of, entry_of, expected_of, id_of, in_spec, metadata_in, pair_of, pairs_in, pairs_of, payload_of, target_at, text_in, text_or, unless_empty_text, unless_null};
 ghost use Rattle.hx_json.specs.Trees.{are_sorted, has_sorted_limits, is_sorted, is_sorted_in, is_sorted_inside, keeps_order_for, laid_members, laid_out, said, said_items};
 
 use super::kept::kept;

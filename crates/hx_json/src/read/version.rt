@@ -1,5 +1,5 @@
 // Versions as bodies give them.
-ghost use Rattle.std.specs.Prelude.{◌≡◌, ◌≤◌, ◌<◌, ◌^◌, IsTrue, length};
+ghost use Rattle.std.specs.Prelude.{◌≡◌, ◌≤◌, ◌<◌, IsTrue, length};
 ghost use Rattle.std.specs.List.{list_all};
 ghost use Rattle.hx_object.specs.Names.{is_digit};
 ghost use Rattle.hx_json.specs.LongDecimals.{long_decimal};

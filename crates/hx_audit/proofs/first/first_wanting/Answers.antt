@@ -1,6 +1,3 @@
-use Rattle.std.proofs.Common.{rules, ◌≡◌, ◌∙◌, IfOk, None, ap, subst, sym}
-use Rattle.hx_model.specs.Forest.{Forest}
-use Rattle.hx_audit.specs.Candidates.{least_from, wanting_in}
 use Rattle.hx_audit.proofs.Auditing.{told_all}
 use Rattle.hx_audit.proofs.first.first_wanting.Goals as goal
 
