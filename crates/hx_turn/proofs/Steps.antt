@@ -6,7 +6,7 @@ use mathlib.Core.List.{IsPrefix}
 use native.Mathlib.Decide.{ℕ_discrete}
 use mathlib.Core.Logic.{dite}
 use lib.ListN.{get_elem?}
-use Rattle.atomic_table.specs.Table.{State, Me, Step, step, Act, keeps, takes, gives, put_back, rest, Allows, Splits, Joins, opening, Final, Seen}
+use Rattle.atomic_table.specs.Table.{State, Me, step, Act, keeps, takes, gives, put_back, rest, Allows, Splits, Joins, opening, Final, Seen}
 use Rattle.atomic_table.proofs.Lists.{one_turn, set_here, set_again, set_else, at_longer}
 use Rattle.hx_turn.specs.declared.view.View.{View}
 use Rattle.hx_turn.specs.Passes.{all_rights, carrying, after_entry, after_split, split_off, first_pass, spent, joined}

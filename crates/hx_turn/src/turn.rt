@@ -5,6 +5,7 @@ ghost use Rattle.hx_turn.specs.Passes.{IsInside, IsOutside, Keeps, after_entry, 
 ghost use Rattle.hx_turn.specs.Steps.{Served};
 
 use crate::bells::Bells;
+use crate::turnstile::Turnstile;
 use crate::view::View;
 use atomic_table::{Join, Play, Refused, Seat, Split, Table, TableRule};
 use std::alloc::{AllocFailed, Global};
@@ -96,13 +97,15 @@ impl<E, O> Join<View<E, O>> for Glue {
 /// A caller's pass to a lock. It has no bytes, and contracts see what it knows (`me.0`), what it has out of the slot (`me.1`), and whose it is (`table_id`).
 pub type Pass<T, E, O> = Seat<Option<T>, View<E, O>>;
 
-/// How long a caller looks for its turn before it sleeps.
+/// How long a caller waits before it draws a ticket, and how long it looks for its turn then before it sleeps.
 #[derive(Clone, Copy)]
 pub struct Patience {
     /// How often it looks, one look right behind the other.
     pub looks: u64,
     /// How often it looks then, and lets other threads run between two looks.
     pub yields: u64,
+    /// How often it sleeps then, before it draws a ticket although others are inside. With a ticket it sleeps until its turn comes.
+    pub sleeps: u64,
 }
 
 impl Patience {
@@ -111,14 +114,16 @@ impl Patience {
         Patience {
             looks: 100,
             yields: 32,
+            sleeps: 1,
         }
     }
 
-    /// For turns that last, as one does that waits for the outside: it looks once, and sleeps.
+    /// For turns that last, as one does that waits for the outside: it draws a ticket at once, looks, and sleeps.
     pub fn for_long_turns() -> Patience {
         Patience {
             looks: 0,
             yields: 0,
+            sleeps: 0,
         }
     }
 }
@@ -128,6 +133,7 @@ impl Patience {
 /// It ends by `close` alone, which gives the value back.
 pub struct Turn<T: Stands<E, O>, E, O> {
     patience: Patience,
+    turnstile: Turnstile,
     bells: Bells,
     table: Table<Option<T>, View<E, O>, Snapshot<T>, Turns, Global>,
 }
@@ -169,6 +175,7 @@ impl<T: Stands<E, O>, E, O> Turn<T, E, O> {
             Ok((table, pass)) => Ok((
                 Turn {
                     patience,
+                    turnstile: Turnstile::new(),
                     bells: Bells::new(),
                     table,
                 },
@@ -222,6 +229,7 @@ impl<T: Stands<E, O>, E, O> Turn<T, E, O> {
     {
         let Turn {
             patience: _,
+            turnstile: _,
             bells: _,
             table,
         } = self;
@@ -242,6 +250,7 @@ impl<T: Stands<E, O>, E, O> Turn<T, E, O> {
         ensures mine { carrying pass.new.me.0.number pass.new.me.0.seen ≡ pass.new.me.0.mine }
         ensures stands { (o : O) × (pass.new.me.0.opening ≡ Some o) × T.stands result o pass.new.me.0.seen }
     {
+        self.turnstile.enter(rt, &self.patience);
         let ticket = self.table.shared.fetch_add::<Draw>(pass, 0, 1);
         self.wait(rt, pass, ticket);
         let Some(value) = self.table.shared.exchange(pass, 0, None) else {
@@ -262,6 +271,7 @@ impl<T: Stands<E, O>, E, O> Turn<T, E, O> {
         let None = none else { unreachable!() };
         let served = self.table.shared.fetch_add::<Leave<L>>(pass, 1, 1);
         self.bells.ring(served.wrapping_add(1));
+        self.turnstile.leave();
     }
 
     /// Waits until a ticket is served.
