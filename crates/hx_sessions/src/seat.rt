@@ -1,8 +1,10 @@
 // A seat that answers messages.
-ghost use Rattle.std.specs.Prelude.{◌≡◌};
+ghost use Rattle.std.specs.Prelude.{◌≡◌, ℕ};
 ghost use Rattle.hx_http.specs.Searches.{message_seen};
 ghost use Rattle.hx_model.specs.Serving.{IsLegalAnswer};
 ghost use Rattle.hx_serve.specs.Exchanges.{reading_of};
+ghost use Rattle.hx_shared.specs.Seats.{HasHistory};
+ghost use Rattle.hx_shared.specs.Working.{HasWorked};
 ghost use Rattle.hx_turn.specs.Passes.{IsOutside};
 ghost use Rattle.hx_sessions.specs.Inside.{IsCalled};
 
@@ -13,11 +15,11 @@ use hx_link::Service;
 use hx_model::Answer;
 use hx_ports::Keeper;
 use hx_serve::reply_to;
-use hx_shared::{Seat, Shared};
+use hx_shared::{OpenGate, Seat, Shared};
 use std::alloc::Global;
 use std::sync::Wait;
 
-/// A seat at a shared cluster that answers messages of HTTP. What reading them and writing bodies takes is kept from one message to the next.
+/// A seat at a shared cluster that answers messages of HTTP. What reading them and writing bodies takes is kept from one message, and from one link, to the next.
 ///
 /// Contracts see of it its seat.
 pub struct SeatService<'a, R: Wait, K: Keeper> {
@@ -72,6 +74,18 @@ impl<'a, R: Wait, K: Keeper> SeatService<'a, R, K> {
         drop(reader);
         drop(body);
         seat
+    }
+
+    /// So many turns of a worker over the same seat. It answers whether one of them got on.
+    pub fn work(&mut self, worker: u32, turns: u64) -> bool
+        ensures worked { (made : ℕ) × HasWorked worker made result self.old.seat.me.0 self.new.seat.me.0 }
+        ensures own { self.new.seat.table_id ≡ self.old.seat.table_id }
+        ensures legal { HasHistory self.old.seat.me.0 → HasHistory self.new.seat.me.0 }
+    {
+        let worked = self
+            .shared
+            .work(self.rt, &mut self.seat, worker, &OpenGate, turns);
+        worked.got_on
     }
 
     /// What the cluster answers a message.

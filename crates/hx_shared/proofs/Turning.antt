@@ -9,6 +9,8 @@ use Rattle.hx_core.specs.declared.turns.Take.{Take}
 use Rattle.hx_core.specs.declared.turns.Take.TheVariants as take
 use Rattle.hx_shared.specs.declared.call.Call.{Call}
 use Rattle.hx_shared.specs.declared.call.Call.TheVariants as call
+use Rattle.hx_shared.specs.declared.work.WorkEnd.{WorkEnd}
+use Rattle.hx_shared.specs.declared.work.WorkEnd.TheVariants as ended
 use Rattle.hx_shared.specs.Calls.{opened}
 use Rattle.hx_shared.specs.Seats.{SeatView, Adds, HasTaken}
 use Rattle.hx_shared.specs.Working.{Ends, HasTakenIfJob, IsRest, IsTurn, signed, HasCalled, HasTurned, HasWorked, all_of, gets_on}
@@ -98,3 +100,8 @@ worked_more a b c w made on one p q = record {
   got = ap (list_any gets_on) (all_of_snoc p.turns q.calls) ∙ list_any-append gets_on (all_of p.turns) q.calls ∙ ap (λ x. x || list_any gets_on q.calls) p.got ∙ ap (λ x. on || x) q.got;
   called = subst (λ l. HasCalled l a c) (sym (all_of_snoc p.turns q.calls)) (called_then a b c (all_of p.turns) q.calls p.called q.called);
 }
+
+-- however its turns ended, the seat made some number of them
+pub worked_so : (w turns : ℕ) (on : Bool) (end : WorkEnd) (a b : SeatView) → (end ≡ ended.Used → HasWorked w turns on a b) → (end ≡ ended.Stopped → (made : ℕ) × HasWorked w made on a b) → (made : ℕ) × HasWorked w made on a b
+worked_so w turns on ended.Used a b used stopped = (turns, used refl)
+worked_so w turns on ended.Stopped a b used stopped = stopped refl

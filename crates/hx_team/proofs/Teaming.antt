@@ -16,8 +16,6 @@ use Rattle.hx_turn.specs.Passes.{after_split}
 use Rattle.hx_turn.specs.declared.view.View.{View}
 use Rattle.hx_shared.specs.Seats.{HasHistory, SeatView, Adds, Meets}
 use Rattle.hx_shared.specs.Working.{HasCalled, HasWorked, all_of}
-use Rattle.hx_shared.specs.declared.work.WorkEnd.{WorkEnd}
-use Rattle.hx_shared.specs.declared.work.WorkEnd.TheVariants as ended
 use Rattle.hx_door.specs.declared.door.DoorFault.{DoorFault}
 use Rattle.std.specs.declared.result.Result.{Result}
 use Rattle.hx_shared.specs.declared.call.Call.{Call}
@@ -106,17 +104,10 @@ over_failed a b answer fault is t = over_told a b (told_of answer) t (ap (λ x. 
 pub worked : (w made : ℕ) (on : Bool) (a b : SeatView) → HasWorked w made on a b → HasGone a b
 worked w made on a b h = called a b (all_of h.turns) h.called
 
-pub worked_any : (end : WorkEnd) (a b : SeatView) → (end ≡ ended.Used → HasGone a b) → (end ≡ ended.Stopped → HasGone a b) → HasGone a b
-worked_any ended.Used a b used stopped = used refl
-worked_any ended.Stopped a b used stopped = stopped refl
-
 -- ---- a link
 
 pub served : (how : LinkEnd) (before after : LinkView) (a b : SeatView) → IsServedBy how before after a b → HasStayed a b
 served how before after a b s = (called a b _ s.called, s.legal)
-
-pub answered : (how : LinkEnd) (before after : LinkView) (a b c d : SeatView) → IsServedBy how before after b c → b ≡ a → d ≡ c → HasStayed a d
-answered how before after a b c d s first last = subst (λ (v : SeatView). HasStayed v d) first (subst (λ (v : SeatView). HasStayed b v) (sym last) (served how before after b c s))
 
 -- ---- seats and passes
 

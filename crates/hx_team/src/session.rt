@@ -9,7 +9,7 @@ use hx_link::LinkEnd;
 use hx_ports::{Keeper, Sink, Source};
 use hx_serve::Notices;
 use hx_sessions::{DoorPass, HeldDoor, SeatService, SharedDoor, serve_seat};
-use hx_shared::{OpenGate, Seat};
+use hx_shared::Seat;
 use std::sync::Wait;
 
 /// Serves links of a door that others serve too, until it is told that no more come.
@@ -26,12 +26,14 @@ pub(crate) fn serve_links<R: Wait, D: Door, K: Keeper, N: Notices>(
     ensures gone { HaveGone hands.seat.me.0 result.seat.me.0 hands.pass.me.0 result.pass.me.0 }
     ensures over { ends_in result.pass.me.0.seen ≡ true }
 {
-    let Hands { mut seat, mut pass } = hands;
+    let Hands { seat, mut pass } = hands;
+    let mut service = service_of(team, seat);
     'serving: for _ in team.rt.forever() {
-        let (next, goes_on) = serve_next(team, door, number, seat, &mut pass);
-        seat = next;
-        if !goes_on {
-            return Hands { seat, pass };
+        if !serve_next(team, door, number, &mut service, &mut pass) {
+            return Hands {
+                seat: service.into_seat(),
+                pass,
+            };
         }
     }
     unreachable!()
@@ -42,24 +44,23 @@ fn serve_next<R: Wait, D: Door, K: Keeper, N: Notices>(
     team: &Team<'_, R, K, N>,
     door: &SharedDoor<D>,
     number: u32,
-    seat: Seat<K>,
+    service: &mut SeatService<'_, R, K>,
     pass: &mut DoorPass<D>,
-) -> (Seat<K>, bool)
-    requires seat { IsAt team.now.shared.now seat.table_id seat.me }
+) -> bool
     requires pass { IsAt door.now pass.old.table_id pass.old.me }
-    ensures seat { IsAt team.now.shared.now result.0.table_id result.0.me }
+    ensures own { service.new.seat.table_id ≡ service.old.seat.table_id }
     ensures pass { IsAt door.now pass.new.table_id pass.new.me }
-    ensures gone { HaveGone seat.me.0 result.0.me.0 pass.old.me.0 pass.new.me.0 }
-    ensures over { result.1 ≡ false → ends_in pass.new.me.0.seen ≡ true }
+    ensures gone { HaveGone service.old.seat.me.0 service.new.seat.me.0 pass.old.me.0 pass.new.me.0 }
+    ensures over { result ≡ false → ends_in pass.new.me.0.seen ≡ true }
 {
     let link = match door.accept(team.rt, pass) {
-        Err(_fault) => return (seat, false),
-        Ok(None) => return (seat, false),
+        Err(_fault) => return false,
+        Ok(None) => return false,
         Ok(Some(link)) => link,
     };
-    let (seat, sink) = serve_one(team, number, seat, link);
+    let sink = serve_one(team, number, service, link);
     door.take_back(team.rt, pass, sink);
-    (seat, true)
+    true
 }
 
 /// Serves all links of a door that nobody else serves.
@@ -73,13 +74,11 @@ pub(crate) fn serve_alone<R: Wait, D: Door, K: Keeper, N: Notices>(
     ensures stayed { HasStayed seat.me.0 result.0.me.0 }
     ensures led { HasLed false door result.1 }
 {
-    let mut seat = seat;
     let mut door = door;
+    let mut service = service_of(team, seat);
     'serving: for _ in team.rt.forever() {
-        let (next, goes_on) = serve_next_alone(team, seat, &mut door);
-        seat = next;
-        if !goes_on {
-            return (seat, door);
+        if !serve_next_alone(team, &mut service, &mut door) {
+            return (service.into_seat(), door);
         }
     }
     unreachable!()
@@ -88,75 +87,53 @@ pub(crate) fn serve_alone<R: Wait, D: Door, K: Keeper, N: Notices>(
 /// Serves the next link of a door that nobody else serves, or answers `false` where none comes any more.
 fn serve_next_alone<R: Wait, D: Door, K: Keeper, N: Notices>(
     team: &Team<'_, R, K, N>,
-    seat: Seat<K>,
+    service: &mut SeatService<'_, R, K>,
     door: &mut HeldDoor<D>,
-) -> (Seat<K>, bool)
-    requires seat { IsAt team.now.shared.now seat.table_id seat.me }
-    ensures seat { IsAt team.now.shared.now result.0.table_id result.0.me }
-    ensures stayed { HasStayed seat.me.0 result.0.me.0 }
-    ensures led { HasLed result.1 door.old door.new }
+) -> bool
+    ensures own { service.new.seat.table_id ≡ service.old.seat.table_id }
+    ensures stayed { HasStayed service.old.seat.me.0 service.new.seat.me.0 }
+    ensures led { HasLed result door.old door.new }
 {
     let link = match door.accept() {
-        Err(_fault) => return (seat, false),
-        Ok(None) => return (seat, false),
+        Err(_fault) => return false,
+        Ok(None) => return false,
         Ok(Some(link)) => link,
     };
-    let (seat, sink) = serve_one(team, 0, seat, link);
+    let sink = serve_one(team, 0, service, link);
     door.take_back(sink);
-    (seat, true)
+    true
+}
+
+/// What answers the messages of all links of a session, over its seat.
+fn service_of<'a, R: Wait, K: Keeper, N: Notices>(
+    team: &'a Team<'_, R, K, N>,
+    seat: Seat<K>,
+) -> SeatService<'a, R, K>
+    requires { IsAt team.now.shared.now seat.table_id seat.me }
+    ensures { result.seat ≡ seat }
+{
+    SeatService::new(team.rt, team.alloc, team.shared, &team.signals.bell, seat)
 }
 
 /// Serves a link to its end, and gives its sink. Where workers are lacking, turns of one are made behind it.
 fn serve_one<R: Wait, K: Keeper, N: Notices, S: Source + Drop, W: Sink + Drop>(
     team: &Team<'_, R, K, N>,
     number: u32,
-    seat: Seat<K>,
+    service: &mut SeatService<'_, R, K>,
     link: Link<S, W>,
-) -> (Seat<K>, W)
-    requires seat { IsAt team.now.shared.now seat.table_id seat.me }
-    ensures seat { IsAt team.now.shared.now result.0.table_id result.0.me }
-    ensures stayed { HasStayed seat.me.0 result.0.me.0 }
+) -> W
+    ensures own { service.new.seat.table_id ≡ service.old.seat.table_id }
+    ensures stayed { HasStayed service.old.seat.me.0 service.new.seat.me.0 }
 {
     let Link {
         mut source,
         mut sink,
     } = link;
-    let (mut seat, end) = answer_link(team, &mut source, &mut sink, seat);
+    let end = serve_seat(team.alloc, &mut source, &mut sink, service);
     drop(source);
     if end != LinkEnd::Closed {
         team.notices.link_ended(end);
     }
-    work(team, number, team.turns_behind_links(), &mut seat);
-    (seat, sink)
-}
-
-/// Answers what comes on a link, until it ends.
-fn answer_link<R: Wait, K: Keeper, N: Notices, S: Source, W: Sink>(
-    team: &Team<'_, R, K, N>,
-    source: &mut S,
-    sink: &mut W,
-    seat: Seat<K>,
-) -> (Seat<K>, LinkEnd)
-    requires seat { IsAt team.now.shared.now seat.table_id seat.me }
-    ensures seat { IsAt team.now.shared.now result.0.table_id result.0.me }
-    ensures stayed { HasStayed seat.me.0 result.0.me.0 }
-{
-    let mut service = SeatService::new(team.rt, team.alloc, team.shared, &team.signals.bell, seat);
-    let end = serve_seat(team.alloc, source, sink, &mut service);
-    (service.into_seat(), end)
-}
-
-/// So many turns of a worker. It answers whether one of them got on.
-pub(crate) fn work<R: Wait, K: Keeper, N: Notices>(
-    team: &Team<'_, R, K, N>,
-    number: u32,
-    turns: u64,
-    seat: &mut Seat<K>,
-) -> bool
-    requires seat { IsAt team.now.shared.now seat.old.table_id seat.old.me }
-    ensures seat { IsAt team.now.shared.now seat.new.table_id seat.new.me }
-    ensures stayed { HasStayed seat.old.me.0 seat.new.me.0 }
-{
-    let worked = team.shared.work(team.rt, seat, number, &OpenGate, turns);
-    worked.got_on
+    service.work(number, team.turns_behind_links());
+    sink
 }

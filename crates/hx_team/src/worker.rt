@@ -1,12 +1,10 @@
 // Workers: threads that write what reconcilers want, and sleep while nothing is to be done.
-ghost use Rattle.std.specs.Prelude.{◌≡◌};
 ghost use Rattle.hx_team.specs.Team.{HasStayed, IsAt};
 
-use crate::session::work;
 use crate::team::{SLICE, Team};
 use hx_ports::Keeper;
 use hx_serve::Notices;
-use hx_shared::Seat;
+use hx_shared::{OpenGate, Seat};
 use std::sync::Wait;
 
 /// A worker's turns, until all sessions have ended. One that has no thread of its own makes none.
@@ -55,4 +53,19 @@ fn work_or_sleep<R: Wait, K: Keeper, N: Notices>(
         bell.ring();
     }
     true
+}
+
+/// So many turns of a worker. It answers whether one of them got on.
+fn work<R: Wait, K: Keeper, N: Notices>(
+    team: &Team<'_, R, K, N>,
+    number: u32,
+    turns: u64,
+    seat: &mut Seat<K>,
+) -> bool
+    requires seat { IsAt team.now.shared.now seat.old.table_id seat.old.me }
+    ensures seat { IsAt team.now.shared.now seat.new.table_id seat.new.me }
+    ensures stayed { HasStayed seat.old.me.0 seat.new.me.0 }
+{
+    let worked = team.shared.work(team.rt, seat, number, &OpenGate, turns);
+    worked.got_on
 }
