@@ -191,36 +191,10 @@ fn run_in_memory<T: Threads + Wait + Sync>(
 ) -> Outcome
     requires { IsSomeAnd (command_of (map string_bytes words.now)) (λ command. command.db ≡ []) }
 {
-    let mut source = StdSource::new(rt.stdin());
-    let mut sink = StdSink::new(rt.stdout());
-    let notices = LinkNotices { rt: *rt };
     let keeper = SureKeeper::new(Vec::new(rt.alloc()), NO_ROWS, keys);
-    let Ended {
-        status,
-        damaged,
-        keeper,
-        door,
-    } = top(
-        threads,
-        rt.alloc(),
-        words,
-        &mut source,
-        &mut sink,
-        TcpDoor::new(rt),
-        &notices,
-        Followed::new(keeper, hub),
-        keys,
-    );
-    Outcome {
-        status,
-        damaged,
-        database_fault: None,
-        close_fault: None,
-        read_fault: source.last_fault(),
-        write_fault: sink.last_fault(),
-        lacks_events: keeper.hub().gone() > 0,
-        door,
-    }
+    let (keeper, outcome) = run_with(rt, threads, words, keys, keeper, hub);
+    drop(keeper);
+    outcome
 }
 
 /// Runs the command with the rows in a database that it may write. No command that only reads gets one.
@@ -247,6 +221,24 @@ fn run_over<T: Threads + Wait + Sync>(
 ) -> Outcome
     requires { (⟦<SqlKeeper as Keeper>⟧.shown keeper).place ≡ None }
 {
+    let (keeper, mut outcome) = run_with(rt, threads, words, keys, keeper, hub);
+    outcome.database_fault = keeper.last_fault();
+    outcome.close_fault = close(outcome.status, keeper);
+    outcome
+}
+
+/// Runs the command over a keeper, and gives that back with how it ended, as far as the keeper doesn't tell it.
+fn run_with<T: Threads + Wait + Sync, K: Keeper + Send>(
+    rt: &HostRuntime,
+    threads: &T,
+    words: &[String],
+    keys: RandomState,
+    keeper: K,
+    hub: Hub<Printer>,
+) -> (K, Outcome)
+    requires new { (K.shown keeper).place ≡ None }
+    requires unwatched { (K.shown keeper).watchers ≡ [] }
+{
     let mut source = StdSource::new(rt.stdin());
     let mut sink = StdSink::new(rt.stdout());
     let notices = LinkNotices { rt: *rt };
@@ -267,16 +259,17 @@ fn run_over<T: Threads + Wait + Sync>(
         keys,
     );
     let (keeper, hub) = keeper.into_parts();
-    Outcome {
+    let outcome = Outcome {
         status,
         damaged,
-        database_fault: keeper.last_fault(),
-        close_fault: close(status, keeper),
+        database_fault: None,
+        close_fault: None,
         read_fault: source.last_fault(),
         write_fault: sink.last_fault(),
         lacks_events: hub.gone() > 0,
         door,
-    }
+    };
+    (keeper, outcome)
 }
 
 /// Closes the database behind a run that began, and says why that failed if it did. Where none began the file and its log are left as they were found: with another log beside it a damaged file may be sound.
