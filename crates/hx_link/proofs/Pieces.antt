@@ -1,6 +1,5 @@
 -- A stream that is answered message by message.
-use Rattle.std.proofs.Common.{◌≡◌, ◌≤◌, ◌+◌, ◌-◌, ℕ, Bool, true, false, List, [], ◌∷◌, ◌++◌, None, Some, refl, sym, ap, subst, ◌∙◌, inl, inr, append_assoc, append-nil, drop, length, arith, take, length-append, length-take}
-use Rattle.std.specs.Prelude.{IfSome}
+use Rattle.std.proofs.Common.{◌≡◌, ◌≤◌, ◌+◌, ◌-◌, ℕ, Bool, true, false, List, [], ◌∷◌, ◌++◌, refl, sym, ap, subst, ◌∙◌, inl, inr, append_assoc, append-nil, drop, length, arith, take, length-append, length-take}
 use Rattle.std.specs.declared.option.Option.{Option}
 use Rattle.std.specs.Io.KnownBytes.{Consumes, IsAtEnd, Keeps}
 use Rattle.std.proofs.lemmas.List.{take_rest}
@@ -9,6 +8,7 @@ use Rattle.hx_http.specs.Streams.{Question, Asked, Rejected, Stream, behind, str
 use Rattle.hx_http.specs.declared.fault.HeadFault.{HeadFault}
 use Rattle.hx_http.proofs.Streams.{stream_asked, stream_last, stream_refused, stream_waits}
 use Rattle.hx_ports.specs.Pieces.{OfBytes}
+use Rattle.hx_ports.proofs.Reading.{Consumes-none, Consumes-then, Consumes-end, Keeps-consumes, left_of, told_whole, told_end, told_none}
 use Rattle.hx_link.specs.Exchanges.{Exchange}
 use Rattle.hx_link.specs.Running.{Doing, Does, Cuts, Feeds, Ends, CutsPiece, ReadsOn, IsClosed, IsCutShort}
 use Rattle.hx_link.specs.Inside.{EndsBy}
@@ -115,43 +115,6 @@ module _ {V : Type 0} (does : Doing Question V) (none : (s : V) → does s [] s)
 
 -- ---- all that was read
 
-Consumes-then : (s l l' : Option (List ℕ)) (bs cs : List ℕ) → Consumes s l bs → Consumes l l' cs → Consumes s l' (bs ++ cs)
-Consumes-then None l l' bs cs p q = tt
-Consumes-then (Some xs) None l' bs cs p q = absurd p
-Consumes-then (Some xs) (Some ys) None bs cs p q = absurd q
-Consumes-then (Some xs) (Some ys) (Some zs) bs cs p q = p ∙ ap (λ l. bs ++ l) q ∙ sym (append_assoc bs cs zs)
-
-abbrev left_of : Option (List ℕ) → List ℕ
-left_of None = []
-left_of (Some rest) = rest
-
-told_whole : (s l : Option (List ℕ)) (bs : List ℕ) → Consumes s l bs → IfSome s (λ told. bs ++ left_of l ≡ told)
-told_whole None l bs read = tt
-told_whole (Some xs) None bs read = absurd read
-told_whole (Some xs) (Some ys) bs read = sym read
-
-told_end : (s l : Option (List ℕ)) (bs : List ℕ) → Consumes s l bs → IsAtEnd l → IfSome s (λ told. bs ≡ told)
-told_end None l bs read end = tt
-told_end (Some xs) None bs read end = absurd read
-told_end (Some xs) (Some ys) bs read end = sym (read ∙ ap (λ l. bs ++ l) end ∙ append-nil bs)
-
-told_none : (s : Option (List ℕ)) → IfSome s (λ told. left_of s ≡ told)
-told_none None = tt
-told_none (Some xs) = refl
-
-Consumes-none : (s : Option (List ℕ)) → Consumes s s []
-Consumes-none None = tt
-Consumes-none (Some xs) = refl
-
-Keeps-consumes : (s l l' : Option (List ℕ)) (bs : List ℕ) → Consumes s l bs → Keeps l l' → Consumes s l' bs
-Keeps-consumes None l l' bs p q = tt
-Keeps-consumes (Some xs) None l' bs p q = absurd p
-Keeps-consumes (Some xs) (Some ys) None bs p q = absurd q
-Keeps-consumes (Some xs) (Some ys) (Some zs) bs p q = p ∙ ap (λ l. bs ++ l) (sym q)
-
-ReadsOn-none : (s l l' : Option (List ℕ)) (bytes : List ℕ) → Consumes s l bytes → Consumes l l' [] → Consumes s l' bytes
-ReadsOn-none s l l' bytes on read = subst (Consumes s l') (append-nil bytes) (Consumes-then s l l' bytes [] on read)
-
 module _ {V : Type 0} (does : Doing Question V) (none : (s : V) → does s [] s) (more : (a b c : V) (first then : List (Exchange Question)) → does a first b → does b then c → does a (first ++ then) c) where
   pub Reads-start : (s : Option (List ℕ)) (c : V) (x : Option (List ℕ)) → ReadsOn does s s 0 [] c c x x
   Reads-start s c x = record { bytes = []; read = Consumes-none s; many = refl; feeds = Feeds-none does none more [] c x }
@@ -193,7 +156,7 @@ module _ {V : Type 0} (does : Doing Question V) (none : (s : V) → does s [] s)
   Reads-end s l l' waiting total a b x y on read end waits =
       let is = at_end on.bytes waiting a b x y on.feeds waits in (
         on.bytes,
-        told_end s l' on.bytes (ReadsOn-none s l l' on.bytes on.read read) end,
+        told_end s l' on.bytes (Consumes-end s l l' on.bytes on.read read) end,
         (ap (λ (t : Stream). t.ends) is, ap (λ (t : Stream). t.unused) is, subst (λ qs. Does does qs a b x y) (sym (ap (λ (t : Stream). t.questions) is)) on.feeds.does_them),
       )
 

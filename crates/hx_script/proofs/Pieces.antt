@@ -1,6 +1,6 @@
 -- The lines of a script piece by piece.
-use Rattle.std.proofs.Common.{◌≡◌, ℕ, suc, ◌+◌, ◌-◌, ◌≤◌, ◌<◌, List, [], ◌∷◌, ◌++◌, take, drop, length, None, Some, refl, sym, ap, subst, ◌∙◌, append_assoc, append-nil, arith, length-append, length-take}
-use Rattle.std.specs.Prelude.{◌==◌, IfSome}
+use Rattle.std.proofs.Common.{◌≡◌, ℕ, suc, ◌+◌, ◌-◌, ◌≤◌, ◌<◌, List, [], ◌∷◌, ◌++◌, take, drop, length, refl, sym, ap, subst, ◌∙◌, append_assoc, append-nil, arith, length-append, length-take}
+use Rattle.std.specs.Prelude.{◌==◌}
 use Rattle.std.specs.declared.option.Option.{Option}
 use Rattle.std.specs.List.{slice_split}
 use Rattle.std.specs.Io.KnownBytes.{Consumes, IsAtEnd, Keeps}
@@ -9,6 +9,7 @@ use Rattle.std.proofs.Math.Seq.{drop-cons, take-add}
 use Rattle.std.proofs.lemmas.List.Elements.{All-from_recursion}
 use Rattle.std.proofs.lemmas.List.Splits.{slice_split_at, slice_split_none}
 use Rattle.hx_ports.specs.Pieces.{OfBytes, most_stream_bytes}
+use Rattle.hx_ports.proofs.Reading.{Consumes-none, Consumes-then, Consumes-end, Keeps-consumes, left_of, told_whole, told_end, told_none}
 use Rattle.hx_core.specs.Refinement.{ClusterView}
 use Rattle.hx_script.specs.Lines.{Line, script_lines, asking, lines_of_parts, unended}
 use Rattle.hx_script.specs.Running.{Ran, Does, Cuts, HasNoEnd, IsWaiting, IsKept, EndsAt, most_kept, Feeds, CutsPiece, ReadsOn, ReadsFront}
@@ -157,42 +158,9 @@ Cuts-then old piece now more a b c x y z p q rest =
     subst (λ ls. Cuts ls a c x z) (sym (ap script_lines (behind old piece more rest) ∙ p.splits (more ++ rest)))
     (Does-cuts p.lines (script_lines (now ++ (more ++ rest))) a b c x y z p.does (q rest))
 
--- bytes that were read, one piece after the other
-Consumes-then : (s l l' : Option (List ℕ)) (bs cs : List ℕ) → Consumes s l bs → Consumes l l' cs → Consumes s l' (bs ++ cs)
-Consumes-then None l l' bs cs p q = tt
-Consumes-then (Some xs) None l' bs cs p q = absurd p
-Consumes-then (Some xs) (Some ys) None bs cs p q = absurd q
-Consumes-then (Some xs) (Some ys) (Some zs) bs cs p q = p ∙ ap (λ l. bs ++ l) q ∙ sym (append_assoc bs cs zs)
-
--- what is left, where it is told
-abbrev left_of : Option (List ℕ) → List ℕ
-left_of None = []
-left_of (Some rest) = rest
-
--- what was read with what is left is what was told
-told_whole : (s l : Option (List ℕ)) (bs : List ℕ) → Consumes s l bs → IfSome s (λ told. bs ++ left_of l ≡ told)
-told_whole None l bs read = tt
-told_whole (Some xs) None bs read = absurd read
-told_whole (Some xs) (Some ys) bs read = sym read
-
--- where nothing is left, what was read is what was told
-told_end : (s l : Option (List ℕ)) (bs : List ℕ) → Consumes s l bs → IsAtEnd l → IfSome s (λ told. bs ≡ told)
-told_end None l bs read end = tt
-told_end (Some xs) None bs read end = absurd read
-told_end (Some xs) (Some ys) bs read end = sym (read ∙ ap (λ l. bs ++ l) end ∙ append-nil bs)
-
--- what is told and was not read
-told_none : (s : Option (List ℕ)) → IfSome s (λ told. left_of s ≡ told)
-told_none None = tt
-told_none (Some xs) = refl
-
 -- nothing was read
 pub Cuts-unread : (s : Option (List ℕ)) (c : ClusterView) (x : Option (List ℕ)) → OfBytes s (λ script. Cuts (script_lines script) c c x x)
 Cuts-unread s c x = (left_of s, told_none s, Cuts-none (script_lines (left_of s)) c x)
-
-Consumes-none : (s : Option (List ℕ)) → Consumes s s []
-Consumes-none None = tt
-Consumes-none (Some xs) = refl
 
 pub ReadsOn-start : (s : Option (List ℕ)) (c : ClusterView) (x : Option (List ℕ)) → ReadsOn s s 0 [] c c x x
 ReadsOn-start s c x = record { bytes = []; read = Consumes-none s; many = refl; kept = IsKept-start [] (record { no_end = tt; few = omega arith }); feeds = Feeds-none [] c x }
@@ -215,15 +183,11 @@ lines_read : (bytes waiting : List ℕ) (lines : List Line) → ((rest : List �
 lines_read bytes waiting lines splits none =
     ap script_lines (sym (append-nil bytes)) ∙ splits [] ∙ ap (λ l. lines ++ script_lines l) (append-nil waiting) ∙ ap (λ l. lines ++ l) (script_lines-last waiting none)
 
--- nothing more was read
-ReadsOn-none : (s l l' : Option (List ℕ)) (bytes : List ℕ) → Consumes s l bytes → Consumes l l' [] → Consumes s l' bytes
-ReadsOn-none s l l' bytes on read = subst (Consumes s l') (append-nil bytes) (Consumes-then s l l' bytes [] on read)
-
 pub ReadsOn-end : (s l l' : Option (List ℕ)) (waiting : List ℕ) (total : ℕ) (a b c : ClusterView) (x y z : Option (List ℕ)) → ReadsOn s l total waiting a b x y → Consumes l l' [] → IsAtEnd l' → total ≤ most_stream_bytes → HasNoEnd waiting → Does (asking waiting) b c y z
     → OfBytes s (λ script. (length script ≤ most_stream_bytes) × Does (script_lines script) a c x z)
 ReadsOn-end s l l' waiting total a b c x y z on read end few none last = (
   on.bytes,
-  told_end s l' on.bytes (ReadsOn-none s l l' on.bytes on.read read) end,
+  told_end s l' on.bytes (Consumes-end s l l' on.bytes on.read read) end,
   (omega (arith, on.many, few), subst (λ ls. Does ls a c x z) (sym (lines_read on.bytes waiting on.feeds.lines on.feeds.splits none)) (Does-then on.feeds.lines (asking waiting) a b c x y z on.feeds.does last)),
 )
 
@@ -231,7 +195,7 @@ pub ReadsOn-cut_last : (s l l' : Option (List ℕ)) (waiting : List ℕ) (total 
     → OfBytes s (λ script. Cuts (script_lines script) a c x z)
 ReadsOn-cut_last s l l' waiting total a b c x y z on read end none last = (
   on.bytes,
-  told_end s l' on.bytes (ReadsOn-none s l l' on.bytes on.read read) end,
+  told_end s l' on.bytes (Consumes-end s l l' on.bytes on.read read) end,
   subst (λ ls. Cuts ls a c x z) (sym (lines_read on.bytes waiting on.feeds.lines on.feeds.splits none)) (Does-cuts on.feeds.lines (asking waiting) a b c x y z on.feeds.does last),
 )
 
@@ -247,12 +211,6 @@ ReadsOn-cut s l l' piece waiting total a b c x y z on read cuts = (
 -- the next piece was not read, or was not taken
 Cuts-front : (bytes waiting rest : List ℕ) (a b : ClusterView) (x y : Option (List ℕ)) → Feeds [] bytes waiting a b x y → Cuts (script_lines (bytes ++ rest)) a b x y
 Cuts-front bytes waiting rest a b x y p = subst (λ ls. Cuts ls a b x y) (sym (p.splits rest)) (Does-cuts p.lines (script_lines (waiting ++ rest)) a b b x y y p.does (Cuts-none (script_lines (waiting ++ rest)) b y))
-
-Keeps-consumes : (s l l' : Option (List ℕ)) (bs : List ℕ) → Consumes s l bs → Keeps l l' → Consumes s l' bs
-Keeps-consumes None l l' bs p q = tt
-Keeps-consumes (Some xs) None l' bs p q = absurd p
-Keeps-consumes (Some xs) (Some ys) None bs p q = absurd q
-Keeps-consumes (Some xs) (Some ys) (Some zs) bs p q = p ∙ ap (λ l. bs ++ l) (sym q)
 
 pub ReadsOn-fault : (s l l' : Option (List ℕ)) (waiting : List ℕ) (total : ℕ) (a b : ClusterView) (x y : Option (List ℕ)) → ReadsOn s l total waiting a b x y → Keeps l l' → OfBytes s (λ script. Cuts (script_lines script) a b x y)
 ReadsOn-fault s l l' waiting total a b x y on kept = (
