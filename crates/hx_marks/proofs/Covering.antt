@@ -26,7 +26,7 @@ use Rattle.hx_model.specs.declared.key.Key.{Key}
 use Rattle.hx_model.specs.declared.key.Key.TheVariants as key
 use Rattle.hx_model.specs.declared.key.Write.{Write}
 use Rattle.hx_model.specs.declared.key.Write.TheVariants.{Put, Cut}
-use Rattle.hx_marks.specs.Halves.{IsRegular}
+use Rattle.hx_marks.specs.Halves.{Covers, IsRegular}
 use Rattle.hx_marks.specs.Law.{begins_to_end, begins_by, is_modes, marks_of, object_written, ending_names, following_marks, marks_among, all_marks}
 use Rattle.hx_marks.specs.Usage.{usage_marks}
 use Rattle.hx_marks.proofs.Among.{same_key_is}
@@ -194,24 +194,24 @@ module _ (s : State) (writes : List Write) (regular : IsRegular s writes) (valid
 
 -- ---- queues
 
-module _ (s : State) (writes : List Write) (regular : IsRegular s writes) (valid : IsValid s) (may : MayWriteAll s writes) (hands : List Hand) (guards : HaveTheirGuards hands) (waiting again new_waiting new_again : List Key)
+module _ (s : State) (writes : List Write) (marked : List Key) (covers : Covers s writes marked) (regular : IsRegular s writes) (hands : List Hand) (guards : HaveTheirGuards hands) (waiting again new_waiting new_again : List Key)
     (wait_on : (k : Key) → is_among k waiting ≡ true → is_among k new_waiting ≡ true) (mark_on : (k : Key) → is_among k again ≡ true → is_among k new_again ≡ true) where
   -- where each marked key waits or was marked again, no work is forgotten
-  pub stays_covered : ((k : Key) → is_among k (all_marks s writes) ≡ true → (is_among k new_waiting ≡ true) ⊎ (is_among k new_again ≡ true))
+  pub stays_covered : ((k : Key) → is_among k marked ≡ true → (is_among k new_waiting ≡ true) ⊎ (is_among k new_again ≡ true))
       → IsCovered s hands waiting again → IsCovered (state_after s writes) hands new_waiting new_again
-  stays_covered all covered = covered_next s (state_after s writes) hands waiting again new_waiting new_again guards wait_on mark_on (λ k wants. elim (cases_Bool (is_among k (all_marks s writes))) [
-    | inl marked ↦ inr (all k marked)
-    | inr out ↦ inl (law_of_commit s writes regular valid may k out)
+  stays_covered all covered = covered_next s (state_after s writes) hands waiting again new_waiting new_again guards wait_on mark_on (λ k wants. elim (cases_Bool (is_among k marked)) [
+    | inl among ↦ inr (all k among)
+    | inr out ↦ inl (covers regular k out)
   ]) covered
 
   -- the same where one key isn't marked, which wants nothing afterwards
   pub stays_covered_but : (own : Key) → wanted_write (state_after s writes) own ≡ None
-      → ((k : Key) → is_among k (all_marks s writes) ≡ true → same_key k own ≡ false → (is_among k new_waiting ≡ true) ⊎ (is_among k new_again ≡ true))
+      → ((k : Key) → is_among k marked ≡ true → same_key k own ≡ false → (is_among k new_waiting ≡ true) ⊎ (is_among k new_again ≡ true))
       → IsCovered s hands waiting again → IsCovered (state_after s writes) hands new_waiting new_again
-  stays_covered_but own none all covered = covered_next s (state_after s writes) hands waiting again new_waiting new_again guards wait_on mark_on (λ k wants. elim (cases_Bool (is_among k (all_marks s writes))) [
-    | inr out ↦ inl (law_of_commit s writes regular valid may k out)
-    | inl marked ↦ elim (cases_Bool (same_key k own)) [
+  stays_covered_but own none all covered = covered_next s (state_after s writes) hands waiting again new_waiting new_again guards wait_on mark_on (λ k wants. elim (cases_Bool (is_among k marked)) [
+    | inr out ↦ inl (covers regular k out)
+    | inl among ↦ elim (cases_Bool (same_key k own)) [
       | inl is ↦ absurd (wants (ap (wanted_write (state_after s writes)) (same_key_is k own is) ∙ none))
-      | inr other ↦ inr (all k marked other)
+      | inr other ↦ inr (all k among other)
     ]
   ]) covered

@@ -2,7 +2,7 @@
 --     IsEndingWrite s w        a namespace begins to leave, or an anchor goes
 --     IsRegular s writes       there is one write, or each ends something
 --     Covers s writes keys     each other key wants the same, on the same guards, before and after the writes
---     IsWithin s writes keys   a commit of the writes may make each of them wait
+--     IsWithin s writes keys   each of them is a key of the state before or after the writes, and where one object that is kept as it is given is written, one that it touches
 use Rattle.std.specs.Prelude.{◌≡◌, ◌⊎◌, ◌+◌, true, false, List, [], ◌∷◌, Some}
 use Rattle.std.specs.List.{AllByRecursion}
 use Rattle.hx_object.specs.Kinds.{is_anchor, is_namespace}
@@ -32,8 +32,10 @@ IsEndingWrite s (Cut id) = is_anchor id.kind ≡ true
 abbrev pub IsRegular : State → List Write → Type 0
 IsRegular s writes = ((write : Write) × (writes ≡ write ∷ [])) ⊎ AllByRecursion (IsEndingWrite s) writes
 
+-- a key that isn't among them wants the same write on the same guards before and after the writes, or none either time
 abbrev pub Covers : State → List Write → List Key → Type 0
 Covers s writes keys = IsRegular s writes → (k : Key) → is_among k keys ≡ false → IsSameFor s (state_after s writes) k
 
+-- each of them is one that a commit of the writes may make wait (`may_mark`): a key of the state before or after them. Where there is one write, of an object that is kept as it is given, it is a key that this object touches: of a copy of its kind and name in the subtree of its namespace, of a quota in a namespace of its chain, or of the removal of its namespace. Without writes there is none
 abbrev pub IsWithin : State → List Write → List Key → Type 0
 IsWithin s writes keys = IsRegular s writes → (k : Key) → is_among k keys ≡ true → may_mark s writes k ≡ true

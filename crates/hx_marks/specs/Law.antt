@@ -22,7 +22,7 @@
 --     following_marks        a namespace is on its way out from now on, and so is its parent, which marks what took part below both
 --     marks_among s names write    what a write marks among others, which put these namespaces as on their way out
 --     all_marks s writes     of the writes of a commit, each by the state before it
--- All is read off the state before the write. A key may stand in a list more than once.
+-- All is read off the state before the write. A key may stand in a list more than once. No crate above cites `all_marks`: what is promised of the keys stands in Halves.
 use Rattle.std.specs.Prelude.{ℕ, Bool, true, false, not, ◌&&◌, ◌||◌, List, [], ◌∷◌, ◌++◌, flat_map, map, filter, Option, Some, None, if◌then◌else◌}
 use Rattle.std.specs.Option.{option_map_or}
 use Rattle.std.specs.Str.{bytes_eq}

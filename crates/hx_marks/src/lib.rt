@@ -1,6 +1,6 @@
 //! Which keys of reconcilers' work a write marks, in proportion to what it can change.
 //!
-//! The law of marks stands in `specs/Law.antt`: a list of keys for each sort of write. The call gives that list, and looks at nothing that it doesn't need.
+//! What is promised of them stands in `specs/Halves.antt`: any other key wants the same before and after the writes, and each of them is one that the writes may make wait. How that is kept is this crate's own: the law of marks in `specs/Law.antt` is a list of keys for each sort of write. The code gives that list, and looks at nothing that it doesn't need.
 #![tactic(auto)]
 
 mod anchors;

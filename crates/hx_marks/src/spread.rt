@@ -1,12 +1,12 @@
 // Writes that mark a whole subtree at once.
-ghost use Rattle.std.specs.Prelude.{◌≡◌, ◌||◌, true, IfOk, IfSome};
+ghost use Rattle.std.specs.Prelude.{◌≡◌, ◌++◌, true, IfOk, IfSome};
 ghost use Rattle.std.specs.List.{list_all};
 ghost use Rattle.hx_object.specs.Kinds.{can_be_copied};
-ghost use Rattle.hx_model.specs.Keys.{is_among};
 ghost use Rattle.hx_model.specs.State.{State, state_after};
 ghost use Rattle.hx_model.specs.Tree.{forest_of};
 ghost use Rattle.hx_model.specs.Writes.{MayWriteAll};
-ghost use Rattle.hx_marks.specs.Law.{all_marks, open_below};
+ghost use Rattle.hx_marks.specs.Below.{open_below};
+ghost use Rattle.hx_marks.specs.Halves.{Covers, IsWithin};
 ghost use Rattle.hx_marks.specs.Reads.{state_in};
 ghost use Rattle.hx_marks.specs.Spread.{IsSpread, is_beside_tree, spread_keys};
 
@@ -28,7 +28,7 @@ pub struct SpreadMarks {
     pub others: Vec<Key>,
 }
 
-/// The same keys as those of [`marks`](crate::marks), with one identity in place of those in a subtree. There are some where one object is written alone, of a kind that can be copied, which is sent before or after the write and has namespaces below its own.
+/// Keys of which the same is promised as of those of [`marks`](crate::marks), with one identity in place of those in a subtree. There are some where one object is written alone, of a kind that can be copied, which is sent before or after the write and has namespaces below its own.
 ///
 /// It costs what the other keys cost, and nothing for the subtree.
 pub fn spread_marks(
@@ -36,7 +36,8 @@ pub fn spread_marks(
     writes: &[Change],
 ) -> Result<Option<SpreadMarks>, NoMemory>
     requires { MayWriteAll state.now.state writes.now }
-    ensures named { IfOk result (λ o. IfSome o (λ spread. (k : Key) → is_among k (all_marks state.now.state writes.now) ≡ (is_among k spread.others.items || is_among k (spread_keys (open_below (forest_of state.now.state) spread.id.ns) spread.id)))) }
+    ensures covers { IfOk result (λ o. IfSome o (λ spread. Covers state.now.state writes.now (spread.others.items ++ spread_keys (open_below (forest_of state.now.state) spread.id.ns) spread.id))) }
+    ensures within { IfOk result (λ o. IfSome o (λ spread. IsWithin state.now.state writes.now (spread.others.items ++ spread_keys (open_below (forest_of state.now.state) spread.id.ns) spread.id))) }
 
     // The write leaves the tree.
     ensures tree { IfOk result (λ o. IfSome o (λ spread. forest_of (state_after state.now.state writes.now) ≡ forest_of state.now.state)) }

@@ -17,14 +17,22 @@ use hx_object::NoMemory;
 use hx_state::{IndexedState, object_in};
 use hx_store::Change;
 
-/// The keys that writes mark, each by the state before them: those whose wanted write or guards a write can change. A key may come more than once.
+/// Keys that writes mark, by the state before them: all whose wanted write or guards the writes change. A key may come more than once.
 pub fn marks(state: &IndexedState, writes: &[Change]) -> Result<Vec<Key>, NoMemory>
     requires { MayWriteAll state.now.state writes.now }
-    ensures named { IfOk result (λ keys. keys.items ≡ all_marks state.now.state writes.now) }
 
     // Of the writes of a request or of a key: no other key wants something else, or on other guards, and the machine lets these wait.
     ensures covers { IfOk result (λ keys. Covers state.now.state writes.now keys.items) }
     ensures within { IfOk result (λ keys. IsWithin state.now.state writes.now keys.items) }
+{
+    state.law_of_validity();
+    listed_marks(state, writes)
+}
+
+/// The keys that the law of marks names for writes, in its order.
+fn listed_marks(state: &IndexedState, writes: &[Change]) -> Result<Vec<Key>, NoMemory>
+    requires { MayWriteAll state.now.state writes.now }
+    ensures { IfOk result (λ keys. keys.items ≡ all_marks state.now.state writes.now) }
 {
     state.law_of_validity();
     let mut keys = Vec::new(state.allocator());
