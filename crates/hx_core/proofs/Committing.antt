@@ -14,7 +14,6 @@ use Rattle.hx_ports.specs.Views.{KeeperView}
 use Rattle.hx_ports.specs.declared.keeper.Batch.{Batch}
 use Rattle.hx_ports.specs.declared.keeper.KeepFault.{KeepFault}
 use Rattle.hx_ports.specs.declared.keeper.KeepFault.TheVariants.{Fault, NoMemory as KeepNoMemory}
-use Rattle.hx_marks.specs.Law.{all_marks}
 use Rattle.hx_model.specs.Covered.{IsCovered}
 use Rattle.hx_model.specs.Hands.{Hand}
 use Rattle.hx_model.specs.Machine.{World, written_by, broken_at}
@@ -26,7 +25,7 @@ use Rattle.hx_model.specs.declared.key.Key.{Key}
 use Rattle.hx_model.specs.declared.key.Write.{Write}
 use Rattle.hx_model.proofs.Writes.{valid_after}
 use Rattle.hx_watch.specs.Watching.{HaveFollowed}
-use Rattle.hx_core.specs.Committing.{HasLanded, HasFailed, HasMarked, Holds, IsOrderly, IsPrepared, holding, marks_but}
+use Rattle.hx_core.specs.Committing.{HasLanded, HasFailed, HasMarked, HasMarkedBut, Holds, IsOrderly, IsPrepared, holding}
 use Rattle.hx_core.specs.Inside.{IsSound, view_of}
 use Rattle.hx_core.specs.Refinement.{ClusterView, kept_of}
 use Rattle.hx_core.specs.Turns.{IsOf}
@@ -34,7 +33,7 @@ use Rattle.hx_queue.specs.Workers.{WorkersView, IsMarkedBy}
 use Rattle.hx_core.specs.declared.commit.CommitFault.{CommitFault}
 use Rattle.hx_core.specs.declared.commit.CommitFault.TheVariants.{KeeperFault, NoMemory}
 use Rattle.hx_core.proofs.Making.{stands_landed, stands_failed}
-use Rattle.hx_core.proofs.Marked.{marks_within, has_marked, covered_marked}
+use Rattle.hx_core.proofs.Marked.{marked_within, covered_marked}
 use Rattle.hx_core.proofs.Since.{taken_after}
 use Rattle.hx_core.proofs.Storing.{landed_held}
 
@@ -71,15 +70,15 @@ sound_same s t v v' k k' staged staged' sound none same =
 
 -- the writes of a commit landed, and their keys are marked
 pub sound_landed : (s t : State) (v v' : WorkersView) (ws : List Write) (own : Option Key) (k k' : KeeperView) (staged staged' : List Write) → IsSound s v k staged → MayWriteAll s ws → IsOrderly s ws → ws ≢ []
-    → IfSome own (λ j. wanted_write (state_after s ws) j ≡ None) → staged' ≡ [] → HasLanded s k ws t k' → IsMarkedBy (marks_but own (all_marks s ws)) v v' → IsSound t v' k' staged'
+    → IfSome own (λ j. wanted_write (state_after s ws) j ≡ None) → staged' ≡ [] → HasLanded s k ws t k' → HasMarkedBut s ws own v v' → IsSound t v' k' staged'
 sound_landed s t v v' ws own k k' staged staged' sound may orderly some nothing none done marked =
     let next : World = written_by sound.world.0 ws in
     record {
       valid = subst IsValid (sym done.state) (valid_after s ws sound.valid may);
       held = λ _. subst (λ (o : Option Kept). IfSome o (λ held. held ≡ kept_of t)) (sym done.kept) (holds_landed t k.kept);
-      covered = subst (λ (u : State). IsCovered u v'.hands v'.waiting v'.again) (sym done.state) (covered_marked s ws own v v' sound.valid may orderly.regular nothing sound.taken sound.covered marked);
-      taken = subst (λ (hands : List Hand). AllByRecursion (IsOf t) hands) (sym marked.hands) (subst (λ (u : State). AllByRecursion (IsOf u) v.hands) (sym done.state) (taken_after s ws v.hands may orderly.out sound.taken));
-      world = (next, stands_landed (view_of s v k) (view_of t v' k') ws sound.world.0 next done (has_marked s ws (marks_but own (all_marks s ws)) v v' some marked (marks_within s ws own sound.valid may orderly.regular)) sound.world.1 refl);
+      covered = subst (λ (u : State). IsCovered u v'.hands v'.waiting v'.again) (sym done.state) (covered_marked s ws own v v' orderly.regular nothing sound.taken sound.covered marked);
+      taken = subst (λ (hands : List Hand). AllByRecursion (IsOf t) hands) (sym marked.marked.hands) (subst (λ (u : State). AllByRecursion (IsOf u) v.hands) (sym done.state) (taken_after s ws v.hands may orderly.out sound.taken));
+      world = (next, stands_landed (view_of s v k) (view_of t v' k') ws sound.world.0 next done (marked_within s ws own v v' some orderly.regular marked) sound.world.1 refl);
       none = none;
     }
 
@@ -104,16 +103,16 @@ fault_of_keeper KeepNoMemory r memory e = let h : r ≡ NoMemory = memory refl i
 
 -- the fields are sound, however the commit ended
 pub sound_committed : {T : Type 0} (s t : State) (v v' : WorkersView) (ws : List Write) (own : Option Key) (k k' : KeeperView) (staged staged' : List Write) (result : Result T CommitFault) → IsSound s v k staged → MayWriteAll s ws → IsOrderly s ws → ws ≢ []
-    → IfSome own (λ j. wanted_write (state_after s ws) j ≡ None) → staged' ≡ [] → OnOk result (HasLanded s k ws t k') → OnOk result (IsMarkedBy (marks_but own (all_marks s ws)) v v') → OnErr result (v' ≡ v)
+    → IfSome own (λ j. wanted_write (state_after s ws) j ≡ None) → staged' ≡ [] → OnOk result (HasLanded s k ws t k') → OnOk result (HasMarkedBut s ws own v v') → OnErr result (v' ≡ v)
     → (IsErrOf result NoMemory → t ≡ s) → (IsErrOf result NoMemory → k' ≡ k) → (IsErrOf result KeeperFault → HasFailed s k ws t k') → IsSound t v' k' staged'
 sound_committed s t v v' ws own k k' staged staged' (Ok l) sound may orderly some nothing none done marked same state keeper fault = sound_landed s t v v' ws own k k' staged staged' sound may orderly some nothing none done marked
 sound_committed s t v v' ws own k k' staged staged' (Err NoMemory) sound may orderly some nothing none done marked same state keeper fault = sound_same s t v v' k k' staged staged' sound none (λ i. view_of (state refl i) (same i) (keeper refl i))
 sound_committed s t v v' ws own k k' staged staged' (Err KeeperFault) sound may orderly some nothing none done marked same state keeper fault = sound_failed s t v v' ws k k' staged staged' sound none (fault refl) same
 
 -- what is marked may be
-pub marked_committed : {T : Type 0} (s : State) (v v' : WorkersView) (ws : List Write) (own : Option Key) (result : Result T CommitFault) → IsValid s → MayWriteAll s ws → IsOrderly s ws → ws ≢ [] → OnOk result (IsMarkedBy (marks_but own (all_marks s ws)) v v') → OnOk result (HasMarked s ws v v')
-marked_committed s v v' ws own (Ok l) valid may orderly some marked = has_marked s ws (marks_but own (all_marks s ws)) v v' some marked (marks_within s ws own valid may orderly.regular)
-marked_committed s v v' ws own (Err fault) valid may orderly some marked = tt
+pub marked_committed : {T : Type 0} (s : State) (v v' : WorkersView) (ws : List Write) (own : Option Key) (result : Result T CommitFault) → IsOrderly s ws → ws ≢ [] → OnOk result (HasMarkedBut s ws own v v') → OnOk result (HasMarked s ws v v')
+marked_committed s v v' ws own (Ok l) orderly some marked = marked_within s ws own v v' some orderly.regular marked
+marked_committed s v v' ws own (Err fault) orderly some marked = tt
 
 -- where no memory was left, nothing changed
 pub same_committed : {T : Type 0} (s t : State) (v v' : WorkersView) (k k' : KeeperView) (result : Result T CommitFault) → OnErr result (v' ≡ v) → (IsErrOf result NoMemory → t ≡ s) → (IsErrOf result NoMemory → k' ≡ k) → IsErrOf result NoMemory → view_of t v' k' ≡ view_of s v k

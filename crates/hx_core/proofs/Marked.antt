@@ -1,7 +1,6 @@
 -- What the marks of writes leave.
---     but_by             marks but for one
---     marks_within       marks that are made may be made
---     has_marked         keys were marked that may be
+--     marks_left         marks but for one
+--     marked_within      keys were marked that may be
 --     covered_marked     no work is forgotten
 use Rattle.std.proofs.Common.{◌≡◌, ◌≢◌, Bool, true, false, cond, not, ◌&&◌, ◌||◌, List, [], ◌∷◌, Option, Some, None, IfSome, IfNone, filter, refl, sym, ap, ◌∙◌, subst, inl, inr, true≢false}
 use Rattle.std.specs.Prelude.{◌⊎◌}
@@ -9,20 +8,17 @@ use Rattle.std.specs.List.{AllByRecursion}
 use Rattle.std.proofs.lemmas.Bool.{or_cases, or_left, or_right}
 use Rattle.hx_model.specs.Covered.{IsCovered}
 use Rattle.hx_model.specs.Hands.{is_held}
-use Rattle.hx_model.specs.Keys.{same_key, is_among, may_mark}
+use Rattle.hx_model.specs.Keys.{same_key, is_among}
 use Rattle.hx_model.specs.State.{State, state_after}
-use Rattle.hx_model.specs.Valid.{IsValid}
 use Rattle.hx_model.specs.Wanted.{wanted_write}
-use Rattle.hx_model.specs.Writes.{MayWriteAll}
 use Rattle.hx_model.specs.declared.key.Key.{Key}
 use Rattle.hx_model.specs.declared.key.Write.{Write}
 use Rattle.hx_marks.proofs.Among.{same_key_is}
-use Rattle.hx_marks.specs.Halves.{IsRegular}
-use Rattle.hx_marks.specs.Law.{all_marks}
-use Rattle.hx_core.specs.Committing.{HasMarked, marks_but}
+use Rattle.hx_marks.specs.Halves.{Covers, IsRegular, IsWithin}
+use Rattle.hx_core.specs.Committing.{AreMarksBut, HasMarked, HasMarkedBut, marks_but}
 use Rattle.hx_core.specs.Turns.{IsOf}
 use Rattle.hx_queue.specs.Workers.{WorkersView, IsMarkedBy}
-use Rattle.hx_core.proofs.Laws.{within, stays_covered}
+use Rattle.hx_core.proofs.Laws.{stays_covered}
 
 -- ---- marks but for one
 
@@ -60,17 +56,22 @@ but_among : (own : Option Key) (k : Key) (keys : List Key) → is_among k keys �
 but_among None k keys e = inl e
 but_among (Some own) k keys e = elim (left_out own k keys e) [ inl is ↦ inl is | inr same ↦ inr (ap Some same) ]
 
-pub but_by : (own : Option Key) (new old : List Key) → IfSome own (λ key. new ≡ filter (λ k. not (same_key key k)) old) → IfNone own (new ≡ old) → new ≡ marks_but own old
+but_by : (own : Option Key) (new old : List Key) → IfSome own (λ key. new ≡ filter (λ k. not (same_key key k)) old) → IfNone own (new ≡ old) → new ≡ marks_but own old
 but_by None new old some none = none
 but_by (Some own) new old some none = some
 
+pub marks_left : (s : State) (ws : List Write) (own : Option Key) (new old : List Key) → Covers s ws old → IsWithin s ws old → IfSome own (λ key. new ≡ filter (λ k. not (same_key key k)) old) → IfNone own (new ≡ old) → AreMarksBut s ws own new
+marks_left s ws own new old covers within some none = record { marks = old; covers = covers; within = within; is = but_by own new old some none }
+
 -- ---- what may be marked
 
-pub marks_within : (s : State) (ws : List Write) (own : Option Key) → IsValid s → MayWriteAll s ws → IsRegular s ws → (k : Key) → is_among k (marks_but own (all_marks s ws)) ≡ true → may_mark s ws k ≡ true
-marks_within s ws own valid may regular k e = within s ws valid may regular k (among_but own k (all_marks s ws) e)
-
-pub has_marked : (s : State) (ws : List Write) (keys : List Key) (old new : WorkersView) → ws ≢ [] → IsMarkedBy keys old new → ((k : Key) → is_among k keys ≡ true → may_mark s ws k ≡ true) → HasMarked s ws old new
-has_marked s ws keys old new some marked may = record { keys = keys; may = may; marked = marked; none = λ none. absurd (some none) }
+pub marked_within : (s : State) (ws : List Write) (own : Option Key) (old new : WorkersView) → ws ≢ [] → IsRegular s ws → HasMarkedBut s ws own old new → HasMarked s ws old new
+marked_within s ws own old new some regular m = record {
+  keys = marks_but own m.marks;
+  may = λ k e. m.within regular k (among_but own k m.marks e);
+  marked = m.marked;
+  none = λ none. absurd (some none);
+}
 
 -- ---- no work is forgotten
 
@@ -88,12 +89,12 @@ marked_is keys old new k marked e = by (is_held k old.hands) refl
 wants_none : (s : State) (own : Option Key) (k : Key) → IfSome own (λ j. wanted_write s j ≡ None) → own ≡ Some k → wanted_write s k ≡ None
 wants_none s own k nothing is = subst (λ o. IfSome o (λ j. wanted_write s j ≡ None)) is nothing
 
-pub covered_marked : (s : State) (ws : List Write) (own : Option Key) (old new : WorkersView) → IsValid s → MayWriteAll s ws → IsRegular s ws → IfSome own (λ j. wanted_write (state_after s ws) j ≡ None) → AllByRecursion (IsOf s) old.hands
-    → IsCovered s old.hands old.waiting old.again → IsMarkedBy (marks_but own (all_marks s ws)) old new → IsCovered (state_after s ws) new.hands new.waiting new.again
-covered_marked s ws own old new valid may regular nothing taken covered marked =
-    stays_covered s ws old new valid may regular taken covered marked.hands
-    (λ k e. marked.waiting k ∙ or_left (is_among k old.waiting) _ e) (λ k e. marked.again k ∙ or_left (is_among k old.again) _ e)
-    (λ k e. elim (but_among own k (all_marks s ws) e) [
-      | inl among ↦ elim (marked_is (marks_but own (all_marks s ws)) old new k marked among) [ inl waits ↦ inl waits | inr again ↦ inr (inl again) ]
+pub covered_marked : (s : State) (ws : List Write) (own : Option Key) (old new : WorkersView) → IsRegular s ws → IfSome own (λ j. wanted_write (state_after s ws) j ≡ None) → AllByRecursion (IsOf s) old.hands
+    → IsCovered s old.hands old.waiting old.again → HasMarkedBut s ws own old new → IsCovered (state_after s ws) new.hands new.waiting new.again
+covered_marked s ws own old new regular nothing taken covered m =
+    stays_covered s ws m.marks old new m.covers regular taken covered m.marked.hands
+    (λ k e. m.marked.waiting k ∙ or_left (is_among k old.waiting) _ e) (λ k e. m.marked.again k ∙ or_left (is_among k old.again) _ e)
+    (λ k e. elim (but_among own k m.marks e) [
+      | inl among ↦ elim (marked_is (marks_but own m.marks) old new k m.marked among) [ inl waits ↦ inl waits | inr again ↦ inr (inl again) ]
       | inr own_is ↦ inr (inr (wants_none (state_after s ws) own k nothing own_is))
     ])

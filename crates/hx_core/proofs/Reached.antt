@@ -3,11 +3,12 @@
 --     may_still          an object's keys may be marked as a whole while hands, reach and room stay
 --     scope_same, ranks_same, ranks_kept   the reach stays right while the state does, and so does how deep keys lie
 --     none_ranked, ranked_tree   nothing is kept of how deep keys lie;  the tree stays
+--     at_some            what is told of what is there
 --     ready_each, ready_whole    keys are ready: one by one, and as a whole
 --     marked_ready       what is marked then
 --     scope_after, ranks_after   the reach is right after a commit, and so is how deep keys lie
 use Rattle.std.proofs.Common.{◌≡◌, ◌≤◌, ◌||◌, ◌&&◌, not, ℕ, Bool, true, false, List, [], ◌++◌, length, Option, Some, None, refl, sym, ap, ◌∙◌, subst, Ok, Err, true≢false}
-use Rattle.std.specs.Prelude.{OnOk, IsErrOf, IsSomeAnd, option_map, if◌then◌else◌}
+use Rattle.std.specs.Prelude.{OnOk, IfSome, IsErrOf, IsSomeAnd, option_map, if◌then◌else◌}
 use Rattle.std.specs.List.{list_all}
 use Rattle.std.specs.declared.result.Result.{Result}
 use Rattle.hx_object.specs.declared.object.Id.{Id}
@@ -21,10 +22,11 @@ use Rattle.hx_model.specs.declared.key.Key.{Key}
 use Rattle.hx_model.specs.declared.key.Write.{Write}
 use Rattle.hx_line.specs.Line.{IsRanked, KeepsRanks, is_at}
 use Rattle.hx_marks.proofs.Among.{among_append}
-use Rattle.hx_marks.specs.Law.{all_marks, open_below}
+use Rattle.hx_marks.specs.Below.{open_below}
+use Rattle.hx_marks.specs.Halves.{Covers, IsWithin}
 use Rattle.hx_queue.specs.Spread.{Scope, names_in, place_keys, root_of}
 use Rattle.hx_queue.specs.Workers.{WorkersView, WorkersKept, IsMarkedBy, MaySpread}
-use Rattle.hx_core.specs.Committing.{HasLanded, HasFailed, marks_but}
+use Rattle.hx_core.specs.Committing.{AreMarksBut, HasLanded, HasFailed, HasMarkedBut, marks_but}
 use Rattle.hx_core.specs.Reaching.{HasRoot, IsScopeOf, IsReady, IsSpreadable, MayMark, whole_keys}
 use Rattle.hx_core.specs.declared.commit.CommitFault.{CommitFault}
 use Rattle.hx_core.specs.declared.commit.CommitFault.TheVariants.{KeeperFault, NoMemory}
@@ -131,13 +133,29 @@ at_root n (Some r) at = at.0
 
 -- ---- what is ready
 
-pub ready_each : (s : State) (ws : List Write) (own : Option Key) (keys : List Key) (w : WorkersKept) → keys ≡ marks_but own (all_marks s ws) → length keys ≤ w.spare → IsScopeOf (forest_of (state_after s ws)) w.scope → IsRanked (forest_of (state_after s ws)) w.ranks → IsReady s ws own keys None w
-ready_each s ws own keys w is room right ranked = record { named = λ k. or_none (is_among k keys) ∙ ap (is_among k) is; room = room; may = tt; scope = right; ranks = ranked }
+pub ready_each : (s : State) (ws : List Write) (own : Option Key) (keys : List Key) (w : WorkersKept) → AreMarksBut s ws own keys → length keys ≤ w.spare → IsScopeOf (forest_of (state_after s ws)) w.scope → IsRanked (forest_of (state_after s ws)) w.ranks → IsReady s ws own keys None w
+ready_each s ws own keys w are room right ranked = record {
+  marks = are.marks;
+  covers = are.covers;
+  within = are.within;
+  named = λ k. or_none (is_among k keys) ∙ ap (is_among k) are.is;
+  room = room;
+  may = tt;
+  scope = right;
+  ranks = ranked;
+}
 
-pub ready_whole : (s : State) (ws : List Write) (others : List Key) (id : Id) (w : WorkersKept) → ((k : Key) → is_among k (all_marks s ws) ≡ (is_among k others || is_among k (place_keys (open_below (forest_of s) id.ns) id)))
+-- what is told of what is there
+pub at_some : {A : Type 0} (o : Option A) (x : A) (P : A → Type 0) → o ≡ Some x → IfSome o P → P x
+at_some o x P is told = subst (λ p. IfSome p P) is told
+
+pub ready_whole : (s : State) (ws : List Write) (others : List Key) (id : Id) (w : WorkersKept) → Covers s ws (others ++ place_keys (open_below (forest_of s) id.ns) id) → IsWithin s ws (others ++ place_keys (open_below (forest_of s) id.ns) id)
     → forest_of (state_after s ws) ≡ forest_of s → IsScopeOf (forest_of s) w.scope → IsRanked (forest_of s) w.ranks → length others ≤ w.spare → IsSpreadable id w → IsReady s ws None others (Some id) w
-ready_whole s ws others id w named tree right ranked room may = record {
-  named = λ k. ap (λ (names : List (List ℕ)). is_among k others || is_among k (place_keys names id)) (scope_is (forest_of s) w.scope id.ns right may.at) ∙ sym (named k);
+ready_whole s ws others id w covers within tree right ranked room may = record {
+  marks = others ++ place_keys (open_below (forest_of s) id.ns) id;
+  covers = covers;
+  within = within;
+  named = λ k. ap (λ (names : List (List ℕ)). is_among k others || is_among k (place_keys names id)) (scope_is (forest_of s) w.scope id.ns right may.at) ∙ sym (among_append k others (place_keys (open_below (forest_of s) id.ns) id));
   room = room;
   may = may;
   scope = subst (λ (f : Forest). IsScopeOf f w.scope) (sym tree) right;
@@ -146,10 +164,13 @@ ready_whole s ws others id w named tree right ranked room may = record {
 
 -- keys that were ready are marked
 pub marked_ready : {T : Type 0} (s : State) (ws : List Write) (own : Option Key) (keys : List Key) (spread : Option Id) (v v' : WorkersView) (w : WorkersKept) (result : Result T CommitFault) → IsReady s ws own keys spread w → w.seen ≡ v
-    → OnOk result (IsMarkedBy (keys ++ whole_keys spread w.scope) w.seen v') → OnOk result (IsMarkedBy (marks_but own (all_marks s ws)) v v')
-marked_ready s ws own keys spread v v' w (Ok l) ready seen marked =
-    subst (λ (u : WorkersView). IsMarkedBy (marks_but own (all_marks s ws)) u v') seen
-    (marked_same (keys ++ whole_keys spread w.scope) (marks_but own (all_marks s ws)) w.seen v' (λ k. among_append k keys (whole_keys spread w.scope) ∙ ready.named k) marked)
+    → OnOk result (IsMarkedBy (keys ++ whole_keys spread w.scope) w.seen v') → OnOk result (HasMarkedBut s ws own v v')
+marked_ready s ws own keys spread v v' w (Ok l) ready seen marked = record {
+  marks = ready.marks;
+  covers = ready.covers;
+  within = ready.within;
+  marked = subst (λ (u : WorkersView). IsMarkedBy (marks_but own ready.marks) u v') seen (marked_same (keys ++ whole_keys spread w.scope) (marks_but own ready.marks) w.seen v' (λ k. among_append k keys (whole_keys spread w.scope) ∙ ready.named k) marked);
+}
 marked_ready s ws own keys spread v v' w (Err fault) ready seen marked = tt
 
 -- ---- after a commit

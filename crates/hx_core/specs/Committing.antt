@@ -7,6 +7,8 @@
 --     IsOrderly          the writes are those of a request or of a key
 --     IsPrepared         the state may make the writes, and the batch is theirs
 --     marks_but          the keys that are marked, but for one
+--     AreMarksBut        keys are those that cover writes, but for one
+--     HasMarkedBut       keys that cover the writes were marked, but for one
 --     HasMarked          keys were marked, each of which the writes may make wait
 use Rattle.std.specs.Prelude.{◌≡◌, ◌≢◌, ◌≤◌, ◌+◌, ◌⊎◌, true, false, not, is_some, List, [], filter, Option, Some, None, IfSome, option_map}
 use Rattle.std.specs.List.{AllByRecursion}
@@ -18,7 +20,7 @@ use Rattle.hx_ports.specs.Keeping.{Kept}
 use Rattle.hx_ports.specs.Views.{KeeperView}
 use Rattle.hx_ports.specs.declared.keeper.Batch.{Batch}
 use Rattle.hx_model.specs.Keys.{same_key, is_among, may_mark}
-use Rattle.hx_marks.specs.Halves.{IsRegular}
+use Rattle.hx_marks.specs.Halves.{Covers, IsRegular, IsWithin}
 use Rattle.hx_model.specs.State.{State, events_of, namespace_id, object_at, state_after}
 use Rattle.hx_model.specs.Tree.{is_terminating}
 use Rattle.hx_model.specs.Writes.{MayWriteAll}
@@ -84,6 +86,20 @@ pub record IsOrderly (s : State) (writes : List Write) : Type 0 where
 abbrev pub marks_but : Option Key → List Key → List Key
 marks_but None keys = keys
 marks_but (Some own) keys = filter (λ k. not (same_key own k)) keys
+
+-- the keys are some that cover the writes and lie within what these may make wait, but for one
+pub record AreMarksBut (s : State) (writes : List Write) (own : Option Key) (keys : List Key) : Type 0 where
+  pub marks : List Key
+  pub covers : Covers s writes marks
+  pub within : IsWithin s writes marks
+  pub is : keys ≡ marks_but own marks
+
+-- keys that cover the writes and lie within what these may make wait were marked, but for one
+pub record HasMarkedBut (s : State) (writes : List Write) (own : Option Key) (old new : WorkersView) : Type 0 where
+  pub marks : List Key
+  pub covers : Covers s writes marks
+  pub within : IsWithin s writes marks
+  pub marked : IsMarkedBy (marks_but own marks) old new
 
 -- keys were marked, each of which the writes may make wait. Without writes nothing changes
 pub record HasMarked (s : State) (writes : List Write) (old new : WorkersView) : Type 0 where

@@ -3,7 +3,7 @@
 --     HasRoot n reach        it is that of a namespace, as the tree is
 --     whole_keys             the keys that are marked as a whole: of an object, in all of the reach
 --     IsSpreadable, MayMark  the keys of an object may be marked as a whole, in its namespace's subtree
---     IsReady                keys and an object stand for all that writes mark, and may be marked
+--     IsReady                keys and an object stand for keys that cover writes, and may be marked
 use Rattle.std.specs.Prelude.{◌≡◌, ◌≤◌, ℕ, true, ◌||◌, List, [], Option, Some, None, IfSome, IsSomeAnd, length}
 use Rattle.hx_object.specs.declared.object.Id.{Id}
 use Rattle.hx_model.specs.Forest.{Forest}
@@ -13,7 +13,8 @@ use Rattle.hx_model.specs.Tree.{forest_of}
 use Rattle.hx_model.specs.declared.key.Key.{Key}
 use Rattle.hx_model.specs.declared.key.Write.{Write}
 use Rattle.hx_line.specs.Line.{IsRanked}
-use Rattle.hx_marks.specs.Law.{all_marks, open_below}
+use Rattle.hx_marks.specs.Below.{open_below}
+use Rattle.hx_marks.specs.Halves.{Covers, IsWithin}
 use Rattle.hx_queue.specs.Spread.{Scope, names_in, place_keys}
 use Rattle.hx_queue.specs.Workers.{WorkersKept, MaySpread}
 use Rattle.hx_core.specs.Committing.{marks_but}
@@ -41,9 +42,12 @@ pub record IsSpreadable (id : Id) (w : WorkersKept) : Type 0 where
 abbrev pub MayMark : Option Id → WorkersKept → Type 0
 MayMark spread w = IfSome spread (λ (id : Id). IsSpreadable id w)
 
--- Keys, and those of an object in all of the reach, are the ones that writes mark, but for one. They may be marked, and the reach is right afterwards, and so is how deep keys lie
+-- Keys, and those of an object in all of the reach, are some that cover the writes and lie within what these may make wait, but for one. They may be marked, and the reach is right afterwards, and so is how deep keys lie
 pub record IsReady (s : State) (writes : List Write) (own : Option Key) (keys : List Key) (spread : Option Id) (w : WorkersKept) : Type 0 where
-  pub named : (k : Key) → (is_among k keys || is_among k (whole_keys spread w.scope)) ≡ is_among k (marks_but own (all_marks s writes))
+  pub marks : List Key
+  pub covers : Covers s writes marks
+  pub within : IsWithin s writes marks
+  pub named : (k : Key) → (is_among k keys || is_among k (whole_keys spread w.scope)) ≡ is_among k (marks_but own marks)
   pub room : length keys ≤ w.spare
   pub may : MayMark spread w
   pub scope : IsScopeOf (forest_of (state_after s writes)) w.scope

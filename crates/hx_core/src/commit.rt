@@ -5,8 +5,7 @@ ghost use Rattle.hx_model.specs.State.{events_of};
 ghost use Rattle.hx_model.specs.Tree.{forest_of};
 ghost use Rattle.hx_model.specs.Valid.{IsValid};
 ghost use Rattle.hx_model.specs.Writes.{MayWriteAll};
-ghost use Rattle.hx_marks.specs.Law.{all_marks};
-ghost use Rattle.hx_core.specs.Committing.{HasLanded, HasFailed, Holds, IsPrepared, marks_but};
+ghost use Rattle.hx_core.specs.Committing.{HasLanded, HasFailed, HasMarkedBut, Holds, IsPrepared};
 ghost use Rattle.hx_core.specs.Reaching.{IsScopeOf, MayMark, whole_keys};
 ghost use Rattle.hx_core.specs.Rows.{batch_of};
 ghost use Rattle.hx_line.specs.Line.{IsRanked};
@@ -127,7 +126,7 @@ pub fn write_marked<K: Keeper>(
     requires scope { IsScopeOf (forest_of state.old.state) workers.old.scope }
     requires ranks { IsRanked (forest_of state.old.state) workers.old.ranks }
     ensures landed { OnOk result (HasLanded state.old.state (K.shown keeper.old) writes.items state.new.state (K.shown keeper.new)) }
-    ensures marked { OnOk result (IsMarkedBy (marks_but (option_copied own.entry) (all_marks state.old.state writes.items)) workers.old.seen workers.new.seen) }
+    ensures marked { OnOk result (HasMarkedBut state.old.state writes.items (option_copied own.entry) workers.old.seen workers.new.seen) }
     ensures seen { OnErr result (workers.new.seen ≡ workers.old.seen) }
     ensures state { IsErrOf result CommitFault.NoMemory → state.new.state ≡ state.old.state }
     ensures keeper { IsErrOf result CommitFault.NoMemory → K.shown keeper.new ≡ K.shown keeper.old }

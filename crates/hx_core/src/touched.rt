@@ -6,10 +6,10 @@ ghost use Rattle.hx_model.specs.State.{State, state_after};
 ghost use Rattle.hx_model.specs.Tree.{forest_of};
 ghost use Rattle.hx_model.specs.Valid.{IsValid};
 ghost use Rattle.hx_model.specs.Writes.{MayWriteAll};
-ghost use Rattle.hx_marks.specs.Law.{all_marks, open_below};
+ghost use Rattle.hx_marks.specs.Below.{open_below};
 ghost use Rattle.hx_line.specs.Line.{IsRanked};
 ghost use Rattle.hx_queue.specs.Workers.{IsMarkedBy};
-ghost use Rattle.hx_core.specs.Committing.{marks_but};
+ghost use Rattle.hx_core.specs.Committing.{AreMarksBut};
 ghost use Rattle.hx_core.specs.Reaching.{HasRoot, IsScopeOf, IsReady, IsSpreadable, MayMark, whole_keys};
 
 use hx_marks::{SpreadMarks, keeps_tree, marks, open_below, spread_marks};
@@ -138,7 +138,7 @@ fn keys_of(
 ) -> Result<Vec<Key>, NoMemory>
     requires valid { IsValid state.now.state }
     requires may { MayWriteAll state.now.state writes.now }
-    ensures keys { IfOk result (λ keys. keys.items ≡ marks_but (option_copied own.entry) (all_marks state.now.state writes.now)) }
+    ensures keys { IfOk result (λ keys. AreMarksBut state.now.state writes.now (option_copied own.entry) keys.items) }
     ensures room { IfOk result (λ keys. length keys.items ≤ workers.new.spare) }
     ensures seen { workers.new.seen ≡ workers.old.seen }
     ensures scope { workers.new.scope ≡ workers.old.scope }

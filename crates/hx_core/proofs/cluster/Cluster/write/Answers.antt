@@ -16,7 +16,7 @@ invariant_of-self g c =
 pub returns-clause-marked : goal.returns-clause-marked
 returns-clause-marked g c =
     let requires = rw (← c.self.view_is) at c.requires in
-    rw (← c.self.view_is) (marked_committed c.self.inside.state.state c.self.inside.workers.seen c.write_marked.new.workers.seen c.args.writes.items (option_copied c.args.own) c.write_marked.result c.self.invariant.sound.valid requires.may requires.orderly requires.some c.write_marked.ensures.marked)
+    rw (← c.self.view_is) (marked_committed c.self.inside.state.state c.self.inside.workers.seen c.write_marked.new.workers.seen c.args.writes.items (option_copied c.args.own) c.write_marked.result requires.orderly requires.some c.write_marked.ensures.marked)
 
 pub returns-clause-memory : goal.returns-clause-memory
 returns-clause-memory g c =
