@@ -29,7 +29,7 @@ use Rattle.hx_core.specs.Committing.{HasLanded, HasFailed, HasMarked, HasMarkedB
 use Rattle.hx_core.specs.Inside.{IsSound, view_of}
 use Rattle.hx_core.specs.Refinement.{ClusterView, kept_of}
 use Rattle.hx_core.specs.Turns.{IsOf}
-use Rattle.hx_queue.specs.Workers.{WorkersView, IsMarkedBy}
+use Rattle.hx_queue.specs.Workers.{WorkersView}
 use Rattle.hx_core.specs.declared.commit.CommitFault.{CommitFault}
 use Rattle.hx_core.specs.declared.commit.CommitFault.TheVariants.{KeeperFault, NoMemory}
 use Rattle.hx_core.proofs.Making.{stands_landed, stands_failed}
