@@ -1,5 +1,5 @@
 // A seat that answers messages.
-ghost use Rattle.std.specs.Prelude.{◌≡◌, ℕ};
+ghost use Rattle.std.specs.Prelude.{◌≡◌};
 ghost use Rattle.hx_http.specs.Searches.{message_seen};
 ghost use Rattle.hx_model.specs.Serving.{IsLegalAnswer};
 ghost use Rattle.hx_serve.specs.Exchanges.{reading_of};
@@ -78,7 +78,7 @@ impl<'a, R: Wait, K: Keeper> SeatService<'a, R, K> {
 
     /// So many turns of a worker over the same seat. It answers whether one of them got on.
     pub fn work(&mut self, worker: u32, turns: u64) -> bool
-        ensures worked { (made : ℕ) × HasWorked worker made result self.old.seat.me.0 self.new.seat.me.0 }
+        ensures worked { HasWorked worker turns result self.old.seat.me.0 self.new.seat.me.0 }
         ensures own { self.new.seat.table_id ≡ self.old.seat.table_id }
         ensures legal { HasHistory self.old.seat.me.0 → HasHistory self.new.seat.me.0 }
     {

@@ -4,4 +4,4 @@ use Rattle.hx_team.proofs.session.serve_one.Goals as goal
 pub returns-clause-stayed : goal.returns-clause-stayed
 returns-clause-stayed g c =
     let turns = c.work.ensures in
-    stayed_then _ _ _ (served _ _ _ _ _ c.serve_seat-end.ensures.serves) (worked _ turns.worked.0 _ _ _ turns.worked.1, turns.legal)
+    stayed_then _ _ _ (served _ _ _ _ _ c.serve_seat-end.ensures.serves) (worked _ _ _ _ _ turns.worked, turns.legal)
